@@ -75,7 +75,7 @@ impl Beat {
         &self.lateness
     }
 
-    /// When the frame is due that comes `after` frames after the next one, in nanoseconds.
+    /// The time at which the frame `after` frames after the next one is due, in nanoseconds.
     fn due(&self, after: u8) -> u128
         ensures { result ≡ due (clock_of self.now) ((clock_of self.now).begun + after) }
     {
@@ -98,7 +98,7 @@ fn duration(nanos: u128) -> Duration
 /// Lateness above this many milliseconds counts as this many.
 const MOST_LATE: usize = 63;
 
-/// How many frames were late by how many whole milliseconds, and the greatest lateness.
+/// Counts of frames by their lateness in whole milliseconds, and the greatest lateness.
 #[derive(Clone, Copy, Debug, PartialEq, Eq)]
 pub struct Lateness {
     frames: [u32; MOST_LATE + 1],

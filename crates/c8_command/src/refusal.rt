@@ -30,9 +30,9 @@ pub enum Part {
     Socket,
     /// The secret of a match.
     Secret,
-    /// What `replay` is asked for, beside a journal that it can read.
+    /// The frames that `replay` is to show, of a journal that it can read.
     Replay,
-    /// What the journals of a match say of each other.
+    /// The journals of a match, which `audit` compares.
     Audit,
 }
 

@@ -1,4 +1,4 @@
--- A peer inside an engine, and what a turn does to it.
+-- A peer inside an engine, and the effect of a turn.
 use Rattle.std.specs.Prelude.{ℕ, ◌≡◌, ◌+◌, ◌⊎◌, List, [], ◌∷◌, Bool, true}
 use Rattle.c8_disk.specs.declared.disk.Disk.{Ghosts}
 use Rattle.c8_known.specs.Confirmed.{best_rows}
@@ -6,7 +6,7 @@ use Rattle.c8_peer.specs.State.{Call, Reply, Leave, Decide, Checkpoint}
 use Rattle.c8_peer.specs.Peer.{PeerValue, IsAnswered, known_by}
 use Rattle.c8_embed.specs.Steps.{StepsValue, IsTrueTo}
 
--- The peer, the rows that the engine was given, and by how many frames each step rolls back for a test (0: by none).
+-- The peer, the rows that the engine was given, and how many frames each step rolls back for a test (0 without a test).
 pub record EngineValue (D : Type 0) : Type 0 where
   pub peer : PeerValue D
   pub steps : StepsValue

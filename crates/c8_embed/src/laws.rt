@@ -1,4 +1,4 @@
-//! What an engine can rely on, whatever its machine. Each law is the contract of a function that does nothing.
+//! What an engine can rely on, whatever its machine is. Each law is the contract of a function that does nothing.
 ghost use Rattle.std.specs.Prelude.{ℕ, ◌≡◌, ◌+◌, ◌<◌, ◌≤◌, List, length, drop, Some};
 ghost use Rattle.std.specs.List.{slice_get};
 ghost use Rattle.c8_game.specs.declared.row.Row.{Row};

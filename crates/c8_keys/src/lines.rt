@@ -16,7 +16,7 @@ pub struct Played {
     pub machine: Machine,
 }
 
-/// Plays one frame for each line of `keys`, starting with the game's first machine. Lines are checked in order, each
+/// Plays one frame for each line of `keys`, starting with the game's first machine. Checks the lines in order, each
 /// first for `Long`, then for `Line`.
 pub fn play(game: &Game, keys: &[u8]) -> Result<Played, KeysError>
     ensures { MatchResult result (IsRunOf game.now keys.now) (IsFaultOf game.now keys.now) }
