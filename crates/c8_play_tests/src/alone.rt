@@ -1,4 +1,4 @@
-//! A game that one person plays: when its frames begin, what is painted in them, and what ends it.
+//! A game of one person: when its frames begin, what they paint, and what ends the game.
 
 ghost use Rattle.std.specs.Prelude.{◌≤◌};
 

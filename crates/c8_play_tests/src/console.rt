@@ -1,4 +1,4 @@
-//! Consoles with written-down keys, and a clock that only sleeps move.
+//! Consoles with scripted keys, and a clock that only sleeps move.
 
 use c8_play::{Console, Exchange, Gone, KEY_BYTES};
 use mio::event::Source;

@@ -1,4 +1,4 @@
-//! What is drawn of a watched match, and when, by a clock of the test.
+//! The pictures of a watched match, and their times by a clock of the test.
 ghost use Rattle.std.specs.Prelude.{◌≡◌};
 
 use c8_front::Terminals;
@@ -161,8 +161,8 @@ fn picture(alloc: Global, frames: u64, is_whole: bool) -> Vec<u8> {
     text
 }
 
-/// What must be drawn: the pictures that are due by the clock, every sixtieth of them whole, between the bytes that
-/// prepare the terminal and those that restore it.
+/// The expected text: the bytes that prepare the terminal, the pictures that are due by the clock (every sixtieth one
+/// is whole), and the bytes that restore the terminal.
 fn wanted(alloc: Global, row: &Row) -> Pages {
     let mut pages = Pages::new(alloc, row.until_failure);
     if row.screen {
@@ -177,8 +177,8 @@ fn wanted(alloc: Global, row: &Row) -> Pages {
     pages
 }
 
-/// For how many turns of a millisecond a match is watched, whether it is drawn, and how many writes come before one
-/// that fails; and how many pictures are then drawn, with that one.
+/// The turns of a watched match, a millisecond each, whether it is drawn, and how many writes come before one that
+/// fails. Then the number of drawn pictures, with the one that fails.
 struct Row {
     turns: u64,
     screen: bool,

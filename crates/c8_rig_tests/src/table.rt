@@ -18,10 +18,10 @@ const SEEDS: u64 = 5;
 
 const TURNS: u16 = 200;
 
-/// In how many turns at most a player finds that nothing was said yet.
+/// The most turns in which a player finds that nothing was said yet.
 const FIRST: u32 = 40;
 
-/// What a turn is.
+/// A kind of turn.
 #[derive(Clone, Copy)]
 enum Turn {
     Tick(Keys),

@@ -7,7 +7,7 @@ use c8_peer::{Kind, Peer};
 use c8_wire::LONGEST_DATAGRAM;
 use std::alloc::Global;
 
-/// How many bytes of a disk a slot takes.
+/// The bytes of a slot on a disk.
 const SLOT: u32 = SLOT_LENGTH as u32;
 
 /// The bytes of a datagram.

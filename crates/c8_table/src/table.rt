@@ -1,4 +1,4 @@
-//! All players' peers, and one deed after another.
+//! All players' peers, and the deeds that they perform in order.
 use crate::deed::{Answer, Deed, FOUR, ONE, ROOM, Row, THREE, TWO, Told, What};
 use crate::node::{Letter, Node};
 use c8_disk::MemDisk;
@@ -8,7 +8,7 @@ use std::test::Fail;
 
 const ALL: [u8; 4] = [ONE, TWO, THREE, FOUR];
 
-/// The nodes of all players, player 1's first, and the datagrams to be heard later.
+/// The nodes of all players, player 1's first, and the datagrams for later deliveries.
 #[derive(Drop)]
 pub struct Table<'g> {
     alloc: Global,
