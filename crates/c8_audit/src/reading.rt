@@ -49,7 +49,7 @@ pub(crate) fn read_twice(
     if !goes_on(first, later) {
         return Err(Unread::Changed);
     }
-    // For the proof: what is known is sound.
+    // For the proof: the knowledge is sound.
     let _me = one.known.me();
     Ok(joined(one, two, tally_of(first)))
 }

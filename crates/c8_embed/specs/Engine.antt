@@ -23,7 +23,7 @@ abbrev pub AreAnswered : {D : Type 0} → Ghosts D → List Call → PeerValue D
 AreAnswered disk [] old new = new ≡ old
 AreAnswered {D} disk (call ∷ calls) old new = (middle : PeerValue D) × (reply : Reply) × IsAnswered disk old call reply middle × AreAnswered disk calls middle new
 
--- the calls of a turn beside hearing and ticking
+-- the calls of a turn, except for hearing and ticking
 abbrev pub IsOfTurn : Call → Type 0
 IsOfTurn call = ((leaver : ℕ) × (call ≡ Leave leaver)) ⊎ (((leaver : ℕ) × (call ≡ Decide leaver)) ⊎ (call ≡ Checkpoint))
 

@@ -11,7 +11,7 @@ pub record StepsValue : Type 0 where
   pub settled : ℕ
   pub room : ℕ
 
--- What was given as confirmed is confirmed, and equals what a peer with this knowledge has.
+-- The rows that were given as confirmed are confirmed, and equal those of a peer with this knowledge.
 pub record IsTrueTo (k : KnownValue) (s : StepsValue) : Type 0 where
   pub confirmed_is : s.settled ≤ confirmed k
   pub within : s.settled ≤ length s.given

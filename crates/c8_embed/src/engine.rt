@@ -30,7 +30,7 @@ pub struct Engine<'g, D: Disk> {
     pub(crate) schedule: Schedule,
     /// The next place of this turn at which a datagram may be due; each player has `MOST_DUE` places.
     pub(crate) place: u8,
-    /// Whether the engine was given all best rows, and no call came after that.
+    /// Whether the engine has all best rows, and no call came after that.
     is_told: bool,
     /// How many frames each step rolls back for a test; 0 if there is no test.
     depth: u32,

@@ -163,13 +163,13 @@ pub fn number<'a>(alloc: Global, name: &'a str, help: &'a str) -> Arg<'a> {
         .value_parser(value_parser!(u64))
 }
 
-/// What a parsed command line asks for; the parser has checked that each argument is there and in its range.
+/// Returns what a parsed command line asks for. The parser has checked that each argument is present and in range.
 pub(crate) fn asked_of<'m, 'a>(given: &'m ArgMatches<'a>) -> Option<Asked<'m, 'a>> {
     let player = Player::new(given.get_one::<u8>("PLAYER")?)?;
     Some(asked_for(given, player))
 }
 
-/// What a parsed command line asks for, with the player given.
+/// Returns what a parsed command line asks for, for this player.
 pub fn asked_for<'m, 'a>(given: &'m ArgMatches<'a>, player: Player) -> Asked<'m, 'a> {
     Asked {
         game: word_of(given, "GAME"),

@@ -113,7 +113,7 @@ fn keys_in<I: Read + Drop>(alloc: Global, input: I) -> Result<Vec<Keys>, Unprepa
 }
 
 /// Plays a match on the disk of the own journal, in threads. It opens the journal first, then the socket, and makes
-/// turns until the session is over, its turns are made, or as many frames are confirmed as `--stop` asks for. The
+/// turns until the session is over, its turns are made, or the frames of `--stop` are confirmed. The
 /// caller's thread makes the turns, one thread moves packets, and one prints the progress. Returns the confirmed
 /// machine, which began at the last checkpoint that was found; if that is true, it is the machine of the serial run.
 pub fn play_on<R, D, E>(

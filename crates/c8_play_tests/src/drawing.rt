@@ -110,7 +110,7 @@ impl Wire for Shows {
     }
 }
 
-/// Keeps what is written, and where each write ends. One write fails, and is not kept.
+/// Keeps the written text, and where each write ends. One write fails, and is not kept.
 #[derive(Drop)]
 struct Pages {
     text: Vec<u8>,
@@ -288,7 +288,7 @@ const REPORT: &[u8] =
 /// A line of a screen on which no point is lit.
 const DARK: &[u8] = b"................................................................\n";
 
-/// What is drawn there, and then this report.
+/// The picture, and then this report.
 fn drawn(alloc: Global) -> Vec<u8> {
     let mut text = Vec::new(alloc);
     let _ = text.write_all(ENTER);

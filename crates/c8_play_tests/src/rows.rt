@@ -212,7 +212,7 @@ const DROPS: &[u8] =
 const AGAIN: &[u8] =
     b"\x1b[17;1H\x1b[K0/7  waits for 2: 3 s  control-D again drops 2  2: 3500 ms  back";
 
-/// Whether the second control-D in a row drops the player whom the match waits for.
+/// Whether the second control-D in a row drops the player for whom the match waits.
 fn drops_at_the_second() -> bool {
     let two = Player { number: 2 };
     let mut status = StatusRow::new(Duration::from_secs(0), Player::CHAIR, 2);

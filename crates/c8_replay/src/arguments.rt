@@ -93,7 +93,7 @@ fn number<'a>(alloc: Global, name: &'a str, help: &'a str) -> Arg<'a> {
         .value_parser(value_parser!(u64))
 }
 
-/// What a parsed command line asks for.
+/// Returns what a parsed command line asks for.
 pub(crate) fn asked_of<'a>(given: &ArgMatches<'a>) -> Asked<'a> {
     let page = given.get_str("page");
     let form = match page {

@@ -12,7 +12,7 @@ use c8_peer::Kind;
 use c8_world::Act;
 use std::marker::Model;
 
-/// What a player's peer did, and the bytes that it said or heard by that; other acts have no bytes.
+/// An act of a player's peer, and the bytes that it said or heard. Other acts have no bytes.
 #[derive(Drop)]
 pub struct Note {
     pub act: Act,

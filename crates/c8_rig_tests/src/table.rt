@@ -105,7 +105,7 @@ impl Words {
     }
 }
 
-/// A log, all that was said in it, and what is left of one player's list: the place of each note in the log, and how
+/// A log, all that was said in it, and the rest of one player's list: the place of each note in the log, and how
 /// many datagrams were said before it.
 #[derive(Drop)]
 struct List<'a> {

@@ -46,7 +46,7 @@ pub record Step : Type 0 where
   pub told : Option Signal
   pub next : Decoding
 
--- a sequence goes on
+-- the sequence continues
 abbrev pub reads : Reading → Bool → Step
 reads reading exact = record { told = None; next = record { reading = reading; exact = exact } }
 

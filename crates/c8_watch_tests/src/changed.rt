@@ -135,7 +135,7 @@ struct Before {
     machine: Machine,
 }
 
-/// Whether a watcher has what it had before.
+/// Whether a watcher is unchanged.
 fn has_no_more(spectator: &Spectator<'_>, before: &Before) -> bool {
     spectator.rows() == before.rows.as_slice()
         && spectator.count() == 6

@@ -76,7 +76,7 @@ fn with_options<'a>(alloc: Global, command: Command<'a>) -> Result<Command<'a>, 
     with_explain(alloc, command.arg(screen)?)
 }
 
-/// What a parsed command line asks for; the parser has checked that each argument is there and in its range.
+/// Returns what a parsed command line asks for. The parser has checked that each argument is present and in range.
 pub(super) fn asked_of<'a>(given: &ArgMatches<'a>) -> Option<WatchAsked<'a>> {
     let seat = Watcher::new(given.get_one::<u8>("SEAT")?)?;
     Some(WatchAsked {
