@@ -97,7 +97,7 @@ fn goes_on(first: &[u8], later: &[u8]) -> bool
     true
 }
 
-/// Whether two bodies are equal.
+/// Returns whether two bodies are equal.
 fn is_same(one: &[u8; BODY_LENGTH], other: &[u8; BODY_LENGTH]) -> bool
     ensures { (result ≡ true) ↔ (one.now ≡ other.now) }
 {

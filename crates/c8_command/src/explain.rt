@@ -26,7 +26,7 @@ pub enum Site<'a> {
 }
 
 impl<'a> Site<'a> {
-    /// The line at a place of a file, if there is one; otherwise the file.
+    /// Returns the line at a place of a file, if there is one; otherwise the file.
     pub fn line(file: &'a str, place: usize, line: Option<&'a [u8]>) -> Self {
         match line {
             Some(bytes) => Site::Line { file, place, bytes },
@@ -52,7 +52,7 @@ impl<'a> Site<'a> {
 }
 
 impl TextsError {
-    /// The file of a command that is at fault.
+    /// Returns the file of a command that is at fault.
     pub fn site<'a>(self, first: &'a str, second: &'a str) -> Site<'a> {
         match self {
             TextsError::FirstFailed | TextsError::FirstMemory => Site::File(first),

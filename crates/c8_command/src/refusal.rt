@@ -37,7 +37,7 @@ pub enum Part {
 }
 
 impl Part {
-    /// The word that is printed for it.
+    /// Returns the word that is printed for it.
     pub fn name(self) -> &'static str {
         match self {
             Part::Game => "game",
@@ -79,7 +79,7 @@ impl Refusal {
         name: "Memory",
     };
 
-    /// The exit status: `Failed` for a disk or a socket, otherwise `Refused`.
+    /// Returns the exit status: `Failed` for a disk or a socket, otherwise `Refused`.
     pub fn status(self) -> Status
         ensures { result ≡ status_of self.part }
     {

@@ -93,20 +93,20 @@ impl<'g, D: Disk> Engine<'g, D> {
         })
     }
 
-    /// The peer.
+    /// Returns the peer.
     pub fn peer(&self) -> &Peer<'g, D>
         ensures { result.now ≡ self.now.peer }
     {
         &self.peer
     }
 
-    /// How many turns a player has been silent.
+    /// Returns how many turns a player has been silent.
     pub fn silent(&self, player: Player) -> u64 {
         self.schedule.silent(player)
     }
 
-    /// Whether the match is over for this peer: it knows that it was dropped, or it has rested for more than 120 turns
-    /// after everything was confirmed and acknowledged.
+    /// Returns whether the match is over for this peer: it knows that it was dropped, or it has rested for more than
+    /// 120 turns after everything was confirmed and acknowledged.
     pub fn is_over(&self) -> bool {
         self.peer.dropped() || self.schedule.has_rested()
     }

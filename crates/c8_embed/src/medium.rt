@@ -37,12 +37,12 @@ fn owned(descriptor: i32) -> Option<OwnedFd> {
     Some(unsafe { OwnedFd::from_raw_fd(descriptor) })
 }
 
-/// The system's last error.
+/// Returns the system's last error.
 fn last_error() -> io::Error {
     io::Error::from_raw_os_error(os::errno())
 }
 
-/// The result of a system call that returns 0 or -1.
+/// Turns the 0 or -1 of a system call into a result.
 fn done(status: i32) -> io::Result<()> {
     if status < 0 {
         Err(last_error())

@@ -116,7 +116,7 @@ impl<'g, D: Disk> Engine<'g, D> {
         }
     }
 
-    /// The player with this number, unless it is this peer's own.
+    /// Returns the player with this number, unless it is this peer's own.
     fn other(&self, number: u8) -> Option<Player>
         ensures { IfSome result (λ player. player.number ≡ number) }
     {

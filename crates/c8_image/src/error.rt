@@ -34,7 +34,7 @@ pub enum JournalError {
 }
 
 impl JournalError {
-    /// The number of the refusal: that of the opening of a peer.
+    /// Returns the number of the refusal: that of the opening of a peer.
     pub fn number(self) -> u8
         ensures { result ≡ journal_error_number self }
     {
@@ -45,7 +45,7 @@ impl JournalError {
         }
     }
 
-    /// The name of the refusal.
+    /// Returns the name of the refusal.
     pub fn name(self) -> &'static str {
         match self {
             JournalError::WrongGame => "WrongGame",

@@ -128,7 +128,7 @@ fn is_another(asked: Option<u64>, room: u64) -> bool
     }
 }
 
-/// Why a record after the first is refused.
+/// Returns why a record after the first is refused.
 fn why_unfit(image: &[u8], n: usize) -> Unfit
     requires { n < length (kept image.now) }
 {

@@ -46,7 +46,7 @@ where
     }
 }
 
-/// Why the texts of two files were not read.
+/// Returns why the texts of two files were not read.
 fn unread(error: TextsError) -> Refusal {
     match error {
         TextsError::FirstFailed | TextsError::SecondFailed => Refusal::DISK,

@@ -36,7 +36,7 @@ pub fn key_sets_site(keys: Text<'_>) -> Site<'_> {
     site_at(keys, faulty_key_set(keys.bytes))
 }
 
-/// The line of a text at a place, if there is one; otherwise the file.
+/// Returns the line of a text at a place, if there is one; otherwise the file.
 fn site_at(text: Text<'_>, place: Option<usize>) -> Site<'_> {
     match place {
         Some(place) => Site::line(text.file, place, Lines::at(text.bytes, place)),

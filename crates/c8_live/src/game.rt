@@ -29,7 +29,7 @@ use std::alloc::{AllocError, Global};
 
 /// A source of a player's key sets, one a turn.
 pub trait KeySource {
-    /// The key set to enter in the next turn, or `None` to leave out the tick.
+    /// Returns the key set to enter in the next turn, or `None` to leave out the tick.
     fn next_keys(&mut self) -> Option<Keys>;
 
     /// Notes that the peer took the last key set of `next_keys`. Without this call the peer refused it, and the source

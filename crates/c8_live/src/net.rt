@@ -137,7 +137,7 @@ fn send<W: Wire>(wire: &mut W, bytes: &[u8]) -> Result<(), WireFailed>
     }
 }
 
-/// The addressee of a datagram.
+/// Returns the addressee of a datagram.
 fn addressee(bytes: &[u8]) -> Option<Seat> {
     match view(bytes) {
         Ok(datagram) => Some(datagram.header().to()),

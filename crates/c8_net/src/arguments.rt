@@ -45,7 +45,7 @@ pub struct Asked<'m, 'a> {
 const NO_JOURNAL: &str = "-";
 
 impl Asked<'_, '_> {
-    /// Whether the journal is kept in memory, and lost at the end.
+    /// Returns whether the journal is kept in memory, and lost at the end.
     pub fn has_no_journal(&self) -> bool {
         self.journal == NO_JOURNAL
     }
@@ -60,7 +60,7 @@ impl Asked<'_, '_> {
     }
 }
 
-/// The command `peer` with its arguments and options.
+/// Returns the command `peer` with its arguments and options.
 pub fn peer_command<'a>(alloc: Global) -> Result<Command<'a>, AllocError> {
     let command = Command::new(alloc, "peer")
         .about(
@@ -196,7 +196,7 @@ fn interval_of(frames: u64) -> u32 {
     u32::try_from(frames).unwrap_or(u32::MAX)
 }
 
-/// The number of an option, or its default.
+/// Returns the number of an option, or its default.
 pub fn number_of(given: &ArgMatches<'_>, name: &str) -> Option<u64> {
     given.get_one::<u64>(name)
 }

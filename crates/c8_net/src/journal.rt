@@ -109,7 +109,7 @@ fn syncs_at<R: Files<File = File> + Clock>(rt: &R, path: &str) -> Option<Duratio
     Some(rt.monotonic().ok()?.saturating_sub(begun))
 }
 
-/// Returns how many milliseconds the journal needs in each frame of a match of two, by the measured syncs. `None` if
+/// Returns how many milliseconds the journal needs in each frame of a match of two, if a sync takes this long. `None` if
 /// that fits a frame.
 pub fn slow_frame(sync: Duration) -> Option<u128> {
     let frame = sync.saturating_mul(SYNCS_OF_FRAME);

@@ -291,7 +291,7 @@ impl<'b> Onlooker<'b> {
     }
 }
 
-/// The time since the clock's start; 0 if the clock cannot be read.
+/// Returns the time since the clock's start; 0 if the clock cannot be read.
 fn now<R: Clock>(rt: &R) -> Duration {
     rt.monotonic().unwrap_or(Duration::from_secs(0))
 }

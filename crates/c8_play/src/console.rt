@@ -27,7 +27,7 @@ pub trait Console {
     /// Restores the screen.
     fn leave(&mut self);
 
-    /// The time since some moment before the first frame.
+    /// Returns the time since some moment before the first frame.
     fn now(&mut self) -> Duration
         ensures typed { typed self.new ≡ typed self.old }
         ensures drawn { drawn self.new ≡ drawn self.old };

@@ -42,7 +42,7 @@ pub struct Asked<'a> {
     pub explain: bool,
 }
 
-/// The command `replay` with its arguments and options.
+/// Returns the command `replay` with its arguments and options.
 pub fn replay_command<'a>(alloc: Global) -> Result<Command<'a>, AllocError> {
     let command = Command::new(alloc, "replay")
         .about("Shows the match that a player's journal confirms: prints the machine after it")

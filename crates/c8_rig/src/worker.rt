@@ -35,7 +35,7 @@ struct Seat<'a, 'g, B: Room, R, D: Disk> {
 }
 
 impl<'a, 'g, B: Room, R: Wait, D: Disk> Seat<'a, 'g, B, R, D> {
-    /// The next word of the generator.
+    /// Returns the next word of the generator.
     fn word(&mut self) -> u32
         ensures entry { self.new.entry ≡ self.old.entry }
         ensures peer { self.new.peer ≡ self.old.peer }
@@ -240,7 +240,7 @@ pub fn rig_worker<'g, B: Room, R: Wait, D: Disk + Drop, G: Watch>(
     (entry, Some(peer))
 }
 
-/// The player with a number, or player 4 for any other number.
+/// Returns the player with a number, or player 4 for any other number.
 fn player(number: u32) -> Player {
     match number {
         1 => Player::CHAIR,

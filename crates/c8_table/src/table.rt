@@ -29,7 +29,7 @@ pub fn plays(alloc: Global, text: &str, first: &[Row], rows: &[Row]) -> Result<(
     plays_beside(alloc, text, text, first, rows)
 }
 
-/// The same, with another game for the deeds that need one.
+/// Does the same, with another game for the deeds that need one.
 pub fn plays_beside(
     alloc: Global,
     text: &str,

@@ -21,7 +21,7 @@ pub struct Asked<'a> {
     pub explain: bool,
 }
 
-/// The command `rig` with its options.
+/// Returns the command `rig` with its options.
 pub fn rig_command<'a>(alloc: Global) -> Result<Command<'a>, AllocError> {
     let command = Command::new(alloc, "rig")
         .about(

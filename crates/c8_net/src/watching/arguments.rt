@@ -29,7 +29,7 @@ pub struct WatchAsked<'a> {
     pub explain: bool,
 }
 
-/// The command `watch` with its arguments and options.
+/// Returns the command `watch` with its arguments and options.
 pub fn watch_command<'a>(alloc: Global) -> Result<Command<'a>, AllocError> {
     let command = Command::new(alloc, "watch")
         .about("Watches a match over UDP, and prints the machine after the frames that it saw")
