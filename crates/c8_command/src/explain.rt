@@ -5,7 +5,7 @@ use std::fmt::Display;
 use std::io;
 use std::io::Write;
 
-/// How many bytes of a line are shown at most.
+/// The most bytes of a line that are shown.
 pub const MOST_SHOWN: usize = 100;
 
 /// Where the fault of a refusal is.

@@ -1,4 +1,4 @@
-//! The thread that owns the peer, so that the machine never waits for the network.
+//! The machine's thread: it owns the peer, and never waits for the network.
 ghost use Rattle.std.specs.Prelude.{◌≡◌, ◌≤◌, ℕ, List, length, vec_len, IfOk, IfErr};
 ghost use Rattle.std.specs.List.{All};
 ghost use Rattle.c8_board.specs.Starts.{RunValue, start_of, origin_from};

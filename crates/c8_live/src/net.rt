@@ -1,4 +1,4 @@
-//! The thread that moves packets, so that the network never waits for the machine.
+//! The network's thread: it moves packets, and never waits for the machine.
 ghost use Rattle.std.specs.Prelude.{◌≡◌, ◌≤◌, length};
 ghost use Rattle.c8_live.specs.Parts.{IsHandedOn};
 ghost use Rattle.c8_transport.specs.Wire.{MayTake};

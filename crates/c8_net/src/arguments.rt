@@ -27,7 +27,7 @@ pub struct Asked<'m, 'a> {
     pub room: u64,
     /// Whether the command line names the room.
     pub has_room: bool,
-    /// How many turns the session makes at most.
+    /// The most turns of the session.
     pub turns: u64,
     /// How many silent turns make player 1 drop a player; `None` for never.
     pub patience: Option<u64>,

@@ -5,7 +5,7 @@ ghost use Rattle.std.specs.Prelude.{◌≡◌, ◌≤◌, ◌++◌, ℕ, List, t
 use mio::event::Source;
 use std::time::Duration;
 
-/// How many bytes of keys one read takes at most.
+/// The most bytes of keys that one read takes.
 pub const KEY_BYTES: usize = 64;
 
 /// The keyboard or the screen is gone.

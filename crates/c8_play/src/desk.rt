@@ -87,7 +87,7 @@ impl<C: Console> Desk<C> {
         self.console.now()
     }
 
-    /// Returns whether the person has left, or wants to end.
+    /// Returns whether the person has left, or wants to quit.
     pub fn has_left(&self) -> bool
         ensures { result ≡ self.now.has_left }
     {

@@ -55,7 +55,7 @@ impl Wire for Nowhere {
 #[derive(Clone, Copy)]
 enum Typed {
     Nothing,
-    /// Control-L, in frame 9: the screen is to be painted again, and the row below it.
+    /// Control-L, in frame 9: repaints the screen and the row below it.
     Repaint,
     ControlC,
     /// An escape that stands alone. It counts once nothing has come for 25 milliseconds, in frame 6.

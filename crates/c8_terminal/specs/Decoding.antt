@@ -187,7 +187,7 @@ names_event n = nat_lt 0 n.event
 abbrev pub reports_events : ℕ → Bool
 reports_events flags = (flags / 2) % 2 == 1
 
--- a terminal counts as exact, so that it reports releases, once it answers that it reports event types, or names an
+-- a terminal counts as exact, as one that reports releases, once it answers that it reports event types, or names an
 -- event; a u alone is not enough, and no other answer changes this
 abbrev pub exact_after : Numbers → Bool → Bool
 exact_after n exact = exact || names_event n

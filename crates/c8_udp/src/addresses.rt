@@ -8,10 +8,10 @@ use crate::error::SocketError;
 use c8_game::{MOST_PLAYERS, Player};
 use std::net::SocketAddr;
 
-/// How many watchers a match may have.
+/// The most watchers of a match.
 pub const MOST_WATCHERS: usize = 2;
 
-/// How many players and watchers a match has at most.
+/// The most players and watchers of a match.
 pub(crate) const MOST_SEATS: usize = MOST_PLAYERS + MOST_WATCHERS;
 
 /// The word in an address's place that stands for none: the address is learnt.

@@ -19,7 +19,7 @@ pub struct WatchAsked<'a> {
     /// The path of the watchers' secret, if the match has one.
     pub secret: Option<&'a str>,
     pub room: u64,
-    /// How many turns the watcher makes at most.
+    /// The most turns of the watcher.
     pub turns: u64,
     /// It ends once it has this many frames; `None` for never.
     pub stop: Option<u64>,
