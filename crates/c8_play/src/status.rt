@@ -148,7 +148,7 @@ impl StatusRow {
         self.shown.as_slice()
     }
 
-    /// How many characters the text has at most.
+    /// Returns how many characters the text has at most.
     fn most(&self) -> usize {
         if self.players > 2 {
             LONGEST
