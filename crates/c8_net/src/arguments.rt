@@ -29,7 +29,7 @@ pub struct Asked<'m, 'a> {
     pub room: u64,
     /// Whether the command line names the room.
     pub has_room: bool,
-    /// How many turns the session makes at most.
+    /// The most turns of the session.
     pub turns: u64,
     /// How many silent turns make player 1 drop a player; `None` for never.
     pub patience: Option<u64>,
@@ -51,7 +51,7 @@ pub struct Asked<'m, 'a> {
 const NO_JOURNAL: &str = "-";
 
 impl Asked<'_, '_> {
-    /// Whether the journal is kept in memory, and lost at the end.
+    /// Returns whether the journal is kept in memory, and lost at the end.
     pub fn has_no_journal(&self) -> bool {
         self.journal == NO_JOURNAL
     }
@@ -66,7 +66,7 @@ impl Asked<'_, '_> {
     }
 }
 
-/// The command `peer` with its arguments and options.
+/// Returns the command `peer` with its arguments and options.
 pub fn peer_command<'a>(alloc: Global) -> Result<Command<'a>, AllocError> {
     let command = Command::new(alloc, "peer")
         .about(
@@ -169,13 +169,13 @@ pub fn number<'a>(alloc: Global, name: &'a str, help: &'a str) -> Arg<'a> {
         .value_parser(value_parser!(u64))
 }
 
-/// What a parsed command line asks for; the parser has checked that each argument is there and in its range.
+/// Returns what a parsed command line asks for. The parser has checked that each argument is present and in range.
 pub(crate) fn asked_of<'m, 'a>(given: &'m ArgMatches<'a>) -> Option<Asked<'m, 'a>> {
     let player = Player::new(given.get_one::<u8>("PLAYER")?)?;
     Some(asked_for(given, player))
 }
 
-/// What a parsed command line asks for, with the player given.
+/// Returns what a parsed command line asks for, for this player.
 pub fn asked_for<'m, 'a>(given: &'m ArgMatches<'a>, player: Player) -> Asked<'m, 'a> {
     Asked {
         game: word_of(given, "GAME"),
@@ -205,7 +205,7 @@ fn interval_of(frames: u64) -> u32 {
     u32::try_from(frames).unwrap_or(u32::MAX)
 }
 
-/// The number of an option, or its default.
+/// Returns the number of an option, or its default.
 pub fn number_of(given: &ArgMatches<'_>, name: &str) -> Option<u64> {
     given.get_one::<u64>(name)
 }

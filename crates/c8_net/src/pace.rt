@@ -72,7 +72,7 @@ impl<'r, R: Clock> Pace<'r, R> {
         }
     }
 
-    /// Whether the game thread has ended.
+    /// Returns whether the game thread has ended.
     pub(crate) fn is_game_over(&self) -> bool {
         self.is_game_over.load(Ordering::SeqCst)
     }

@@ -17,7 +17,7 @@ pub(crate) enum Who {
     Player(Player),
 }
 
-/// The command `play` with its arguments and options.
+/// Returns the command `play` with its arguments and options.
 pub fn play_command<'a>(alloc: Global) -> Result<Command<'a>, AllocError> {
     let command = Command::new(alloc, "play")
         .about("Plays a game at the keyboard, alone or with others over UDP")

@@ -153,7 +153,7 @@ pub fn play_frames<D: Disk, W: Wire, C: Console>(
     Ok(made)
 }
 
-/// Whether at least `enough` frames are confirmed; false without a number.
+/// Returns whether at least `enough` frames are confirmed; false without a number.
 fn is_enough<D: Disk>(peer: &Peer<'_, D>, enough: Option<u64>) -> bool
     ensures { IsTrue result ↔ IsEnough enough peer.now }
 {

@@ -197,7 +197,7 @@ impl StatusRow {
         self.written.as_slice()
     }
 
-    /// How many characters the text has at most.
+    /// Returns how many characters the text has at most.
     fn most(&self) -> usize {
         if self.players > 2 {
             LONGEST
@@ -271,7 +271,10 @@ impl StatusRow {
                 return write!(out, "  packets come with another secret, game or room");
             }
             if seconds >= NO_ANSWER {
-                return write!(out, "  no answer for {seconds} s: same game, room and secret?");
+                return write!(
+                    out,
+                    "  no answer for {seconds} s: same game, room and secret?"
+                );
             }
         }
         write!(out, "  waits for {number}")?;

@@ -24,7 +24,7 @@ const ASK: &[u8] = b"\x1b[>15u\x1b[?u\x1b[?1004h\x1b[?7l";
 /// Undoes `ASK`.
 const ASK_NO_MORE: &[u8] = b"\x1b[?7h\x1b[?1004l\x1b[<u";
 
-/// How many wakes one poll reports at most; there is one socket.
+/// The most events of one poll; there is one socket.
 const MOST_EVENTS: usize = 4;
 
 /// The terminal of the process. It does not touch the terminal's settings: the script `c8play` makes the terminal send

@@ -1,4 +1,4 @@
-//! A game that one person plays: when its frames begin, what is painted in them, and what ends it.
+//! A game of one person: when its frames begin, what they paint, and what ends the game.
 
 ghost use Rattle.std.specs.Prelude.{◌≤◌};
 
@@ -68,7 +68,7 @@ fn frames_begin_by_the_clock_and_are_painted_once(rt: HostRuntime) {
 const COUNTS: &[u8] =
     b"players 2\nipf 10\nframes 30\ndelay 0\nwindow 8\nseed 0\nmask1 0020\nmask2 2000\ncode 6205640de2a17101e4a1730170011204\n";
 
-/// What is held in each frame if key 5 is struck in frame 3, and key 13, the other player's, in frame 20. A stroke
+/// The held keys of each frame: key 5 is struck in frame 3, and key 13, the other player's, in frame 20. A stroke
 /// counts for 9 frames.
 const LINES: &[u8] =
     b"0000 0000\n0000 0000\n0000 0000\n0020 0000\n0020 0000\n0020 0000\n0020 0000\n0020 0000\n0020 0000\n0020 0000\n0020 0000\n0020 0000\n0000 0000\n0000 0000\n0000 0000\n0000 0000\n0000 0000\n0000 0000\n0000 0000\n0000 0000\n0000 2000\n0000 2000\n0000 2000\n0000 2000\n0000 2000\n0000 2000\n0000 2000\n0000 2000\n0000 2000\n0000 0000\n";
@@ -133,7 +133,7 @@ fn strokes_make_what_key_lines_do(rt: HostRuntime) {
     let alloc = rt.alloc();
     assert!(rt; is_played(alloc, 60, &BOTH, 1_000, 30));
     assert!(rt; is_played(alloc, 60, &CUT, 1_000, 30));
-    // as many frames as are asked for
+    // as many frames as the caller asks for
     assert!(rt; is_played(alloc, 60, &BOTH, 12, 12));
     assert!(rt; is_played(alloc, 60, &STOPPED, 1_000, 12));
     assert!(rt; is_played(alloc, 60, &HUNG_UP, 1_000, 12));

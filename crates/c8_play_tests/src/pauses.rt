@@ -1,4 +1,4 @@
-//! How often the threads of a peer sleep, by a clock that counts.
+//! Counts the sleeps of a peer's threads.
 
 use c8_disk::MemDisk;
 use c8_game::{Game, Player};
@@ -127,8 +127,8 @@ where
     }
 }
 
-/// The game thread sleeps for a millisecond after each turn, and a few times before it for the viewer, which looks each five
-/// milliseconds. The net thread waits at its socket alone.
+/// The game thread sleeps for a millisecond after each turn, and a few times before the first turn, to wait for the
+/// viewer. The viewer looks every five milliseconds. The net thread waits only at its socket.
 #[test]
 fn each_turn_has_its_pause(rt: HostRuntime) {
     let counting = Counting {

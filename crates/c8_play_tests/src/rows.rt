@@ -5,7 +5,7 @@ use c8_live::Standing;
 use c8_play::StatusRow;
 use std::time::Duration;
 
-/// The time, the player that it waits for, and all that is written then.
+/// The time, the player for whom the match waits, and the text that is then written.
 type Told = (u64, Option<u8>, &'static [u8]);
 
 /// The last row that is written.
@@ -62,7 +62,7 @@ fn a_row_is_written_where_it_changes(rt: HostRuntime) {
     assert!(rt; are_rows());
 }
 
-/// The time, how far the peer is, the player that it waits for, and all that is written then.
+/// The time, how far the peer is, the player for whom the match waits, and the text that is then written.
 struct Look {
     millis: u64,
     confirmed: u32,
@@ -204,14 +204,15 @@ fn a_row_tells_all_and_is_cut(rt: HostRuntime) {
     assert!(rt; are_told(3, 4, &OF_FOUR));
 }
 
-/// What a row says of player 2 after 3.5 seconds of silence: at player 1, and once player 1 has asked to drop it.
+/// A row's text about player 2 after 3.5 seconds of silence: first at player 1, then after player 1 has asked to drop
+/// it.
 const DROPS: &[u8] =
     b"\x1b[17;1H\x1b[K0/7  waits for 2: 3 s  control-D drops 2  2: 3500 ms  back 0, lo";
 
 const AGAIN: &[u8] =
     b"\x1b[17;1H\x1b[K0/7  waits for 2: 3 s  control-D again drops 2  2: 3500 ms  back";
 
-/// Whether the second control-D in a row drops the player whom the match waits for.
+/// Whether the second control-D in a row drops the player for whom the match waits.
 fn drops_at_the_second() -> bool {
     let two = Player { number: 2 };
     let mut status = StatusRow::new(Duration::from_secs(0), Player::CHAIR, 2);
@@ -231,7 +232,7 @@ fn drops_at_the_second() -> bool {
         && status.give_up(Some(two)).is_none()
 }
 
-/// Whether the row of another player says nothing of that, and control-D drops nobody there.
+/// Whether another player's row offers no drop, and control-D drops nobody there.
 fn only_player_one_drops() -> bool {
     let one = Player::CHAIR;
     let mut status = StatusRow::new(Duration::from_secs(0), Player { number: 2 }, 2);

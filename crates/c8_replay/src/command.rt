@@ -170,7 +170,7 @@ fn print<W: Write>(shown: Shown, out: &mut W) -> io::Result<Status>
     Ok(Status::Done)
 }
 
-/// Where a fault is.
+/// Returns where a fault is.
 fn site_of<'a>(alloc: Global, asked: &Asked<'a>, game: &'a [u8], fault: ReplayFault) -> Site<'a> {
     match fault {
         ReplayFault::Game(error) => {

@@ -131,7 +131,7 @@ fn wait_for<R: Clock + Wait>(rt: &R, is_over: &AtomicBool) {
     }
 }
 
-/// Whether two paths lead to one file, whatever their names.
+/// Returns whether two paths lead to one file, whatever their names.
 fn is_same_file<R: Files<File = File>>(rt: &R, one: &str, other: &str) -> bool {
     match (fs::metadata(rt, one), fs::metadata(rt, other)) {
         (Ok(one), Ok(other)) => one.dev() == other.dev() && one.ino() == other.ino(),
@@ -173,7 +173,7 @@ where
     }
 }
 
-/// Whether the players agree; `None` if their notes are not one log.
+/// Returns whether the players agree; `None` if their notes are not one log.
 fn played<R, S, E>(
     rt: &R,
     asked: &Asked<'_>,
