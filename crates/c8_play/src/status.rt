@@ -35,8 +35,9 @@ const LONG: u128 = 3;
 /// After this many seconds without a first datagram of a player the row says what may be wrong.
 const NO_ANSWER: u128 = 10;
 
-/// For how long the row says that a player is here, after its first datagram.
-const GREETING: Duration = Duration::from_secs(3);
+/// For how many seconds the row says that a player is here, after its first datagram, if that came later than a second after
+/// the start.
+const GREETING: u64 = 3;
 
 /// How many milliseconds a second has.
 const SECOND: u128 = 1000;
@@ -67,6 +68,7 @@ pub struct StatusRow {
     /// When each player was last heard, or the start, and in how many turns it had been heard by then.
     heard: [Duration; MOST_PLAYERS],
     turns: [u64; MOST_PLAYERS],
+    start: Duration,
     /// When the first datagram of each player came, or the start.
     met: [Duration; MOST_PLAYERS],
     /// How many packets were not sealed with the key of the match.
@@ -96,6 +98,7 @@ impl StatusRow {
             due: now,
             heard: [now; MOST_PLAYERS],
             turns: [0; MOST_PLAYERS],
+            start: now,
             met: [now; MOST_PLAYERS],
             unsealed: 0,
             rollbacks: 0,
@@ -161,7 +164,8 @@ impl StatusRow {
     /// - the player for whom the match waits, with whole seconds of its silence, as `waits for 2: 12 s`; this part
     ///   changes at once, and tells player 1 how to drop the player. If no datagram of that player ever came, it says
     ///   after ten seconds what may be wrong, or at once that packets come with another secret;
-    /// - how long each other player has been silent, or for three seconds after its first datagram `2 is here`;
+    /// - how long each other player has been silent, or, for three seconds after a first datagram that
+    ///   was waited for, `2 is here`;
     /// - how often the peer rolled back in the last second, and the most frames that one rollback simulated again.
     ///
     /// The text is cut off after 64 characters, or after 80 with more than two players.
@@ -226,7 +230,7 @@ impl StatusRow {
         let mut is_new = [false; MOST_PLAYERS];
         for place in 0..MOST_PLAYERS {
             silent[place] = now.saturating_sub(self.heard[place]).as_millis();
-            is_new[place] = self.turns[place] > 0 && now.saturating_sub(self.met[place]) < GREETING;
+            is_new[place] = self.is_new(now, place);
         }
         self.numbers = Numbers {
             ticked: standing.ticked,
@@ -239,6 +243,13 @@ impl StatusRow {
         };
         self.rollbacks = standing.rollbacks;
         self.longest = 0;
+    }
+
+    /// Whether the first datagram of a player came just now, after a wait.
+    fn is_new(&self, now: Duration, place: usize) -> bool {
+        let met = self.met[place];
+        met.saturating_sub(self.start) > Duration::from_secs(EVERY)
+            && now.saturating_sub(met) < Duration::from_secs(GREETING)
     }
 
     /// Writes the text, the most important part first.

@@ -2,7 +2,8 @@
 //!
 //! `console` has consoles with scripted keys. `alone` plays a game at one, `waits` a match without other players, and
 //! `pair` a match of two over the loopback. `rows` has the row below the screen, `drawing` the pictures of a watched
-//! match, and `stop` a match that is watched until enough frames were seen.
+//! match, and `stop` a match that is watched until enough frames were seen. `friends` has what `host` and `join` show and
+//! read.
 #![tactic(auto)]
 
 #[cfg(test)]
@@ -11,6 +12,8 @@ mod alone;
 mod console;
 #[cfg(test)]
 mod drawing;
+#[cfg(test)]
+mod friends;
 #[cfg(test)]
 mod pair;
 #[cfg(test)]

@@ -65,7 +65,7 @@ where
         stop,
         checkpoint: 0,
         progress: true,
-        says_end: false,
+        says_end: true,
         is_muted: true,
         explain: false,
     };

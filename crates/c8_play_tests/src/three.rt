@@ -100,6 +100,7 @@ fn asked_for() -> Asked<'static, 'static> {
         remotes: None,
         watchers: [None, None],
         secret: None,
+        digits: None,
         watch_secret: None,
         room: 0,
         has_room: true,
@@ -108,6 +109,8 @@ fn asked_for() -> Asked<'static, 'static> {
         stop: None,
         checkpoint: 0,
         progress: false,
+        says_end: false,
+        is_muted: true,
         explain: false,
     }
 }
