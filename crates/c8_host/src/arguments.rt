@@ -14,13 +14,8 @@ pub fn host_command<'a>(alloc: Global) -> Result<Command<'a>, AllocError> {
         .about("Invites a friend to a game of two, and plays it at the keyboard as player 1")
         .after_help(HOST_ENDING);
     let command = with_place(alloc, command, "GAME", GAME)?;
-    let port = Arg::new(alloc, "port")
-        .long("port")
-        .value_name("N")
-        .help("The UDP port to open, on all addresses of this machine")
-        .value_parser(value_parser!(u16).range(1..))
-        .default_value("4001");
-    let command = command.arg(port)?;
+    let port = "The UDP port to open, on all addresses of this machine";
+    let command = command.arg(port_of(alloc, port).default_value("4001"))?;
     let room = "The number of the match [default: a new one each time]";
     let command = command.arg(number(alloc, "room", room))?;
     let secret = "The file of the secret, made if it is missing [default: GAME.secret]";
@@ -44,8 +39,19 @@ pub fn join_command<'a>(alloc: Global) -> Result<Command<'a>, AllocError> {
         .required(true)
         .value_parser(value_parser!(u64));
     let command = command.arg(room)?;
+    let port = "The own UDP port [default: any]";
+    let command = command.arg(port_of(alloc, port))?;
     let secret = "The file of the secret [default: its 64 digits are read from standard input]";
     with_play(alloc, command, secret)
+}
+
+/// The option for a UDP port.
+fn port_of<'a>(alloc: Global, help: &'a str) -> Arg<'a> {
+    Arg::new(alloc, "port")
+        .long("port")
+        .value_name("N")
+        .help(help)
+        .value_parser(value_parser!(u16).range(1..))
 }
 
 /// Adds the options that both commands have.

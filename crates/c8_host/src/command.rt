@@ -116,9 +116,11 @@ where
         None => asked_digits(rt.alloc(), &mut input, terminals, refused)?,
     };
     let address = word_of(given, "ADDRESS");
+    let port = given.get_one::<u16>("port").unwrap_or(0);
+    let local = format!(in rt.alloc(); "{}:{port}", all_for(address))?;
     let asked = Asked {
         player: Player { number: 2 },
-        local: local_for(address),
+        local: local.as_str(),
         remotes: Some(&[address]),
         secret,
         digits: match secret {
@@ -247,11 +249,11 @@ fn asked_digits<I: Read, E: Write>(
     digits_in(alloc, input)
 }
 
-/// The own address: any port of all addresses, of the IP version of the other address.
-fn local_for(address: &str) -> &'static str {
+/// The word for all addresses of this machine, of the IP version of another address.
+fn all_for(address: &str) -> &'static str {
     if address.starts_with('[') {
-        "[::]:0"
+        "[::]"
     } else {
-        "0.0.0.0:0"
+        "0.0.0.0"
     }
 }
