@@ -1,8 +1,9 @@
-//! Counts the sleeps of a peer's threads.
+//! Counts the sleeps of a peer's threads, and looks at how they end.
 
 use c8_disk::MemDisk;
 use c8_game::{Game, Player};
-use c8_net::{Asked, play_on, prepare};
+use c8_net::{Asked, Pace, play_on, prepare};
+use c8_transport::{Gate, Worker};
 use std::alloc::Global;
 use std::io;
 use std::net::{Net, SocketAddr, UdpSocket};
@@ -146,4 +147,23 @@ fn each_turn_has_its_pause(rt: HostRuntime) {
     );
     assert!(rt; fives >= 1 && fives <= TURNS, "{fives} pauses of five");
     assert!(rt; counting.others.load(Ordering::SeqCst) == 0);
+}
+
+/// Whether the net thread makes one turn after the game thread has ended, and the game thread none after the net thread.
+fn ends_in_order(rt: &HostRuntime) -> bool {
+    let pace = Pace::new(rt, None);
+    let both = pace.before(Worker::Net, 0)
+        && pace.before(Worker::Net, 1)
+        && pace.before(Worker::Game, 0);
+    pace.end(Worker::Game);
+    let last = pace.before(Worker::Net, 2);
+    let after = pace.before(Worker::Net, 3);
+    let other = Pace::new(rt, None);
+    other.end(Worker::Net);
+    both && last && !after && !other.before(Worker::Game, 0) && other.before(Worker::Net, 0)
+}
+
+#[test]
+fn the_net_thread_sends_the_last_datagrams(rt: HostRuntime) {
+    assert!(rt; ends_in_order(&rt));
 }
