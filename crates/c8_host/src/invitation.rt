@@ -29,13 +29,15 @@ impl fmt::Display for Invitation<'_> {
             port,
             room,
         } = *self;
-        let (name, file) = (last_part(game), last_part(secret));
+        let (name, file) = (friends_path(game), last_part(secret));
         let first = addresses.first().copied().unwrap_or("ADDRESS");
-        writeln!(f, "Your friend needs {name} and {secret}, and types:")?;
         writeln!(
             f,
-            "  ./c8play join {name} {first}:{port} {room} --secret {file}"
+            "Your friend needs the same game and the file {secret}, and types:"
         )?;
+        // On two rows, so that it fits a terminal of 80 columns.
+        writeln!(f, "  ./c8play join {name} {first}:{port} {room} \\")?;
+        writeln!(f, "    --secret {file}")?;
         write!(f, "This machine:")?;
         for address in addresses {
             write!(f, " {address}")?;
@@ -61,6 +63,15 @@ pub fn note(alloc: Global, invitation: &Invitation<'_>) -> Result<String, AllocE
         note.push_str(written.as_str())?;
     }
     Ok(note)
+}
+
+/// The path at which a friend has the game: the same in the folder of the program, if it is in there.
+fn friends_path(path: &str) -> &str {
+    if path.starts_with('/') {
+        last_part(path)
+    } else {
+        path
+    }
 }
 
 /// The name of a file, without its folders.

@@ -57,9 +57,9 @@ fn one_line_of_digits_is_read(rt: HostRuntime) {
     assert!(rt; reads(alloc, &[b'1'; 90], &[b'1'; 80], &[b'1'; 10]));
 }
 
-fn invites(alloc: Global, addresses: &[&str], wanted: &str) -> bool {
+fn invites(alloc: Global, game: &str, addresses: &[&str], wanted: &str) -> bool {
     let invitation = Invitation {
-        game: "games/rally.game",
+        game,
         secret: "games/rally.game.secret",
         addresses,
         port: 4002,
@@ -77,23 +77,27 @@ fn the_invitation_has_the_line_to_type(rt: HostRuntime) {
     assert!(rt;
         invites(
             alloc,
+            "games/rally.game",
             &["192.168.1.5", "10.0.0.7"],
             "\
-\x1b[19;1H\x1b[KYour friend needs rally.game and games/rally.game.secret, and types:\
-\x1b[20;1H\x1b[K  ./c8play join rally.game 192.168.1.5:4002 77 --secret rally.game.secret\
-\x1b[21;1H\x1b[KThis machine: 192.168.1.5 10.0.0.7\
-\x1b[22;1H\x1b[KFrom another network: your router's address, UDP port 4002 forwarded."
+\x1b[19;1H\x1b[KYour friend needs the same game and the file games/rally.game.secret, and types:\
+\x1b[20;1H\x1b[K  ./c8play join games/rally.game 192.168.1.5:4002 77 \\\
+\x1b[21;1H\x1b[K    --secret rally.game.secret\
+\x1b[22;1H\x1b[KThis machine: 192.168.1.5 10.0.0.7\
+\x1b[23;1H\x1b[KFrom another network: your router's address, UDP port 4002 forwarded."
         )
     );
     assert!(rt;
         invites(
             alloc,
+            "/home/me/rally.game",
             &[],
             "\
-\x1b[19;1H\x1b[KYour friend needs rally.game and games/rally.game.secret, and types:\
-\x1b[20;1H\x1b[K  ./c8play join rally.game ADDRESS:4002 77 --secret rally.game.secret\
-\x1b[21;1H\x1b[KThis machine: no address found; put it in the place of ADDRESS\
-\x1b[22;1H\x1b[KFrom another network: your router's address, UDP port 4002 forwarded."
+\x1b[19;1H\x1b[KYour friend needs the same game and the file games/rally.game.secret, and types:\
+\x1b[20;1H\x1b[K  ./c8play join rally.game ADDRESS:4002 77 \\\
+\x1b[21;1H\x1b[K    --secret rally.game.secret\
+\x1b[22;1H\x1b[KThis machine: no address found; put it in the place of ADDRESS\
+\x1b[23;1H\x1b[KFrom another network: your router's address, UDP port 4002 forwarded."
         )
     );
 }
