@@ -1,4 +1,4 @@
-/* Prints what calls of a session cost, in nanoseconds: the smallest of several measurements. */
+/* Prints the cost of a session's calls in nanoseconds: the smallest of several measurements. */
 #define _POSIX_C_SOURCE 200809L
 #include "c8.h"
 
@@ -49,8 +49,8 @@ static void meet(c8_session players[3]) {
     for (uint32_t frame = 0; frame < WINDOW; frame++) must(c8_tick(&players[1], input(1, frame)), "tick");
 }
 
-/* Player 1 is always a whole window ahead. Records what player 2 says: each datagram has one input, which is not the
- * predicted one. */
+/* Player 1 is always a whole window ahead. Records the datagrams of player 2: each has one input that differs from the
+ * prediction. */
 static void record(void) {
     c8_session players[3] = {{0}};
     meet(players);
@@ -64,7 +64,7 @@ static void record(void) {
     c8_close(&players[1]), c8_close(&players[2]);
 }
 
-/* Delivers the same datagrams to a player 1 that was just opened. */
+/* Delivers the same datagrams to a newly opened player 1. */
 static double rollbacks(bool is_stepping) {
     c8_session players[3] = {{0}};
     uint16_t rows[4 * 2 * WINDOW];

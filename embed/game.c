@@ -3,9 +3,9 @@
  *     game ROLE LOCAL_PORT HOST PORT [--frames N] [--journal FILE] [--script SEED] [--lose PERCENT]
  *
  * ROLE is 1 or 2; HOST and PORT are where the other player listens. Keys: a and d turn, w accelerates, space fires, q
- * quits. N (default 3600, one minute) has to be the same for both. With --journal a player that was killed goes on where
- * it was. For tests: with --script the inputs come from a seed, nothing is drawn, and the game runs as fast as the other
- * player allows; --lose drops this share of the datagrams that it sends. Both players end with the same last line. */
+ * quits. N (default 3600, one minute) must be the same for both. With --journal a killed player continues where it was.
+ * For tests: with --script the inputs come from a seed, nothing is drawn, and the game runs as fast as the other player
+ * allows; --lose drops this share of the datagrams that it sends. Both players end with the same last line. */
 #define _POSIX_C_SOURCE 200809L
 #include "c8.h"
 
@@ -143,7 +143,7 @@ static void open_terminal(void) {
     printf("\033[2J");
 }
 
-/* A terminal says when a key is struck, and not when it is released: a stroke counts for ten frames. */
+/* A terminal reports when a key is struck, but not when it is released. So a stroke counts for ten frames. */
 static uint16_t typed(bool *quit) {
     static const char names[] = "adw ";
     static int left[4];
@@ -190,8 +190,8 @@ static int open_socket(const char *local, const char *host, const char *port) {
     return is_open ? udp : -1;
 }
 
-/* Delivers what came. Returns 0, or the refusal after which the session cannot go on. Others are of datagrams that came
- * late or twice, or from a stranger. */
+/* Delivers the received datagrams. Returns 0, or the refusal after which the session cannot continue. Other refusals
+ * are of datagrams that came late or twice, or from a stranger. */
 static uint32_t receive_all(c8_session *session, int udp) {
     uint8_t bytes[C8_DATAGRAM + 1];
     ssize_t length;
@@ -224,8 +224,8 @@ static uint64_t now_ns(void) {
     return (uint64_t)t.tv_sec * 1000000000 + (uint64_t)t.tv_nsec;
 }
 
-/* Whether the player should leave out a tick: it has been more than half a window ahead of the other for a second. So
- * neither player predicts further than the other has to. */
+/* Whether the player should leave out a tick: it has been more than half a window ahead of the other for a second. This
+ * keeps both players' predictions about equally long. */
 static bool is_too_fast(c8_session *session, uint8_t other) {
     static int ahead;
     c8_player_state player;
@@ -289,7 +289,7 @@ static void wait_for_frame(c8_session *session, int udp, bool is_scripted, bool 
     static uint64_t due;
     const uint64_t frame_ns = 1000000000 / 60;
     uint64_t now = now_ns();
-    if (due + 5 * frame_ns < now) due = now; /* frames that a pause has cost are not made up for */
+    if (due + 5 * frame_ns < now) due = now; /* does not catch up frames after a pause */
     due += frame_ns;
     do {
         struct pollfd ready = {.fd = udp, .events = POLLIN};

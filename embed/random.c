@@ -1,5 +1,5 @@
-/* Random calls of all exports, in any order, with any bytes. Nothing crashes, each answer has its meaning, nothing is
- * written beyond what c8.h says, and only an opening takes memory.
+/* Calls all exports at random, in any order, with any bytes. Nothing crashes, each answer has a meaning, no call writes
+ * more than c8.h says, and only an opening takes memory.
  *
  *     random [CALLS [SEED]]
  *
@@ -155,7 +155,7 @@ static void open_all(void) {
         if (roll(16)) open_one(i);
 }
 
-/* Delivers bytes: mostly one of the last datagrams, to the player that it is for. */
+/* Delivers bytes: mostly one of the last datagrams, to its addressee. */
 static void deliver(c8_session *s) {
     uint8_t bytes[300];
     uint64_t kind = roll(16), place = (kept - roll(roll(4) ? 4 : MAIL)) % MAIL;
@@ -165,7 +165,7 @@ static void deliver(c8_session *s) {
         length = mail[place].length;
         memcpy(bytes, mail[place].bytes, length);
         if (kind > 1) s = &sessions[mail[place].to - 1];
-        /* seldom, since players disagree for good after an input was damaged */
+        /* seldom, because a damaged input makes the players disagree for the rest of the match */
         if (kind == 2 && !roll(20)) bytes[roll(length)] ^= (uint8_t)(1 << roll(8));
         if (kind == 3) length = roll(length + 1);
     } else if (kind == 14 && length > 4) { /* any bytes with the head of a datagram */
@@ -299,7 +299,7 @@ static void call(c8_session *s) {
     }
 }
 
-/* A journal whose disk fails at some moment: the session is down, and sends nothing, until it is opened again. */
+/* A journal whose disk fails at some moment. Then the session is down, and sends nothing until it is opened again. */
 static void fail_disk(void) {
     c8_session s = {0}, again = {0};
     int32_t file, folder;

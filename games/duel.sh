@@ -1,9 +1,9 @@
 #!/bin/sh
-# Plays games/duel.game twice by two processes over the loopback, with journals in files, and compares
-# what they print; the second time player 2 is killed in the middle and started again with its journal.
+# Plays games/duel.game twice with two processes over the loopback, with journals in files, and compares
+# what they print. In the second game player 2 is killed in the middle and restarted with its journal.
 #
-# games/duel.sh [PORT [PORT]]: two free ports, 4001 and 4002 if none are given. PROGRAM in the environment
-# is run in place of ./c8play. Ends with 0 if both games ended alike for both, else with 1.
+# games/duel.sh [PORT [PORT]]: two free ports (default 4001 and 4002). PROGRAM in the environment runs in
+# place of ./c8play. Exits with 0 if the reports of both players are equal in both games, otherwise with 1.
 top=$(cd "$(dirname "$0")/.." && pwd) || exit 1
 one=127.0.0.1:${1:-4001}
 two=127.0.0.1:${2:-4002}
@@ -19,7 +19,7 @@ fail() {
     exit 1
 }
 
-# start NAME PLAYER LOCAL REMOTE: a player of the game NAME in the background, whose process is $started
+# start NAME PLAYER LOCAL REMOTE: starts a player of the game NAME in the background, as process $started
 start() {
     "$program" peer "$top/games/duel.game" "$2" "$dir/$1.$2.journal" "$3" "$4" --turns 60000 \
         <"$top/games/duel.$2.keys" >"$dir/$1.$2.report" 2>"$dir/$1.$2.said" &
@@ -27,7 +27,7 @@ start() {
     running="$running $started"
 }
 
-# both NAME: waits for both players of a game, whose reports are to be equal, and of all frames
+# both NAME: waits for both players of a game; their reports must be equal, and have all frames
 both() {
     wait "$first" || fail "player 1 of the game '$1' ended with $?"
     wait "$second" || fail "player 2 of the game '$1' ended with $?"
@@ -36,12 +36,12 @@ both() {
     [ "$(head -n 1 "$dir/$1.1.report")" = 'frames 200' ] || fail "the game '$1' is not at its end"
 }
 
-# bytes FILE: how long it is, 0 if it is not there
+# bytes FILE: its length, 0 if it does not exist
 bytes() {
     if [ -f "$1" ]; then wc -c <"$1"; else echo 0; fi
 }
 
-# builds the program, if it is to be built
+# builds the program, if needed
 "$program" --version >/dev/null || exit 1
 
 start whole 1 "$one" "$two"
@@ -50,7 +50,7 @@ start whole 2 "$two" "$one"
 second=$started
 both whole
 
-# what one machine makes of the same key sets: with the game's delay of 2 they count two frames later
+# what one machine does with the same key sets: by the game's delay of 2 they count two frames later
 {
     printf '0000 0000\n0000 0000\n'
     paste -d ' ' "$top/games/duel.1.keys" "$top/games/duel.2.keys"

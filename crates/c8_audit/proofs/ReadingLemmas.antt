@@ -30,7 +30,7 @@ begins_by_items X (x ∷ xs) (y ∷ ys) long same =
     let rest = begins_by_items X xs ys (omega (arith, long)) (λ k below. same (suc k) (omega (arith, below))) in
     record { rest = rest.rest; is = ap (λ (z : X). z ∷ ys) first ∙ ap (λ (zs : List X). x ∷ zs) rest.is }
 
--- records of a longer list of bodies go on
+-- the records of a longer list of bodies begin with those of the shorter one
 pub records_begin : (xs ys : List (List ℕ)) → Begins xs ys → Begins (records_of xs) (records_of ys)
 records_begin xs ys begins = record { rest = records_of begins.rest; is = ap records_of begins.is ∙ map-append record_of xs begins.rest }
 
@@ -42,7 +42,7 @@ head_names (body ∷ rest) player id room head =
     let record_is : record_of head.0 ≡ Head player head.1 id room = reads_back head.0 (Head player head.1 id room) head.3 in
     eq-eqb (player_of (record_of body)) player (ap (λ (b : List ℕ). player_of (record_of b)) same ∙ ap player_of record_is)
 
--- what goes on from a journal is of the same player
+-- a continuation of a journal is of the same player
 pub same_owner : (first later : List (List ℕ)) (p q : ℕ) (id other : List ℕ) (room there : ℕ) → Begins first later → BeginsWithHead first p id room → BeginsWithHead later q other there → q ≡ p
 same_owner first later p q id other room there begins one two =
     let at = begins_get first later 0 one.0 begins one.2 in

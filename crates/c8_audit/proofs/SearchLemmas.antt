@@ -111,7 +111,7 @@ below_five rules Agreed all of_game =
       other = λ frame one other fault. omega (arith, four, of_game.players other fault.other fault.other_stays.given);
     }
 
--- what is found of player n is up to each fault of it
+-- the fault found for player n is not after any other fault of player n
 own_up_to : (question : Question) (all : AllSeen) (n : ℕ) (found : Fault) → AreBelowFive question all → IsLeastOf question all n 5 (Some found)
     → (frame one other : ℕ) → one ≡ n → IsFault question all frame one other → IsUpTo found.frame found.one.number found.other.number frame one other
 own_up_to question all n found five now frame one other here fault =

@@ -22,7 +22,7 @@ seen_or None false other = None
 abbrev pub with_journal : AllSeen → Journal → AllSeen
 with_journal all j p = seen_or (all p) (j.first.me == p) (seen j)
 
--- what is known by the journals is what their readings say, and each was read twice
+-- the journals make known what their readings make known, and each was read twice
 pub record IsGathered (rules : Rules) (e : Evidence) (journals : List (Option Journal)) : Type 0 where
   pub seen_is : (p : ℕ) → 1 ≤ p → all_seen journals p ≡ seen_in rules e p
   pub read : (p : ℕ) (r : Readings) → 1 ≤ p → e p ≡ Some r → (room : ℕ) × IsReadTwice rules room p r

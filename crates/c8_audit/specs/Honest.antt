@@ -8,8 +8,8 @@ use Rattle.c8_world.specs.Agreement.{IsPlayer}
 use Rattle.c8_audit.specs.Journals.{Readings, Evidence}
 
 -- A player's journal was read twice. The world `between` is a moment of the match between the two readings; any events
--- may happen before and after it. Each reading finds the pending record or not. The second reading begins with the
--- first, so no record that the first one found was lost.
+-- may happen between it and each reading. Each reading finds the pending record or not. The second reading begins with
+-- the first, so no record that the first one found was lost.
 pub record WasReadTwice (rules : Rules) (room : ℕ) (between : World) (p : ℕ) (r : Readings) : Type 0 where
   pub first_at : World
   pub first_reached : IsReached rules room first_at

@@ -62,7 +62,7 @@ pub fn gather(
     Ok(gathered)
 }
 
-/// Whether a player's journal is given.
+/// Returns whether a player's journal is given.
 fn is_given(journals: &[Option<Journal>], player: Player) -> bool
     ensures { (result ≡ true) ↔ ((s : Seen) × (all_seen journals.now player.number ≡ Some s)) }
 {

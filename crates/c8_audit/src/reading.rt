@@ -49,7 +49,7 @@ pub(crate) fn read_twice(
     if !goes_on(first, later) {
         return Err(Unread::Changed);
     }
-    // For the proof: what is known is sound.
+    // For the proof: the knowledge is sound.
     let _me = one.known.me();
     Ok(joined(one, two, tally_of(first)))
 }
@@ -97,7 +97,7 @@ fn goes_on(first: &[u8], later: &[u8]) -> bool
     true
 }
 
-/// Whether two bodies are equal.
+/// Returns whether two bodies are equal.
 fn is_same(one: &[u8; BODY_LENGTH], other: &[u8; BODY_LENGTH]) -> bool
     ensures { (result ≡ true) ↔ (one.now ≡ other.now) }
 {

@@ -96,7 +96,7 @@ fn mark_place(frames: u32, frame: u32) -> Option<usize>
     }
 }
 
-/// The mark at a place.
+/// Returns the mark at a place.
 fn mark_at(marks: &[u8; MARKS_LENGTH], place: usize) -> &[u8]
     requires { place < 16 }
     ensures { result.now ≡ take mark_length (drop (mark_length * place) marks.now) }
@@ -104,7 +104,7 @@ fn mark_at(marks: &[u8; MARKS_LENGTH], place: usize) -> &[u8]
     &marks[MARK_LENGTH * place..MARK_LENGTH * place + MARK_LENGTH]
 }
 
-/// Whether two machines have the same state.
+/// Returns whether two machines have the same state.
 fn is_same(one: &Machine, other: &Machine) -> bool
     ensures { (result ≡ true) ↔ (state one.now ≡ state other.now) }
 {

@@ -41,8 +41,8 @@ impl Beat {
         }
     }
 
-    /// How long it is until the next frame is due; 0 if it is due now. A longer time than the longest duration becomes
-    /// that.
+    /// Returns how long it is until the next frame is due; 0 if it is due now. A longer time than the longest duration
+    /// becomes that.
     pub fn left(&self, now: Duration) -> Duration
         ensures { as_nanos result ≡ min (left (clock_of self.now) (as_nanos now)) max_nanos }
     {
@@ -75,7 +75,7 @@ impl Beat {
         &self.lateness
     }
 
-    /// When the frame is due that comes `after` frames after the next one, in nanoseconds.
+    /// Returns the time at which the frame `after` frames after the next one is due, in nanoseconds.
     fn due(&self, after: u8) -> u128
         ensures { result ≡ due (clock_of self.now) ((clock_of self.now).begun + after) }
     {
@@ -98,7 +98,7 @@ fn duration(nanos: u128) -> Duration
 /// Lateness above this many milliseconds counts as this many.
 const MOST_LATE: usize = 63;
 
-/// How many frames were late by how many whole milliseconds, and the greatest lateness.
+/// Counts of frames by their lateness in whole milliseconds, and the greatest lateness.
 #[derive(Clone, Copy, Debug, PartialEq, Eq)]
 pub struct Lateness {
     frames: [u32; MOST_LATE + 1],
@@ -131,8 +131,8 @@ impl Lateness {
         }
     }
 
-    /// The median lateness in whole milliseconds: at least half of the frames were late by at most that. It is 0
-    /// without frames, and at most 63.
+    /// Returns the median lateness in whole milliseconds: at least half of the frames were late by at most that. It is
+    /// 0 without frames, and at most 63.
     #[tactic(auto, using(crate::proofs::BeatLemmas::sum_more))]
     pub fn median(&self) -> usize
         ensures { IsMedian (counts_of self.now) result }
@@ -148,7 +148,7 @@ impl Lateness {
         MOST_LATE
     }
 
-    /// How many frames were noted.
+    /// Returns how many frames were noted.
     #[tactic(auto, using(crate::proofs::BeatLemmas::sum_more))]
     fn all(&self) -> u64
         ensures { result ≡ sum (counts_of self.now) }
@@ -160,7 +160,7 @@ impl Lateness {
         all
     }
 
-    /// The greatest lateness, in whole milliseconds; 0 without frames.
+    /// Returns the greatest lateness, in whole milliseconds; 0 without frames.
     pub fn most(&self) -> u128
         ensures { result ≡ most_of self.now / 1_000_000 }
     {

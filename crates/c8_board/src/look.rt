@@ -1,4 +1,4 @@
-//! What a look at the board finds.
+//! The result of a look at the board.
 ghost use Rattle.std.specs.Prelude.{◌≡◌, ◌+◌, ◌*◌, ◌/◌, ◌%◌, ◌^◌, ◌<◌};
 ghost use Rattle.c8_machine.specs.State.{state};
 ghost use Rattle.c8_board.specs.Words.{bits_of};

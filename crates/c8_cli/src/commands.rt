@@ -7,6 +7,7 @@ use c8_front::{
     Terminals, is_explained, run_command, show_command, status_at, tell, with_explain, with_place,
     word_of, words_in,
 };
+use c8_host::{host_command, host_given, join_command, join_given};
 use c8_keys::run_files;
 use c8_net::{peer_command, peer_given, watch_command, watch_given};
 use c8_play::{play_command, play_given};
@@ -80,6 +81,8 @@ fn command<'a>(alloc: Global) -> Result<Command<'a>, AllocError> {
     let command = command.subcommand(run_command(alloc)?)?;
     let command = command.subcommand(peer_command(alloc)?)?;
     let command = command.subcommand(play_command(alloc)?)?;
+    let command = command.subcommand(host_command(alloc)?)?;
+    let command = command.subcommand(join_command(alloc)?)?;
     let command = command.subcommand(watch_command(alloc)?)?;
     let command = command.subcommand(replay_command(alloc)?)?;
     let command = command.subcommand(audit_command(alloc)?)?;
@@ -124,6 +127,8 @@ where
         }
         Some(("peer", given)) => peer_given(rt, given, input, terminals, out, refused),
         Some(("play", given)) => play_given(rt, given, out, refused),
+        Some(("host", given)) => host_given(rt, given, out, refused),
+        Some(("join", given)) => join_given(rt, given, input, terminals, out, refused),
         Some(("watch", given)) => watch_given(rt, given, terminals, out, refused),
         Some(("replay", given)) => replay_given(rt, given, out, refused),
         Some(("audit", given)) => audit_given(rt, given, out, refused),

@@ -84,6 +84,7 @@ where
         remotes: Some(&[remote]),
         watchers,
         secret: None,
+        digits: None,
         watch_secret: None,
         room: 9,
         has_room: true,
@@ -92,6 +93,8 @@ where
         stop: None,
         checkpoint: 0,
         progress: false,
+        says_end: false,
+        is_muted: true,
         explain: false,
     };
     let (mut report, mut refused) = (Vec::new(rt.alloc()), Vec::new(rt.alloc()));

@@ -5,8 +5,8 @@ use Rattle.c8_command.specs.declared.error.TextError.TheVariants.{Failed, Memory
 use Rattle.c8_command.specs.declared.error.TextsError.{TextsError}
 use Rattle.c8_command.specs.declared.error.TextsError.TheVariants as texts
 
--- by the errors of the first text and of the second: a file that cannot be read comes before out of memory, and the
--- first text before the second
+-- the error by those of the two texts: a file that cannot be read comes before out of memory, and the first text before
+-- the second
 abbrev pub error_of_texts : Option TextError → Option TextError → Option TextsError
 error_of_texts None None = None
 error_of_texts None (Some Failed) = Some texts.SecondFailed

@@ -5,15 +5,15 @@ use std::fmt::Display;
 use std::io;
 use std::io::Write;
 
-/// How many bytes of a line are shown at most.
+/// The most bytes of a line that are shown.
 pub const MOST_SHOWN: usize = 100;
 
 /// Where the fault of a refusal is.
 #[derive(Clone, Copy, Debug, PartialEq, Eq)]
 pub enum Site<'a> {
-    /// In nothing that has a name.
+    /// At no place with a name.
     Nowhere,
-    /// In a file, or in what is read in its place, of this name.
+    /// In the file, or its substitute, with this name.
     File(&'a str),
     /// In one line of a file.
     Line {
@@ -26,7 +26,7 @@ pub enum Site<'a> {
 }
 
 impl<'a> Site<'a> {
-    /// The line at a place of a file, if there is one; otherwise the file.
+    /// Returns the line at a place of a file, if there is one; otherwise the file.
     pub fn line(file: &'a str, place: usize, line: Option<&'a [u8]>) -> Self {
         match line {
             Some(bytes) => Site::Line { file, place, bytes },
@@ -36,8 +36,8 @@ impl<'a> Site<'a> {
 
     /// Writes the line that explains a refusal: `SENTENCE`, `FILE: SENTENCE`, or `FILE, line N: SENTENCE: "TEXT"`,
     /// where N is 1 for the file's first line. In TEXT, quotes, backslashes and bytes that are not printable ASCII are
-    /// escaped. Of a line longer than `MOST_SHOWN` bytes it writes the first `MOST_SHOWN`, and after the quote ` and N
-    /// bytes more`.
+    /// escaped. If a line is longer than `MOST_SHOWN` bytes, TEXT is its first `MOST_SHOWN` bytes, and ` and N bytes
+    /// more` follows.
     pub fn explain<W: Write, D: Display>(self, sentence: &D, out: &mut W) -> io::Result<()> {
         match self {
             Site::Nowhere => writeln!(out, "{sentence}"),
@@ -52,7 +52,7 @@ impl<'a> Site<'a> {
 }
 
 impl TextsError {
-    /// The file of a command that is at fault.
+    /// Returns the file of a command that is at fault.
     pub fn site<'a>(self, first: &'a str, second: &'a str) -> Site<'a> {
         match self {
             TextsError::FirstFailed | TextsError::FirstMemory => Site::File(first),
@@ -61,7 +61,7 @@ impl TextsError {
     }
 }
 
-/// Writes the bytes of a line between quotes, and how many more there are than are shown.
+/// Writes the bytes of a line between quotes, and how many bytes it does not show.
 fn write_line<W: Write>(bytes: &[u8], out: &mut W) -> io::Result<()> {
     let shown = bytes.len().min(MOST_SHOWN);
     write!(out, "\"{}\"", bytes[..shown].escape_ascii())?;

@@ -30,14 +30,14 @@ pub enum Part {
     Socket,
     /// The secret of a match.
     Secret,
-    /// What `replay` is asked for, beside a journal that it can read.
+    /// The frames that `replay` is to show, of a journal that it can read.
     Replay,
-    /// What the journals of a match say of each other.
+    /// The journals of a match, which `audit` compares.
     Audit,
 }
 
 impl Part {
-    /// The word that is printed for it.
+    /// Returns the word that is printed for it.
     pub fn name(self) -> &'static str {
         match self {
             Part::Game => "game",
@@ -79,7 +79,7 @@ impl Refusal {
         name: "Memory",
     };
 
-    /// The exit status: `Failed` for a disk or a socket, otherwise `Refused`.
+    /// Returns the exit status: `Failed` for a disk or a socket, otherwise `Refused`.
     pub fn status(self) -> Status
         ensures { result ≡ status_of self.part }
     {

@@ -20,7 +20,7 @@ pub enum Status {
 }
 
 impl Status {
-    /// The exit status of the program.
+    /// Returns the exit status of the program.
     pub fn code(self) -> u8
         ensures { result ≡ exit_code_of self }
     {

@@ -10,7 +10,7 @@ use std::fs;
 use std::io::{ErrorKind, Read};
 use std::rt::Files;
 
-/// How many bytes a text may have at most.
+/// The most bytes of a text.
 pub const LONGEST_TEXT: u64 = 16_777_216;
 
 /// A text, and the name of its file.
@@ -20,7 +20,7 @@ pub struct Text<'a> {
     pub bytes: &'a [u8],
 }
 
-/// Reads the two files of a command. It reads both, whatever comes of the first.
+/// Reads the two files of a command. It reads the second even if the first fails.
 pub fn read_both<R: Files + AllocGlobal>(
     rt: &R,
     first: &str,
@@ -31,8 +31,8 @@ pub fn read_both<R: Files + AllocGlobal>(
     both(first, second)
 }
 
-/// Both texts of a command, or why they are refused: a file that cannot be read comes before out of memory, and the
-/// first text before the second.
+/// Returns both texts of a command, or why they are refused: a file that cannot be read comes before out of memory, and
+/// the first text before the second.
 pub fn both<T: Drop>(
     first: Result<T, TextError>,
     second: Result<T, TextError>,

@@ -36,7 +36,7 @@ engine_after disk stays old new call reply s is_told sound is answered engine = 
   told = λ no_more. absurd (true≢false (sym no_more));
 }
 
--- an engine that was given all best rows is given none more
+-- an engine that was given all best rows gets no more
 pub told_steps : (k : KnownValue) (most : ℕ) (given : List Row) → given ≡ best_rows k → IsStepped k most given given k.ticks 0
 told_steps k most given is =
     let long : length given ≡ k.ticks = ap (λ (rows : List Row). length rows) is ∙ best_length k k.ticks in

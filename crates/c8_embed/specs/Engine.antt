@@ -1,4 +1,4 @@
--- A peer inside an engine, and what a turn does to it.
+-- A peer inside an engine, and the effect of a turn.
 use Rattle.std.specs.Prelude.{ℕ, ◌≡◌, ◌+◌, ◌⊎◌, List, [], ◌∷◌, Bool, true}
 use Rattle.c8_disk.specs.declared.disk.Disk.{Ghosts}
 use Rattle.c8_known.specs.Confirmed.{best_rows}
@@ -6,7 +6,7 @@ use Rattle.c8_peer.specs.State.{Call, Reply, Leave, Decide, Checkpoint}
 use Rattle.c8_peer.specs.Peer.{PeerValue, IsAnswered, known_by}
 use Rattle.c8_embed.specs.Steps.{StepsValue, IsTrueTo}
 
--- The peer, the rows that the engine was given, and by how many frames each step rolls back for a test (0: by none).
+-- The peer, the rows that the engine was given, and how many frames each step rolls back for a test (0 without a test).
 pub record EngineValue (D : Type 0) : Type 0 where
   pub peer : PeerValue D
   pub steps : StepsValue
@@ -23,7 +23,7 @@ abbrev pub AreAnswered : {D : Type 0} → Ghosts D → List Call → PeerValue D
 AreAnswered disk [] old new = new ≡ old
 AreAnswered {D} disk (call ∷ calls) old new = (middle : PeerValue D) × (reply : Reply) × IsAnswered disk old call reply middle × AreAnswered disk calls middle new
 
--- the calls of a turn beside hearing and ticking
+-- the calls of a turn, except for hearing and ticking
 abbrev pub IsOfTurn : Call → Type 0
 IsOfTurn call = ((leaver : ℕ) × (call ≡ Leave leaver)) ⊎ (((leaver : ℕ) × (call ≡ Decide leaver)) ⊎ (call ≡ Checkpoint))
 

@@ -1,18 +1,17 @@
--- What an engine with a machine of its own is given, and how it keeps its states.
+-- The rows that an engine with its own machine gets, and how it keeps its states.
 use Rattle.std.specs.Prelude.{ℕ, ◌≡◌, ◌≢◌, ◌+◌, ◌<◌, ◌≤◌, List, [], ◌∷◌, ◌++◌, length, take, Option, Some, None}
 use Rattle.std.specs.List.{slice_get}
 use Rattle.c8_game.specs.declared.row.Row.{Row}
 use Rattle.c8_known.specs.Known.{KnownValue}
 use Rattle.c8_known.specs.Confirmed.{confirmed, best_row, best_rows_below}
 
--- The rows that an engine has been given, from frame 0 on, how many of them were confirmed then, and for how many there
--- is room.
+-- The rows that an engine was given, from frame 0 on, how many of them were confirmed then, and how many have room.
 pub record StepsValue : Type 0 where
   pub given : List Row
   pub settled : ℕ
   pub room : ℕ
 
--- What was given as confirmed is confirmed, and equals what a peer with this knowledge has.
+-- The rows that were given as confirmed are confirmed, and equal those of a peer with this knowledge.
 pub record IsTrueTo (k : KnownValue) (s : StepsValue) : Type 0 where
   pub confirmed_is : s.settled ≤ confirmed k
   pub within : s.settled ≤ length s.given
@@ -25,8 +24,8 @@ pub record IsFirstChange (k : KnownValue) (given : List Row) (from : ℕ) : Type
   pub same : take from given ≡ best_rows_below k from
   pub differs : from < length given → from < k.ticks → slice_get given from ≢ Some (best_row k from)
 
--- A step, with the rows given before and after it. It gives the best rows from the first change on: `count` of them, all
--- up to the peer's tick unless they are more than `most`.
+-- A step, with the rows given before and after it. It gives the best rows from the first change on: `count` of them,
+-- all up to the peer's tick unless they are more than `most`.
 pub record IsStepped (k : KnownValue) (most : ℕ) (before after : List Row) (from count : ℕ) : Type 0 where
   pub first : IsFirstChange k before from
   pub few : count ≤ most

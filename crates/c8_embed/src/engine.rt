@@ -1,4 +1,4 @@
-//! One peer inside an engine: its calls, its turns, and what the engine is given of it.
+//! One peer inside an engine: its calls, its turns, and the rows that it gives to the engine.
 ghost use Rattle.std.specs.Prelude.{ℕ, ◌≡◌, ◌≤◌, ◌<◌, ◌+◌, [], IfOk, IfErr, IfSome, OnOk, OnErr, IsErrOf, take, drop, length, Ok, Err};
 ghost use Rattle.c8_wire.specs.checked.Read.{read};
 ghost use Rattle.c8_peer.specs.Asked.{saying_of};
@@ -30,9 +30,9 @@ pub struct Engine<'g, D: Disk> {
     pub(crate) schedule: Schedule,
     /// The next place of this turn at which a datagram may be due; each player has `MOST_DUE` places.
     pub(crate) place: u8,
-    /// Whether the engine was given all best rows, and no call came after that.
+    /// Whether the engine has all best rows, and no call came after that.
     is_told: bool,
-    /// By how many frames each step rolls back for a test.
+    /// How many frames each step rolls back for a test; 0 if there is no test.
     depth: u32,
 }
 
@@ -55,9 +55,9 @@ impl<'g, D: Disk> fmt::Debug for Engine<'g, D> {
 }
 
 impl<'g, D: Disk> Engine<'g, D> {
-    /// Opens the peer of player `me`, as [`Peer::open`] does. The engine was given nothing yet. With `patience` player 1
-    /// drops a player after that many silent turns. Once `interval` frames were confirmed since the last checkpoint, the
-    /// turns record the next one; with 0 they record none.
+    /// Opens the peer of player `me`, as [`Peer::open`] does. The engine has no rows yet. With `patience` player 1
+    /// drops a player after that many silent turns. Once `interval` frames were confirmed since the last checkpoint,
+    /// the turns record the next one; with 0 they record none.
     pub fn open(
         alloc: Global,
         disk: D,
@@ -93,20 +93,20 @@ impl<'g, D: Disk> Engine<'g, D> {
         })
     }
 
-    /// The peer.
+    /// Returns the peer.
     pub fn peer(&self) -> &Peer<'g, D>
         ensures { result.now ≡ self.now.peer }
     {
         &self.peer
     }
 
-    /// For how many turns a player has been silent.
+    /// Returns how many turns a player has been silent.
     pub fn silent(&self, player: Player) -> u64 {
         self.schedule.silent(player)
     }
 
-    /// Whether the match is over for this peer: it knows that it was dropped, or it has rested for more than 120 turns
-    /// after everything was confirmed and acknowledged.
+    /// Returns whether the match is over for this peer: it knows that it was dropped, or it has rested for more than
+    /// 120 turns after everything was confirmed and acknowledged.
     pub fn is_over(&self) -> bool {
         self.peer.dropped() || self.schedule.has_rested()
     }
@@ -123,7 +123,7 @@ impl<'g, D: Disk> Engine<'g, D> {
         self.peer.tick(keys)
     }
 
-    /// Processes a received datagram, as [`Peer::deliver`] does, and notes who is not silent.
+    /// Processes a received datagram, as [`Peer::deliver`] does, and notes that its sender is not silent.
     pub fn deliver(&mut self, bytes: &[u8]) -> Result<Heard, Refused>
         ensures answered { IsAnswered D.Disk self.old.peer (Deliver (read bytes.now)) (Delivered result) self.new.peer }
         ensures steps { self.new.steps ≡ self.old.steps }
@@ -176,8 +176,8 @@ impl<'g, D: Disk> Engine<'g, D> {
         self.peer.checkpoint()
     }
 
-    /// From now on each step rolls back by `depth` frames, as far as they are not confirmed, so that an engine tests its
-    /// own machine. With 0 it rolls back no more than it has to.
+    /// Starts a test of the engine's machine: from now on each step rolls back `depth` frames, unless they are
+    /// confirmed. With 0 a step rolls back only when it must.
     pub fn check(&mut self, depth: u32)
         ensures peer { self.new.peer ≡ self.old.peer }
         ensures steps { self.new.steps ≡ self.old.steps }
@@ -186,7 +186,7 @@ impl<'g, D: Disk> Engine<'g, D> {
         self.depth = depth;
     }
 
-    /// Gives the best rows from the first frame on whose best row the engine was not given, at most `most`. Under a test
+    /// Gives the best rows from the first frame whose best row the engine does not have, at most `most` rows. In a test
     /// it first takes back the last rows. `given` lends the rows.
     pub fn step(&mut self, most: u32) -> Stepped
         ensures peer { self.new.peer ≡ self.old.peer }

@@ -1,4 +1,4 @@
-//! What an engine can rely on, whatever its machine. Each law is the contract of a function that does nothing.
+//! What an engine can rely on, whatever its machine is. Each law is the contract of a function that does nothing.
 ghost use Rattle.std.specs.Prelude.{ℕ, ◌≡◌, ◌+◌, ◌<◌, ◌≤◌, List, length, drop, Some};
 ghost use Rattle.std.specs.List.{slice_get};
 ghost use Rattle.c8_game.specs.declared.row.Row.{Row};
@@ -38,7 +38,7 @@ pub fn an_engine_has_the_run<S>()
         → run step start (rows_below k n) ≡ run step start (rows_below j n) }
 {}
 
-/// What an engine was given as confirmed stays true, whatever call its peer makes.
+/// The rows that an engine was given as confirmed stay true, whatever call its peer makes.
 pub fn what_was_given_stays<D: Disk>()
     ensures { (old new : PeerValue D) (call : Call) (reply : Reply) (s : StepsValue)
         → IsSound D.Disk old → IsCall call → IsAnswered D.Disk old call reply new

@@ -1,4 +1,4 @@
-//! Where the journal of an engine is kept.
+//! The storage of an engine's journal.
 ghost use Rattle.std.specs.Prelude.{◌≤◌};
 
 use c8_disk::SystemFile;
@@ -10,15 +10,16 @@ use std::os::unix::fs::FileExt;
 /// A file for `FileDisk::over`.
 #[derive(Drop)]
 pub enum Medium {
-    /// None: the journal is kept in memory alone. It is empty when it is opened.
+    /// None: the journal is kept in memory only, and is empty when it is opened.
     Memory,
-    /// The descriptor of a regular file that is open to read and write, and that of the folder that has its name. Both are
-    /// closed when it is dropped.
+    /// The descriptors of a regular file that is open to read and write, and of the folder that has its name. Dropping
+    /// the medium closes both.
     File { file: OwnedFd, folder: OwnedFd },
 }
 
 impl Medium {
-    /// Takes two descriptors that nothing else closes. `None` if one of them is negative; then the other one is closed.
+    /// Takes over two descriptors, which nothing else may close. If one of them is negative it closes the other, and
+    /// returns `None`.
     pub fn take(file: i32, folder: i32) -> Option<Medium> {
         let (file, folder) = (owned(file), owned(folder));
         Some(Medium::File {
@@ -36,12 +37,12 @@ fn owned(descriptor: i32) -> Option<OwnedFd> {
     Some(unsafe { OwnedFd::from_raw_fd(descriptor) })
 }
 
-/// The system's last error.
+/// Returns the system's last error.
 fn last_error() -> io::Error {
     io::Error::from_raw_os_error(os::errno())
 }
 
-/// The answer of a call that answers 0 or -1.
+/// Turns the 0 or -1 of a system call into a result.
 fn done(status: i32) -> io::Result<()> {
     if status < 0 {
         Err(last_error())

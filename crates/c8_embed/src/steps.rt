@@ -16,13 +16,13 @@ pub struct Stepped {
     pub count: u32,
 }
 
-/// The rows that an engine was given, which never takes memory once it is made.
+/// The rows that an engine was given. Once made, it takes no more memory.
 #[derive(Drop)]
 pub struct Steps {
     given: Vec<Row>,
     /// How many of the rows were confirmed when they were given.
     settled: u32,
-    /// For how many rows there is memory.
+    /// How many rows have reserved memory.
     room: u32,
 }
 
@@ -49,8 +49,8 @@ impl Steps {
         })
     }
 
-    /// Returns the first frame whose best row is not the one that was given; if there is none, the peer's tick or how many
-    /// rows were given, whichever is less.
+    /// Returns the first frame whose best row differs from the given one. If there is none, it returns the lesser of
+    /// the peer's tick and the number of given rows.
     fn first_change<D: Disk>(&self, peer: &Peer<'_, D>) -> u32
         requires { IsTrueTo (known_by peer.now) self.now }
         ensures { IsFirstChange (known_by peer.now) self.now.given result }
@@ -64,8 +64,8 @@ impl Steps {
         end
     }
 
-    /// Gives the best rows from the first change on, at most `most`. The rest comes with the next step. It looks at the
-    /// frames that were not confirmed in the last step alone.
+    /// Gives the best rows from the first change on, at most `most`; the next step gives the rest. It checks only the
+    /// frames that were not confirmed in the last step.
     pub fn step<D: Disk>(&mut self, peer: &Peer<'_, D>, most: u32) -> Stepped
         requires true_to { IsTrueTo (known_by peer.now) self.old }
         requires room { (known_by peer.now).ticks ≤ self.old.room }
@@ -86,7 +86,7 @@ impl Steps {
         Stepped { from, count }
     }
 
-    /// Takes back the last `depth` rows, but none that was confirmed when it was given.
+    /// Takes back the last `depth` rows, except those that were confirmed when they were given.
     pub fn take_back(&mut self, depth: u32)
         ensures given { self.new.given ≡ take (length self.new.given) self.old.given }
         ensures settled { self.new.settled ≡ self.old.settled }

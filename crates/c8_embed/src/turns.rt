@@ -1,4 +1,4 @@
-//! The turns of an engine's peer: whom it drops, what it records, and what it sends.
+//! The turns of an engine's peer: it drops silent players, records parts of checkpoints, and sends datagrams.
 ghost use Rattle.std.specs.Prelude.{◌≡◌, ◌≤◌, IfSome, take};
 ghost use Rattle.c8_peer.specs.Peer.{IsSaid};
 ghost use Rattle.c8_peer.specs.State.{Saying, Say};
@@ -15,9 +15,10 @@ use c8_wire::LONGEST_DATAGRAM;
 const PLACES: u8 = MOST_DUE * MOST_PLAYERS as u8;
 
 impl<'g, D: Disk> Engine<'g, D> {
-    /// Does what a turn does beside hearing and ticking: player 1 drops players who were silent for too long, and cuts
-    /// those whose drop round is ready; any peer records a part of a checkpoint if one is due. Then the datagrams of this
-    /// turn are due, each by a call of [`Engine::next_datagram`]. If the disk refuses a record the peer is down.
+    /// Makes a turn, except for hearing and ticking. Player 1 drops players who were silent for too long, and cuts
+    /// those whose drop round is ready. Every peer records a part of a checkpoint if one is due. Then
+    /// [`Engine::next_datagram`] returns the datagrams of this turn, one a call. If the disk refuses a record the peer
+    /// is down.
     pub fn turn(&mut self) -> Result<(), DiskError>
         ensures turned { HasTurned D.Disk self.old.peer self.new.peer }
         ensures steps { self.new.steps ≡ self.old.steps }
@@ -31,7 +32,7 @@ impl<'g, D: Disk> Engine<'g, D> {
         Ok(())
     }
 
-    /// Drops the players who have been silent for too long, if this is player 1.
+    /// If this is player 1, drops the players who have been silent for too long.
     fn drop_silent(&mut self) -> Result<(), DiskError>
         ensures turned { HasTurned D.Disk self.old.peer self.new.peer }
         ensures steps { self.new.steps ≡ self.old.steps }
@@ -48,7 +49,7 @@ impl<'g, D: Disk> Engine<'g, D> {
         Ok(())
     }
 
-    /// Cuts the leavers whose drop round is ready, if this is player 1.
+    /// If this is player 1, cuts the leavers whose drop round is ready.
     fn cut(&mut self) -> Result<(), DiskError>
         ensures turned { HasTurned D.Disk self.old.peer self.new.peer }
         ensures steps { self.new.steps ≡ self.old.steps }
@@ -83,8 +84,8 @@ impl<'g, D: Disk> Engine<'g, D> {
         }
     }
 
-    /// Writes the next datagram of this turn to the front of `out`, and returns for whom it is and its length, at most 174
-    /// bytes. `None` once the turn has no more; until the next turn the answer stays `None`.
+    /// Writes the next datagram of this turn to the front of `out`, and returns its addressee and its length, at most
+    /// 174 bytes. Once the turn has no more datagrams it returns `None`, until the next turn.
     pub fn next_datagram(&mut self, out: &mut [u8; LONGEST_DATAGRAM]) -> Option<(Player, usize)>
         ensures same { self.new ≡ self.old }
         ensures said { IfSome result (λ said. (what : Saying)
@@ -104,7 +105,7 @@ impl<'g, D: Disk> Engine<'g, D> {
         None
     }
 
-    /// Ends the turn under way, if one is: the next one begins.
+    /// Ends the present turn, unless it has ended, and begins the next one.
     fn end_turn(&mut self)
         ensures { self.new ≡ self.old }
     {
@@ -115,7 +116,7 @@ impl<'g, D: Disk> Engine<'g, D> {
         }
     }
 
-    /// The player with this number, unless it is this peer's own.
+    /// Returns the player with this number, unless it is this peer's own.
     fn other(&self, number: u8) -> Option<Player>
         ensures { IfSome result (λ player. player.number ≡ number) }
     {

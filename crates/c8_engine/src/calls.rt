@@ -1,6 +1,6 @@
 //! The calls of a session's peer, and its turn.
 ghost use Rattle.std.specs.Prelude.{◌≡◌, ◌≤◌, None};
-ghost use Rattle.c8_engine.specs.Codes.{closed_code};
+ghost use Rattle.c8_engine.specs.Codes.{closed_code, nobody_code};
 ghost use Rattle.c8_engine.specs.Calls.{IfOpen, HasTicked, HasHeard, HasLeft, HasDecided, HasSaved, HasMadeTurn};
 
 use crate::codes::{
@@ -39,6 +39,8 @@ pub extern "C" fn c8_leave(handle: &mut Handle, leaver: u8) -> u32
     ensures closed { handle.old.value ≡ None → (result ≡ closed_code) × (handle.new ≡ handle.old) }
     ensures left { 1 ≤ leaver → leaver ≤ 4
         → IfOpen handle.old.value handle.new.value (λ e f. HasLeft e f leaver result) }
+    ensures nobody { (1 ≤ leaver → leaver ≤ 4 → ⊥) → (handle.old.value ≡ None → ⊥)
+        → (result ≡ nobody_code) × (handle.new ≡ handle.old) }
 {
     if !handle.is_open() {
         return closed_code();
@@ -55,6 +57,8 @@ pub extern "C" fn c8_decide(handle: &mut Handle, leaver: u8) -> u32
     ensures closed { handle.old.value ≡ None → (result ≡ closed_code) × (handle.new ≡ handle.old) }
     ensures decided { 1 ≤ leaver → leaver ≤ 4
         → IfOpen handle.old.value handle.new.value (λ e f. HasDecided e f leaver result) }
+    ensures nobody { (1 ≤ leaver → leaver ≤ 4 → ⊥) → (handle.old.value ≡ None → ⊥)
+        → (result ≡ nobody_code) × (handle.new ≡ handle.old) }
 {
     if !handle.is_open() {
         return closed_code();

@@ -37,6 +37,7 @@ pub struct PlayerState {
 #[unsafe(no_mangle)]
 pub extern "C" fn c8_ticked(handle: &mut Handle) -> u32
     ensures same { handle.new.value ≡ handle.old.value }
+    ensures closed { handle.old.value ≡ None → result ≡ 0 }
     ensures value { IfOpen handle.old.value handle.new.value (λ e f.
         result ≡ ticks e.peer.state.journal) }
 {
@@ -50,6 +51,7 @@ pub extern "C" fn c8_ticked(handle: &mut Handle) -> u32
 #[unsafe(no_mangle)]
 pub extern "C" fn c8_confirmed(handle: &mut Handle) -> u32
     ensures same { handle.new.value ≡ handle.old.value }
+    ensures closed { handle.old.value ≡ None → result ≡ 0 }
     ensures value { IfOpen handle.old.value handle.new.value (λ e f.
         result ≡ confirmed (known_by e.peer)) }
 {
@@ -63,6 +65,7 @@ pub extern "C" fn c8_confirmed(handle: &mut Handle) -> u32
 #[unsafe(no_mangle)]
 pub extern "C" fn c8_epoch(handle: &mut Handle) -> u32
     ensures same { handle.new.value ≡ handle.old.value }
+    ensures closed { handle.old.value ≡ None → result ≡ 0 }
     ensures value { IfOpen handle.old.value handle.new.value (λ e f.
         result ≡ epoch e.peer.state.journal) }
 {
@@ -130,6 +133,9 @@ pub extern "C" fn c8_screen(handle: &mut Handle, out: &mut [u8; 256]) -> u32
 #[unsafe(no_mangle)]
 pub extern "C" fn c8_tone(handle: &mut Handle) -> u32
     ensures same { handle.new.value ≡ handle.old.value }
+    ensures closed { handle.old.value ≡ None → result ≡ 0 }
+    ensures tone { IfOpen handle.old.value handle.new.value (λ e f. result
+        ≡ (run_since e.peer.rules (begun_by e.peer) (best_rows (known_by e.peer))).tone) }
 {
     if !handle.is_open() {
         return 0;

@@ -1,4 +1,4 @@
--- Whose journal some bodies are, and why they are refused.
+-- Which journal some bodies are, and why they are refused.
 use Rattle.std.specs.Prelude.{◌≡◌, ◌≢◌, ◌⊎◌, ℕ, List, Option, Some, None}
 use Rattle.c8_game.specs.Rules.{Rules, id_of}
 use Rattle.c8_check.specs.Checks.{ChecksValue, checks_of}
@@ -8,18 +8,18 @@ use Rattle.c8_record.specs.Replay.{AreJournalBodies, BeginsWithHead, IsFirstBad}
 use Rattle.c8_image.specs.declared.error.JournalError.{JournalError}
 use Rattle.c8_image.specs.declared.error.JournalError.TheVariants.{WrongGame, BadRecord, Memory}
 
--- no room is asked for, or this one
+-- any room is wanted, or this one
 abbrev pub IsAsked : Option ℕ → ℕ → Type 0
 IsAsked None room = Unit {0}
 IsAsked (Some asked) room = asked ≡ room
 
--- a room is asked for, and it is another one
+-- another room is wanted
 abbrev pub IsAnother : Option ℕ → ℕ → Type 0
 IsAnother None room = ⊥
 IsAnother (Some asked) room = asked ≢ room
 
--- The bodies are the journal of a player in a room: those that its HEAD names, of this game and of the room that is asked
--- for, if one is. This is what the journal makes known.
+-- The bodies are a journal of this game, and of the wanted room if there is one. Its HEAD names the player and the
+-- room. This is what the journal makes known.
 pub record IsJournalOf (rules : Rules) (asked : Option ℕ) (bodies : List (List ℕ)) (known : KnownValue) : Type 0 where
   pub me : ℕ
   pub room : ℕ
@@ -28,7 +28,7 @@ pub record IsJournalOf (rules : Rules) (asked : Option ℕ) (bodies : List (List
   pub journal : AreJournalBodies rules me room bodies
   pub known_is : known ≡ known_of rules me (records_of bodies)
 
--- The same, with the room that the HEAD names and what the journal says of checkpoints.
+-- such a journal, with the room that the HEAD names and the checkpoints
 pub record IsKept (rules : Rules) (asked : Option ℕ) (bodies : List (List ℕ)) (room : ℕ) (known : KnownValue) (checks : ChecksValue) : Type 0 where
   pub head : BeginsWithHead bodies known.me (id_of rules) room
   pub asked_is : IsAsked asked room
@@ -40,8 +40,8 @@ pub record IsKept (rules : Rules) (asked : Option ℕ) (bodies : List (List ℕ)
 abbrev pub HasNoHead : List (List ℕ) → Type 0
 HasNoHead bodies = (player : ℕ) (id : List ℕ) (room : ℕ) → BeginsWithHead bodies player id room → ⊥
 
--- Why bodies are refused: the first is a HEAD of another game or of another room than is asked for; or there is no HEAD; or
--- body n is the first that the journal of the HEAD's player and room may not have there; or memory ran out.
+-- Why bodies are refused: the first is a HEAD of another game or of another room than the wanted one; or there is no
+-- HEAD; or body n is the first that a journal of the HEAD's player and room may not have there; or memory ran out.
 abbrev pub IsRefusalOfJournal : Rules → Option ℕ → List (List ℕ) → JournalError → Type 0
 IsRefusalOfJournal rules asked bodies WrongGame =
     (player : ℕ) × (id : List ℕ) × (room : ℕ) × BeginsWithHead bodies player id room × ((id ≢ id_of rules) ⊎ IsAnother asked room)

@@ -1,4 +1,4 @@
-//! Why an image keeps no journal that can be read.
+//! Why the journal in an image is refused.
 
 ghost use Rattle.std.specs.Prelude.{◌≡◌};
 ghost use Rattle.c8_image.specs.Errors.{journal_error_number};
@@ -23,10 +23,10 @@ pub enum Unfit {
 /// Why a journal is refused.
 #[derive(Clone, Copy, Debug, PartialEq, Eq, Error)]
 pub enum JournalError {
-    /// It begins with a HEAD of another game, or of another room than is asked for.
+    /// It begins with a HEAD of another game, or of a room other than the wanted one.
     #[error("a journal of another game or room")]
     WrongGame,
-    /// The record of this number, counted from 0, is the first that may not stand there.
+    /// The record with this number, counted from 0, is the first that is not allowed at its place.
     #[error("record {0}: {1}")]
     BadRecord(usize, Unfit),
     #[error("out of memory")]
@@ -34,7 +34,7 @@ pub enum JournalError {
 }
 
 impl JournalError {
-    /// The number of the refusal: that of the opening of a peer.
+    /// Returns the number of the refusal: that of the opening of a peer.
     pub fn number(self) -> u8
         ensures { result ≡ journal_error_number self }
     {
@@ -45,7 +45,7 @@ impl JournalError {
         }
     }
 
-    /// The name of the refusal.
+    /// Returns the name of the refusal.
     pub fn name(self) -> &'static str {
         match self {
             JournalError::WrongGame => "WrongGame",

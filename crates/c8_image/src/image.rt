@@ -8,7 +8,7 @@ use std::fs;
 use std::io::{ErrorKind, Read};
 use std::rt::Files;
 
-/// How many bytes a journal may have at most: as many as a peer writes.
+/// The most bytes of a journal: as many as a peer writes.
 pub const LONGEST_IMAGE: u64 = 1_073_741_824;
 
 /// Reads the bytes of a journal's file. It does not lock the file, so a peer may be writing to it.

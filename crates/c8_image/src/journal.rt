@@ -28,14 +28,14 @@ struct Head {
 pub struct KeptJournal {
     /// The room that its HEAD names.
     pub room: u64,
-    /// What it makes known; its player is the one that the HEAD names.
+    /// What it makes known. The player is the one that the HEAD names.
     pub known: Known,
-    /// What it says of checkpoints.
+    /// Its checkpoints.
     pub checks: Checks,
 }
 
-/// What is known by the journal that the bytes of an image keep: that of a player of the game, in the room that is asked
-/// for, if one is. A checkpoint in it changes nothing. The errors are those of [`journal_in`].
+/// Returns what the journal in an image makes known. It must be of a player of the game, and of `room` if that is a
+/// number. Its checkpoints change nothing. The errors are those of [`journal_in`].
 pub fn known_in(
     alloc: Global,
     game: &Game,
@@ -54,9 +54,9 @@ pub fn known_in(
     Ok(known)
 }
 
-/// The journal that the bytes of an image keep: that of a player of the game, in the room that is asked for, if one is. The
-/// errors are checked in this order: no HEAD, `WrongGame`, the HEAD of an absent player, `Memory`, the first record that may
-/// not stand there.
+/// Reads the journal in an image. It must be of a player of the game, and of `room` if that is a number. Errors are
+/// checked in this order: no HEAD, `WrongGame`, the HEAD of an absent player, `Memory`, the first record that is not
+/// allowed at its place.
 pub fn journal_in(
     alloc: Global,
     game: &Game,
@@ -90,7 +90,7 @@ pub fn journal_in(
     }
 }
 
-/// The HEAD of a journal of the game, in the room that is asked for, if one is.
+/// Reads the HEAD of a journal of the game, and of `room` if that is a number.
 fn head_of(game: &Game, asked: Option<u64>, image: &[u8]) -> Result<Head, JournalError>
     ensures { MatchResult result
         (λ head. BeginsWithHead (kept image.now) head.player.number (id_of game.now) head.room
@@ -118,7 +118,7 @@ fn head_of(game: &Game, asked: Option<u64>, image: &[u8]) -> Result<Head, Journa
     Ok(Head { player, room })
 }
 
-/// Whether a room is asked for, and this is another one.
+/// Returns whether `room` is a number other than this room.
 fn is_another(asked: Option<u64>, room: u64) -> bool
     ensures { MatchBool result (IsAnother asked room) (IsAsked asked room) }
 {
@@ -128,7 +128,7 @@ fn is_another(asked: Option<u64>, room: u64) -> bool
     }
 }
 
-/// Why a record after the first is refused.
+/// Returns why a record after the first is refused.
 fn why_unfit(image: &[u8], n: usize) -> Unfit
     requires { n < length (kept image.now) }
 {

@@ -1,7 +1,7 @@
 //! The journal that the bytes of a file keep, read without locking or changing the file.
 //!
-//! [`read_image`] reads the bytes. [`journal_in`] reads the journal that they keep: whose it is, what it makes known, and what it
-//! says of checkpoints; or why it is refused. The definitions are in `specs/Journal.antt`.
+//! [`read_image`] reads the bytes. [`journal_in`] reads the journal that they keep: its player and room, what it makes
+//! known, and its checkpoints; or it returns why it refuses them. The definitions are in `specs/Journal.antt`.
 #![tactic(auto)]
 
 mod error;

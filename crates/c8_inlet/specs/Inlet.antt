@@ -3,7 +3,7 @@ use Rattle.std.specs.Prelude.{ℕ, List}
 use Rattle.std.specs.Global.{Global}
 use denote.RawPtr.{Ptr}
 
--- which inlet it is: how many packets it has room for, and what tells it from others; both ends have the same
+-- the identity of an inlet: its room in packets, and what distinguishes it from others; both ends have the same
 pub record InletId : Type 0 where
   pub places : ℕ
   pub marks : ℕ × ℕ

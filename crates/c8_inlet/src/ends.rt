@@ -37,7 +37,7 @@ impl Model for Taker {
     ghost view = { λ t. taker_seen t.consumer };
 }
 
-/// What a finished putter leaves: it knows all packets that were ever put. It can move to the taker's thread.
+/// The rest of a finished putter. It knows all packets that were ever put, and can move to the taker's thread.
 #[derive(Drop)]
 pub struct Ended {
     finished: Finished<Packet>,

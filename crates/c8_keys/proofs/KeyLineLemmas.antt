@@ -83,12 +83,12 @@ bad_here rules text before line after place cut here faultless left bad =
     let none : key_line_fault rules before line ≡ Some Line = rw (lt-leb rules.frames (length before) left, bad) refl in
     rw (cut, here) (Line, first_placed (key_line_fault rules) before line after Line faultless none)
 
--- what is not there is not spelled
+-- if no row is found, the property of that case holds
 pub unspelt : (found : Option Row) (P : Type 0) (Q : Row → Type 0) → ((row : Row) → found ≡ Some row → ⊥) → MatchOption found P Q → P
 unspelt None P Q nothing why = why
 unspelt (Some row) P Q nothing why = absurd (nothing row refl)
 
--- what holds of something that is there, and what holds if nothing is
+-- cases of an option: a property of its value, and one that holds without a value
 pub found_some : {X : Type 0} (found : Option X) (P : Type 0) (Q : X → Type 0) (R : Type 0) → is_some found ≡ true → MatchOption found P Q → ((x : X) → Q x → R) → R
 found_some None P Q R some what then = absurd (cc)
 found_some (Some x) P Q R some what then = then x what

@@ -18,8 +18,8 @@ use std::io;
 use std::io::Write;
 use std::rt::Files;
 
-/// Plays the game of one file by the key lines of another, as `run` does with their texts. If a file cannot be read,
-/// the refusal is the disk's, whatever the other file says. The error is a writer's.
+/// Reads a game and key lines from two files, and plays them as [`run`] does. If a file cannot be read, the refusal is
+/// the disk's, whatever the other file says. The error is a writer's.
 pub fn run_files<R, W: Write, E: Write>(
     rt: &R,
     game: &str,
@@ -46,7 +46,7 @@ where
     }
 }
 
-/// Why the texts of two files were not read.
+/// Returns why the texts of two files were not read.
 fn unread(error: TextsError) -> Refusal {
     match error {
         TextsError::FirstFailed | TextsError::SecondFailed => Refusal::DISK,

@@ -20,7 +20,7 @@ pub enum KeysError {
 }
 
 impl KeysError {
-    /// The number of the refusal.
+    /// Returns the number of the refusal.
     pub fn number(self) -> u8
         ensures { result ≡ keys_error_number self }
     {
@@ -31,7 +31,7 @@ impl KeysError {
         }
     }
 
-    /// The name of the refusal.
+    /// Returns the name of the refusal.
     pub fn name(self) -> &'static str {
         match self {
             KeysError::Line => "Line",

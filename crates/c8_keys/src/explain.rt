@@ -7,7 +7,7 @@ use c8_command::{Site, Text};
 use c8_game::{Game, GameError, Lines};
 use std::alloc::Global;
 
-/// Where the fault is that makes `run` refuse its two texts.
+/// Finds the fault for which `run` refuses its two texts.
 pub(crate) fn site_of<'a>(
     alloc: Global,
     game: Text<'a>,
@@ -23,7 +23,7 @@ pub(crate) fn site_of<'a>(
     }
 }
 
-/// Where the fault of a game's text is: its first faulty line, or the file if no line is at fault.
+/// Finds the fault of a game's text: its first faulty line, or the file if no line is at fault.
 pub fn game_site<'a>(alloc: Global, game: Text<'a>, error: GameError) -> Site<'a> {
     if error == GameError::Memory {
         return Site::File(game.file);
@@ -31,12 +31,12 @@ pub fn game_site<'a>(alloc: Global, game: Text<'a>, error: GameError) -> Site<'a
     site_at(game, Game::faulty_line(alloc, game.bytes).unwrap_or(None))
 }
 
-/// Where the first line of a text is that is not four hexadecimal digits.
+/// Finds the first line of a text that is not four hexadecimal digits.
 pub fn key_sets_site(keys: Text<'_>) -> Site<'_> {
     site_at(keys, faulty_key_set(keys.bytes))
 }
 
-/// The line of a text at a place, if there is one; otherwise the file.
+/// Returns the line of a text at a place, if there is one; otherwise the file.
 fn site_at(text: Text<'_>, place: Option<usize>) -> Site<'_> {
     match place {
         Some(place) => Site::line(text.file, place, Lines::at(text.bytes, place)),

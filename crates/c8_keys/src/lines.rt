@@ -16,7 +16,7 @@ pub struct Played {
     pub machine: Machine,
 }
 
-/// Plays one frame for each line of `keys`, starting with the game's first machine. Lines are checked in order, each
+/// Plays one frame for each line of `keys`, starting with the game's first machine. Checks the lines in order, each
 /// first for `Long`, then for `Line`.
 pub fn play(game: &Game, keys: &[u8]) -> Result<Played, KeysError>
     ensures { MatchResult result (IsRunOf game.now keys.now) (IsFaultOf game.now keys.now) }
@@ -38,7 +38,8 @@ pub fn play(game: &Game, keys: &[u8]) -> Result<Played, KeysError>
     Ok(played)
 }
 
-/// The place of the first line of `keys` that `play` refuses; the first line is at 0. `None` if it plays them all.
+/// Returns the place of the first line of `keys` that `play` refuses; the first line is at 0. `None` if it plays them
+/// all.
 pub fn faulty_key_line(game: &Game, keys: &[u8]) -> Option<usize>
     ensures { MatchOption result
         (AreFaultless (key_line_fault game.now) (lines keys.now))
@@ -57,7 +58,7 @@ pub fn faulty_key_line(game: &Game, keys: &[u8]) -> Option<usize>
     None
 }
 
-/// The row that a key line spells: four digits for each player, and one space between two players.
+/// Returns the row that a key line spells: four digits for each player, and one space between two players.
 fn row_in(line: &[u8], players: u8) -> Option<Row>
     requires { players ≤ 4 }
     ensures { MatchOption result
@@ -74,7 +75,7 @@ fn row_in(line: &[u8], players: u8) -> Option<Row>
     Some(Row { sets })
 }
 
-/// The key set of the player at a place of a line; player 1 is at 0.
+/// Returns the key set of the player at a place of a line; player 1 is at 0.
 fn keys_at(line: &[u8], place: usize) -> Option<Keys>
     requires { 5 * place + 4 ≤ length line.now }
     ensures { MatchOption result

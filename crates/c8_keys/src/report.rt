@@ -59,7 +59,7 @@ fn write_screen<W: Write>(out: &mut W, screen: &Screen) -> io::Result<()> {
     Ok(())
 }
 
-/// The 64 points of row `y`, column 0 first, and a line feed.
+/// Returns the 64 points of row `y`, column 0 first, and a line feed.
 fn row_text(screen: &Screen, y: u8) -> [u8; 65]
     requires { y < 32 }
     ensures points { (x : ℕ) → x < 64

@@ -25,8 +25,8 @@ pub fn key_sets(alloc: Global, text: &[u8]) -> Result<Vec<Keys>, KeysError>
     Ok(sets)
 }
 
-/// The place of the first line of a text that is not four hexadecimal digits; the first line is at 0. `None` if there
-/// is no such line.
+/// Returns the place of the first line of a text that is not four hexadecimal digits; the first line is at 0. `None` if
+/// there is no such line.
 pub fn faulty_key_set(text: &[u8]) -> Option<usize>
     ensures { MatchOption result
         (AreFaultless set_fault (lines text.now)) (IsFirstPlace set_fault (lines text.now)) }

@@ -30,7 +30,7 @@ entered_in [] answers = []
 entered_in (call ∷ calls) [] = []
 entered_in (call ∷ calls) (answer ∷ answers) = entered_by call.0 answer ++ entered_in calls answers
 
--- The peer has run on, and its player entered these key sets by that, in this order.
+-- The peer ran on, and its player entered these key sets meanwhile, in this order.
 pub record HasEntered {D : Type 0} (disk : DiskGhosts D) (words : List ℕ) (old new : PeerValue D) : Type 0 where
   pub ran : HasRunOn disk old new
   pub entered : entered_in ran.calls ran.answers ≡ words

@@ -1,4 +1,4 @@
-//! The thread that owns the peer, so that the machine never waits for the network.
+//! The machine's thread: it owns the peer, and never waits for the network.
 ghost use Rattle.std.specs.Prelude.{◌≡◌, ◌≤◌, ℕ, List, length, vec_len, IfOk, IfErr};
 ghost use Rattle.std.specs.List.{All};
 ghost use Rattle.c8_board.specs.Starts.{RunValue, start_of, origin_from};
@@ -29,7 +29,7 @@ use std::alloc::{AllocError, Global};
 
 /// A source of a player's key sets, one a turn.
 pub trait KeySource {
-    /// The key set to enter in the next turn, or `None` to leave out the tick.
+    /// Returns the key set to enter in the next turn, or `None` to leave out the tick.
     fn next_keys(&mut self) -> Option<Keys>;
 
     /// Notes that the peer took the last key set of `next_keys`. Without this call the peer refused it, and the source

@@ -1,4 +1,4 @@
-//! The thread that moves packets, so that the network never waits for the machine.
+//! The network's thread: it moves packets, and never waits for the machine.
 ghost use Rattle.std.specs.Prelude.{◌≡◌, ◌≤◌, length};
 ghost use Rattle.c8_live.specs.Parts.{IsHandedOn};
 ghost use Rattle.c8_transport.specs.Wire.{MayTake};
@@ -137,7 +137,7 @@ fn send<W: Wire>(wire: &mut W, bytes: &[u8]) -> Result<(), WireFailed>
     }
 }
 
-/// The addressee of a datagram.
+/// Returns the addressee of a datagram.
 fn addressee(bytes: &[u8]) -> Option<Seat> {
     match view(bytes) {
         Ok(datagram) => Some(datagram.header().to()),

@@ -65,29 +65,30 @@ impl<'g, D: Disk> Session<'g, D> {
         }
     }
 
-    /// The peer.
+    /// Returns the peer.
     pub fn peer(&self) -> &Peer<'g, D>
         ensures { result.now ≡ self.now.peer }
     {
         &self.peer
     }
 
-    /// The number of frames of the game.
+    /// Returns the number of frames of the game.
     pub fn frames(&self) -> u32 {
         self.schedule.frames()
     }
 
-    /// The rollbacks of the last `turn` or `listen`.
+    /// Returns the rollbacks of the last `turn` or `listen`.
     pub fn rollbacks(&self) -> Rollbacks {
         self.rollbacks
     }
 
-    /// How many turns have begun since a datagram of the player was last admitted, or since the start.
+    /// Returns how many turns have begun since a datagram of the player was last admitted, or since the start.
     pub fn silent(&self, player: Player) -> u64 {
         self.schedule.silent(player)
     }
 
-    /// Whether the session is done: the peer knows that it was dropped, or it has rested for more than 120 turns.
+    /// Returns whether the session is done: the peer knows that it was dropped, or it has rested for more than 120
+    /// turns.
     pub fn is_over(&self) -> bool
         ensures { IsTrue result ↔ IsOver self.now }
     {
@@ -285,7 +286,7 @@ impl<'g, D: Disk> Session<'g, D> {
         }
     }
 
-    /// The player with this number, unless it is this peer's own.
+    /// Returns the player with this number, unless it is this peer's own.
     fn other(&self, number: u8) -> Option<Player>
         ensures { IfSome result (λ player. player.number ≡ number) }
     {

@@ -1,4 +1,4 @@
-//! Whole games, played by one thread that gives the sessions turns in order.
+//! Whole games that one thread plays: it lets the sessions make turns in order.
 use crate::letter::Letter;
 use crate::players::{FOUR, Hand, THREE, TWO, session_of};
 use crate::table::{none_is, place_of};
@@ -11,10 +11,10 @@ use c8_wire::Seat;
 use std::alloc::Global;
 use std::test::Fail;
 
-/// After how many silent turns player 1 drops a player here.
+/// The silent turns after which player 1 drops a player in these games.
 const PATIENCE: u32 = 60;
 
-/// The player who becomes silent, and its place.
+/// The player who stops, and its place.
 const LEAVER: Player = Player { number: 3 };
 
 const LEAVER_PLACE: usize = 2;
@@ -311,8 +311,8 @@ fn is_dropped(alloc: Global, all: &Match<'_>) -> bool {
         && ends_by(alloc, &three.session, b"dropped by player 1\n")
 }
 
-/// Player 3 becomes silent; the others cut it at one length and end with one machine. When it speaks again it learns
-/// that it was dropped.
+/// Player 3 stops sending. The others cut it at one length and end with one machine. When it sends again it learns that
+/// it was dropped.
 fn drops_the_silent(alloc: Global, lost: u32) -> bool {
     let Ok(game) = Game::read(alloc, THREE.as_bytes()) else {
         return false;

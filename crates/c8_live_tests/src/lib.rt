@@ -1,4 +1,4 @@
-//! Tests of c8_live's session, and of the lines that it prints.
+//! Tests of c8_live's session and of its printed lines.
 //!
 //! `turns` plays scripts: what the other players send before each turn, and all that the turn sends. `games` plays
 //! whole games in one thread, `faults` has what ends a session, and `lines` the progress line. Functions without

@@ -24,9 +24,9 @@ pub(crate) enum Step {
     Sends(u8, u8, u8),
     /// A player says a datagram of this kind, and it is kept.
     Keeps(u8, u8),
-    /// The kept datagram waits for the next turn, with one bit of this byte changed.
+    /// The kept datagram waits for the next turn again, with one bit of this byte changed.
     Repeats(usize),
-    /// This many packets wait that are no datagrams.
+    /// This many packets that are no datagrams wait for the next turn.
     Noise(u16),
     /// A player enters a key set.
     Enters(u8, u16),

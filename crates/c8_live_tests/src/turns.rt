@@ -1,4 +1,4 @@
-//! What each turn sends, to whom and in which order: each script has all that its turns send.
+//! The datagrams of each turn, their addressees and their order. Each script lists everything that its turns send.
 use crate::players::{FOUR, THREE, TWO};
 use crate::step::Step::{
     Enters, GivesUp, Keeps, Listens, Noise, Plays, Prints, Repeats, Restarts, Sends, Shows, Silent,

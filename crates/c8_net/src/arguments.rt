@@ -22,12 +22,14 @@ pub struct Asked<'m, 'a> {
     pub watchers: [Option<&'a str>; MOST_WATCHERS],
     /// The path of the players' secret, if the match has one.
     pub secret: Option<&'a str>,
+    /// The text of the players' secret, if it was not read from a file.
+    pub digits: Option<&'m [u8]>,
     /// The path of the watchers' secret, if the match has one; for player 1 only.
     pub watch_secret: Option<&'a str>,
     pub room: u64,
     /// Whether the command line names the room.
     pub has_room: bool,
-    /// How many turns the session makes at most.
+    /// The most turns of the session.
     pub turns: u64,
     /// How many silent turns make player 1 drop a player; `None` for never.
     pub patience: Option<u64>,
@@ -37,6 +39,10 @@ pub struct Asked<'m, 'a> {
     pub checkpoint: u32,
     /// Whether to print each second how far the peer is.
     pub progress: bool,
+    /// Whether to print at the end how the match ended.
+    pub says_end: bool,
+    /// Whether the terminal's bell stays silent when a tone begins.
+    pub is_muted: bool,
     /// Whether to print a second line that says where a refusal's fault is.
     pub explain: bool,
 }
@@ -45,7 +51,7 @@ pub struct Asked<'m, 'a> {
 const NO_JOURNAL: &str = "-";
 
 impl Asked<'_, '_> {
-    /// Whether the journal is kept in memory, and lost at the end.
+    /// Returns whether the journal is kept in memory, and lost at the end.
     pub fn has_no_journal(&self) -> bool {
         self.journal == NO_JOURNAL
     }
@@ -60,7 +66,7 @@ impl Asked<'_, '_> {
     }
 }
 
-/// The command `peer` with its arguments and options.
+/// Returns the command `peer` with its arguments and options.
 pub fn peer_command<'a>(alloc: Global) -> Result<Command<'a>, AllocError> {
     let command = Command::new(alloc, "peer")
         .about(
@@ -163,13 +169,13 @@ pub fn number<'a>(alloc: Global, name: &'a str, help: &'a str) -> Arg<'a> {
         .value_parser(value_parser!(u64))
 }
 
-/// What a parsed command line asks for; the parser has checked that each argument is there and in its range.
+/// Returns what a parsed command line asks for. The parser has checked that each argument is present and in range.
 pub(crate) fn asked_of<'m, 'a>(given: &'m ArgMatches<'a>) -> Option<Asked<'m, 'a>> {
     let player = Player::new(given.get_one::<u8>("PLAYER")?)?;
     Some(asked_for(given, player))
 }
 
-/// What a parsed command line asks for, with the player given.
+/// Returns what a parsed command line asks for, for this player.
 pub fn asked_for<'m, 'a>(given: &'m ArgMatches<'a>, player: Player) -> Asked<'m, 'a> {
     Asked {
         game: word_of(given, "GAME"),
@@ -179,6 +185,7 @@ pub fn asked_for<'m, 'a>(given: &'m ArgMatches<'a>, player: Player) -> Asked<'m,
         remotes: given.get_strs("REMOTE"),
         watchers: [given.get_str("watch5"), given.get_str("watch6")],
         secret: given.get_str("secret"),
+        digits: None,
         watch_secret: given.get_str("watch-secret"),
         room: number_of(given, "room").unwrap_or(0),
         has_room: given.contains_id("room"),
@@ -187,6 +194,8 @@ pub fn asked_for<'m, 'a>(given: &'m ArgMatches<'a>, player: Player) -> Asked<'m,
         stop: number_of(given, "stop"),
         checkpoint: interval_of(number_of(given, "checkpoint").unwrap_or(0)),
         progress: given.get_flag("progress"),
+        says_end: given.get_flag("progress"),
+        is_muted: true,
         explain: is_explained(given),
     }
 }
@@ -196,7 +205,7 @@ fn interval_of(frames: u64) -> u32 {
     u32::try_from(frames).unwrap_or(u32::MAX)
 }
 
-/// The number of an option, or its default.
+/// Returns the number of an option, or its default.
 pub fn number_of(given: &ArgMatches<'_>, name: &str) -> Option<u64> {
     given.get_one::<u64>(name)
 }

@@ -109,7 +109,8 @@ impl<'a> Fault<'a> {
         }
     }
 
-    /// Where the fault is: the line of the file, if it is in one; the word that is no address, if that is the fault.
+    /// Returns where the fault is: the line of the file, if it is in one; the word that is no address, if that is the
+    /// fault.
     pub(crate) fn site<'s>(&'s self, alloc: Global, no_address: Option<&'s str>) -> Site<'s> {
         let (file, bytes) = (self.file, self.text.as_slice());
         let text = Text { file, bytes };
@@ -151,7 +152,7 @@ where
     }
 }
 
-/// The site of an address that cannot be read, in place of a file; no site if the word is empty.
+/// Returns the site of an address that cannot be read, in place of a file; no site if the word is empty.
 fn address_site<'a>(no_address: Option<&'a str>) -> Site<'a> {
     match no_address {
         Some(word) if !word.is_empty() => Site::File(word),

@@ -30,7 +30,7 @@ const CALLS_OF_OPENING: u32 = 16;
 /// How many syncs are timed.
 const TIMED: u32 = 3;
 
-/// How many syncs a frame of a match of two takes at most: two of each record, and a record of each player.
+/// The most syncs of a frame in a match of two: two for each record, and one record for each player.
 const SYNCS_OF_FRAME: u32 = 4;
 
 /// How many frames a second has.
@@ -135,8 +135,8 @@ fn syncs_at<R: Files<File = File> + Clock>(rt: &R, path: &str) -> Option<Duratio
     Some(rt.monotonic().ok()?.saturating_sub(begun))
 }
 
-/// Returns how many milliseconds the journal needs in each frame of a match of two, by the measured syncs. `None` if
-/// that fits a frame.
+/// Returns how many milliseconds the journal needs in each frame of a match of two, if a sync takes this long. `None`
+/// if that fits a frame.
 pub fn slow_frame(sync: Duration) -> Option<u128> {
     let frame = sync.saturating_mul(SYNCS_OF_FRAME);
     if frame > Duration::from_secs(1) / RATE {

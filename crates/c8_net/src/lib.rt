@@ -28,6 +28,7 @@ pub use error::{PeerError, Unopened};
 pub use fault::{Fault, game_at};
 pub use journal::slow_frame;
 pub use line::Line;
+pub use pace::Pace;
 pub use performance::{Ended, Performance};
 pub use play::{Prepared, Unprepared, perform_on, play_on, prepare};
 pub use watching::{WatchAsked, watch, watch_command, watch_given, watch_on};

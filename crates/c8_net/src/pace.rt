@@ -15,7 +15,7 @@ const MOST_LOOKS: u16 = 5000;
 /// the turn's datagrams, and the game thread sleeps. The net thread waits at its wire. The game thread ends when the
 /// net thread has ended. The net thread ends one turn after the game thread, so that it sends the last datagrams.
 #[derive(Drop)]
-pub(crate) struct Pace<'r, R> {
+pub struct Pace<'r, R> {
     rt: &'r R,
     /// Ends the wait of the net thread, if there is one.
     bell: Option<Bell>,
@@ -26,7 +26,8 @@ pub(crate) struct Pace<'r, R> {
 }
 
 impl<'r, R: Clock> Pace<'r, R> {
-    pub(crate) fn new(rt: &'r R, bell: Option<Bell>) -> Pace<'r, R> {
+    /// Neither thread has ended. `bell` ends the wait of the net thread, if there is one.
+    pub fn new(rt: &'r R, bell: Option<Bell>) -> Pace<'r, R> {
         Pace {
             rt,
             bell,
@@ -55,7 +56,7 @@ impl<'r, R: Clock> Pace<'r, R> {
     }
 
     /// Notes that a worker has ended.
-    pub(crate) fn end(&self, worker: Worker) {
+    pub fn end(&self, worker: Worker) {
         match worker {
             Worker::Net => self.is_net_over.store(true, Ordering::SeqCst),
             Worker::Game => {
@@ -72,7 +73,7 @@ impl<'r, R: Clock> Pace<'r, R> {
         }
     }
 
-    /// Whether the game thread has ended.
+    /// Returns whether the game thread has ended.
     pub(crate) fn is_game_over(&self) -> bool {
         self.is_game_over.load(Ordering::SeqCst)
     }

@@ -93,7 +93,7 @@ pub fn prepare<I: Read + Drop>(
     }
 }
 
-/// The key sets of a reader's whole text.
+/// Returns the key sets of a reader's whole text.
 fn keys_in<I: Read + Drop>(alloc: Global, input: I) -> Result<Vec<Keys>, Unprepared>
     ensures sets { IfOk result (λ sets. IfSome (I.remaining input)
         (λ bytes. AreSetsOf bytes sets.items)) }
@@ -113,7 +113,7 @@ fn keys_in<I: Read + Drop>(alloc: Global, input: I) -> Result<Vec<Keys>, Unprepa
 }
 
 /// Plays a match on the disk of the own journal, in threads. It opens the journal first, then the socket, and makes
-/// turns until the session is over, its turns are made, or as many frames are confirmed as `--stop` asks for. The
+/// turns until the session is over, its turns are made, or the frames of `--stop` are confirmed. The
 /// caller's thread makes the turns, one thread moves packets, and one prints the progress. Returns the confirmed
 /// machine, which began at the last checkpoint that was found; if that is true, it is the machine of the serial run.
 pub fn play_on<R, D, E>(
@@ -212,7 +212,7 @@ where
     }
 }
 
-/// The outcome of a session after its last turn, in terms of the journal that was found.
+/// Returns the outcome of a session after its last turn, in terms of the journal that was found.
 fn outcome_of<D: Disk + Drop, E: Write>(
     asked: &Asked<'_, '_>,
     ended: Ended<'_, D>,
@@ -232,7 +232,7 @@ fn outcome_of<D: Disk + Drop, E: Write>(
         Ok(made) => made,
         Err(error) => return Err(PeerError::from(error)),
     };
-    if asked.progress {
+    if asked.says_end {
         let _ = tell_end(progress, made, &session);
     }
     machines_begin_where_they_did::<D>();
@@ -244,7 +244,7 @@ fn outcome_of<D: Disk + Drop, E: Write>(
     })
 }
 
-/// The session of a peer; it shows the match to the watchers in seats 5 and 6 that have an address.
+/// Returns the session of a peer; it shows the match to the watchers in seats 5 and 6 that have an address.
 fn session_of<'g, D: Disk>(peer: Peer<'g, D>, game: &Game, asked: &Asked<'_, '_>) -> Session<'g, D>
     ensures { result.peer ≡ peer.entry }
 {

@@ -2,7 +2,7 @@
 
 use crate::arguments::Asked;
 use crate::error::PeerError;
-use crate::fault::{Fault, Why};
+use crate::fault::{Fault, INPUT, Why};
 use c8_command::TextError;
 use c8_disk::DiskError;
 use c8_game::Game;
@@ -36,8 +36,8 @@ where
     Ok(())
 }
 
-/// The seal of a player, if the match has a secret. Faults are found in this order: the players' secret, that of the
-/// watchers, watchers without a secret of their own (`Remotes`).
+/// Returns the seal of a player, if the match has a secret. Faults are found in this order: the players' secret, that
+/// of the watchers, watchers without a secret of their own (`Remotes`).
 pub(crate) fn seal_at<'a, R>(
     rt: &R,
     asked: &Asked<'_, 'a>,
@@ -46,10 +46,11 @@ pub(crate) fn seal_at<'a, R>(
 where
     R: Files<File = File> + AllocGlobal,
 {
-    let Some(path) = asked.secret else {
-        return Ok(None);
+    let players = match (asked.digits, asked.secret) {
+        (Some(digits), _) => digits_read(rt.alloc(), digits)?,
+        (None, Some(path)) => secret_at(rt, path)?,
+        (None, None) => return Ok(None),
     };
-    let players = secret_at(rt, path)?;
     let secrets = match asked.watch_secret {
         None => Secrets {
             players: Some(players),
@@ -71,7 +72,7 @@ where
     Ok(Some(seal_of(&secrets, Seat::from(asked.player), game.session(asked.room))))
 }
 
-/// The seal of a watcher, if the match has a secret for watchers.
+/// Returns the seal of a watcher, if the match has a secret for watchers.
 pub(crate) fn watch_seal_at<'a, R>(
     rt: &R,
     path: Option<&'a str>,
@@ -99,7 +100,12 @@ fn seal_of(secrets: &Secrets, seat: Seat, session: u64) -> Seal {
     }
 }
 
-/// The secret in a file.
+/// The secret that standard input gave.
+fn digits_read<'a>(alloc: Global, digits: &[u8]) -> Result<Secret, Fault<'a>> {
+    Secret::read(digits).map_err(|error| Fault::new(alloc, PeerError::Secret(error), INPUT))
+}
+
+/// Returns the secret in a file.
 fn secret_at<'a, R>(rt: &R, path: &'a str) -> Result<Secret, Fault<'a>>
 where
     R: Files<File = File> + AllocGlobal,
@@ -107,7 +113,7 @@ where
     secret_in(rt, path).map_err(|fault| secret_fault(rt.alloc(), fault, path))
 }
 
-/// The fault of a secret's file that was not read.
+/// Returns the fault of a secret's file that was not read.
 fn secret_fault<'a>(alloc: Global, fault: SecretFault, path: &'a str) -> Fault<'a> {
     match fault {
         SecretFault::Refused(error) => Fault::new(alloc, PeerError::Secret(error), path),

@@ -254,8 +254,8 @@ fn move_packets<R: Clock + Wait, W: Wire + Drop>(
     moved
 }
 
-/// Runs the viewer's thread until the game thread has ended: it asks for the end once as many frames are confirmed as
-/// `--stop` asks for, and prints the progress if asked for.
+/// Runs the viewer's thread until the game thread has ended. It asks for the end once the frames of `--stop` are
+/// confirmed. With `--progress` it prints the progress.
 fn watch<R: Clock + Wait, E: Write>(
     rt: &R,
     asked: &Asked<'_, '_>,
@@ -291,7 +291,7 @@ impl<'b> Onlooker<'b> {
     }
 }
 
-/// The time since the clock's start; 0 if the clock cannot be read.
+/// Returns the time since the clock's start; 0 if the clock cannot be read.
 fn now<R: Clock>(rt: &R) -> Duration {
     rt.monotonic().unwrap_or(Duration::from_secs(0))
 }

@@ -1,4 +1,4 @@
-//! A journal read by blocks says what it says slot by slot.
+//! A journal that is read by blocks makes known the same as one that is read slot by slot.
 use crate::images::{GAME, ROOM, Tail, holding, image_of};
 use c8_check::Checks;
 use c8_disk::MemDisk;
@@ -11,7 +11,7 @@ use std::test::Fail;
 
 const COUNTS: [u32; 6] = [1, 31, 32, 33, 64, 65];
 
-/// The answer of a reading, and what is then known: the ticks, the confirmed frames, and the last row of these.
+/// The answer of a reading, and what it makes known: the ticks, the confirmed frames, and the last row of these.
 type Said = (Result<u32, ReplayError>, u32, u32, Option<[u16; 2]>);
 
 /// The keys of both players in the last confirmed frame.
@@ -61,7 +61,7 @@ fn counted(alloc: Global, game: &Game, mut log: Log<MemDisk>) -> Option<(u32, Sa
     }
 }
 
-/// Whether both readings of an image agree, and say what a journal of this many records says.
+/// Whether both readings of an image agree, and make known what a journal of this many records has.
 fn are_alike(alloc: Global, game: &Game, count: u32, image: &[u8]) -> bool {
     let (Some(slow), Some((found, fast))) = (
         said_by_slots(alloc, game, image),

@@ -1,4 +1,4 @@
-//! What a peer writes to its disk, and finds there.
+//! The bytes that a peer writes to its disk and reads from it.
 use c8_disk::DiskError;
 use c8_peer::{OpenError, TickError};
 use c8_table::{Answer, Deed, ONE, Row, plays, plays_beside};

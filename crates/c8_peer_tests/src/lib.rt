@@ -1,5 +1,5 @@
-//! The tests of c8_peer: tables of what its peers are asked, each with its answer. Also the texts of its refusals; and
-//! journals of c8_log and c8_record that are read a block of 32 slots at a time.
+//! The tests of c8_peer: tables of calls, each with its answer. Also the texts of its refusals, and journals of c8_log
+//! and c8_record that are read in blocks of 32 slots.
 #![tactic(auto)]
 
 #[cfg(test)]

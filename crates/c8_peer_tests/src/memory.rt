@@ -1,4 +1,4 @@
-//! An opening for which memory runs out.
+//! An opening that runs out of memory.
 use crate::journals::{HEAD_OF_SHORT, SHORT};
 use c8_disk::Arm;
 use c8_game::Game;

@@ -8,8 +8,8 @@ use c8_table::{Answer, Deed, ONE, OfPlayer, Row, THREE, TWO, Table, Told};
 use std::alloc::Global;
 use std::test::Fail;
 
-/// A call of a history, by its place there. After `gate` calls of the disk the gate of the record is written, and one
-/// more call syncs it. The next opening finds `bare` without the record, and `kept` with it.
+/// A call of a history, by its place there. After `gate` calls of the disk the gate of the record is written; one more
+/// call syncs it. The next opening finds `bare` without the record, and `kept` with it.
 #[derive(Clone, Copy)]
 pub(crate) struct Trial {
     pub(crate) place: usize,

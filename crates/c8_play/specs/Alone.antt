@@ -33,7 +33,7 @@ AreFramesAlone {C} console rules (suc fewer) rows old new =
     (before : List Row) × (row : Row) × (rested ready : Desk C) × (rows ≡ before ++ row ∷ []) × AreFramesAlone console rules fewer before old rested × IsSameDesk console rested ready
     × IsFrameAlone console rules before row ready new
 
--- at most as many frames as the game has, each with the keys held in it; the machine is that of the serial run
+-- at most the frames of the game, each with the keys held in it; the machine is that of the serial run
 pub record IsPlayedAlone {C : Type 0} (console : Ghosts C) (rules : Rules) (played : Played) (old new : Desk C) : Type 0 where
   pub rows : List Row
   pub frames : played.frames ≡ length rows
@@ -41,6 +41,6 @@ pub record IsPlayedAlone {C : Type 0} (console : Ghosts C) (rules : Rules) (play
   pub machine : state played.machine ≡ serial rules rows
   pub frames_are : AreFramesAlone console rules played.frames rows old new
 
--- it ended because the person left, or after as many frames as were asked for, or after the game's last
+-- why it ended: the person left, or the frames that the caller asked for were played, at most those of the game
 abbrev pub IsEndAlone : {C : Type 0} → Rules → ℕ → Played → Desk C → Type 0
 IsEndAlone rules asked played desk = (desk.has_left ≡ true) ⊎ (played.frames ≡ min asked rules.frames)

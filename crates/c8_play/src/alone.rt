@@ -3,6 +3,7 @@
 ghost use Rattle.std.specs.Prelude.{◌≡◌, ◌≤◌};
 ghost use Rattle.c8_play.specs.Alone.{IsPlayedAlone, IsEndAlone};
 
+use crate::chime::{BELL, Chime};
 use crate::console::Console;
 use crate::desk::Desk;
 use c8_game::{Game, Row};
@@ -11,11 +12,12 @@ use c8_machine::Machine;
 
 /// Plays a game at a desk, frame by frame: to its last frame, for `frames` frames, or until the person quits. Returns
 /// how many frames were played, and the machine of the serial run of the keys that were held in them.
-pub fn play_alone<C: Console>(game: &Game, desk: &mut Desk<C>, frames: u64) -> Played
+pub fn play_alone<C: Console>(game: &Game, desk: &mut Desk<C>, chime: Chime, frames: u64) -> Played
     ensures played { IsPlayedAlone C.Console game.now result desk.old desk.new }
     ensures few { result.frames ≤ frames }
     ensures ended { IsEndAlone game.now frames result desk.new }
 {
+    let mut chime = chime;
     let mut played = Played {
         frames: 0,
         machine: Machine::start(game),
@@ -30,7 +32,12 @@ pub fn play_alone<C: Console>(game: &Game, desk: &mut Desk<C>, frames: u64) -> P
         let row = Row { sets: [keys; 4] };
         played.machine.frame(game, game.joined(&row));
         played.frames = frame + 1;
-        desk.show(played.machine.screen(), &[]);
+        let bell: &[u8] = if chime.rings(played.machine.tone()) {
+            &[BELL]
+        } else {
+            &[]
+        };
+        desk.show(played.machine.screen(), bell);
     }
     played
 }

@@ -5,7 +5,7 @@ use crate::help::PLAY_ENDING;
 use c8_front::{with_place, word_of};
 use c8_game::Player;
 use c8_net::{number, with_options};
-use clap::{Arg, ArgMatches, Command, value_parser};
+use clap::{Arg, ArgAction, ArgMatches, Command, value_parser};
 use std::alloc::{AllocError, Global};
 
 /// Who plays.
@@ -17,7 +17,7 @@ pub(crate) enum Who {
     Player(Player),
 }
 
-/// The command `play` with its arguments and options.
+/// Returns the command `play` with its arguments and options.
 pub fn play_command<'a>(alloc: Global) -> Result<Command<'a>, AllocError> {
     let command = Command::new(alloc, "play")
         .about("Plays a game at the keyboard, alone or with others over UDP")
@@ -43,7 +43,11 @@ pub fn play_command<'a>(alloc: Global) -> Result<Command<'a>, AllocError> {
         .help("How many frames a stroke counts for if the terminal reports no releases")
         .value_parser(value_parser!(u8).range(1..))
         .default_value("9");
-    command.arg(hold)
+    let mute = Arg::new(alloc, "mute")
+        .long("mute")
+        .help("Rings no bell when a tone begins")
+        .action(ArgAction::SetTrue);
+    command.arg(hold)?.arg(mute)
 }
 
 /// Adds the arguments that say who plays what.

@@ -2,13 +2,14 @@
 
 use crate::alone::play_alone;
 use crate::arguments::{Who, pace_of, who_of};
+use crate::chime::Chime;
 use crate::desk::{Desk, Pace};
 use crate::live::{Live, tell_lateness};
 use crate::terminal::Terminal;
 use c8_command::Status;
 use c8_front::{is_explained, word_of};
 use c8_keys::write_report;
-use c8_net::{asked_for, game_at, number_of, perform_given, refuse};
+use c8_net::{Asked, asked_for, game_at, number_of, perform_given, refuse};
 use clap::ArgMatches;
 use std::fs::File;
 use std::io;
@@ -46,7 +47,10 @@ where
     match who {
         Who::Alone => alone(rt, given, console, pace, out, refused),
         Who::Player(player) => {
-            let asked = asked_for(given, player);
+            let asked = Asked {
+                is_muted: given.get_flag("mute"),
+                ..asked_for(given, player)
+            };
             let live = Live { console, pace };
             perform_given(rt, &asked, live, out, refused)
         }
@@ -74,7 +78,8 @@ where
     let stop = number_of(given, "stop").unwrap_or(u64::MAX);
     let turns = number_of(given, "turns").unwrap_or(u64::MAX);
     let mut desk = Desk::new(console, pace);
-    let played = play_alone(&game, &mut desk, stop.min(turns));
+    let chime = Chime::new(given.get_flag("mute"));
+    let played = play_alone(&game, &mut desk, chime, stop.min(turns));
     let lateness = desk.end();
     if given.get_flag("progress") {
         tell_lateness(refused, &lateness)?;

@@ -5,7 +5,7 @@ ghost use Rattle.std.specs.Prelude.{◌≡◌, ◌≤◌, ◌++◌, ℕ, List, t
 use mio::event::Source;
 use std::time::Duration;
 
-/// How many bytes of keys one read takes at most.
+/// The most bytes of keys that one read takes.
 pub const KEY_BYTES: usize = 64;
 
 /// The keyboard or the screen is gone.
@@ -27,7 +27,7 @@ pub trait Console {
     /// Restores the screen.
     fn leave(&mut self);
 
-    /// The time since some moment before the first frame.
+    /// Returns the time since some moment before the first frame.
     fn now(&mut self) -> Duration
         ensures typed { typed self.new ≡ typed self.old }
         ensures drawn { drawn self.new ≡ drawn self.old };

@@ -80,14 +80,14 @@ impl<C: Console> Desk<C> {
         self.console.wake_at(source);
     }
 
-    /// The time by the console's clock.
+    /// Returns the time by the console's clock.
     pub fn now(&mut self) -> Duration
         ensures { IsSameDesk C.Console self.old self.new }
     {
         self.console.now()
     }
 
-    /// Whether the person has left, or wants to end.
+    /// Returns whether the person has left, or wants to quit.
     pub fn has_left(&self) -> bool
         ensures { result ≡ self.now.has_left }
     {

@@ -71,7 +71,7 @@ impl Lead {
         self.frames = 0;
     }
 
-    /// Whether the player is more than half the window ahead of another.
+    /// Returns whether the player is more than half the window ahead of another.
     fn is_ahead<D: Disk>(&self, peer: &Peer<'_, D>) -> bool
         ensures { IsTrue result ↔ IsAhead (window_of self.now) peer.now }
     {
@@ -84,7 +84,8 @@ impl Lead {
     }
 }
 
-/// The other player with the fewest known inputs, among those whose inputs are not cut; `None` if all others are cut.
+/// Returns the other player with the fewest known inputs, among those whose inputs are not cut; `None` if all others
+/// are cut.
 pub(crate) fn hindmost<D: Disk>(peer: &Peer<'_, D>) -> Option<Player>
     ensures some { IfSome result (λ player. IsHindmost peer.now player.number) }
     ensures none { result ≡ None → (player : ℕ) → ¬ IsOther peer.now player }
@@ -96,7 +97,7 @@ pub(crate) fn hindmost<D: Disk>(peer: &Peer<'_, D>) -> Option<Player>
     found
 }
 
-/// The hindmost of the players found so far and the one with this number.
+/// Returns the hindmost of the players found so far and the one with this number.
 fn hindmost_with<D: Disk>(peer: &Peer<'_, D>, number: u8, found: Option<Player>) -> Option<Player>
     ensures { FoundBelow peer.now number found → FoundBelow peer.now (number + 1) result }
 {
@@ -112,7 +113,7 @@ fn hindmost_with<D: Disk>(peer: &Peer<'_, D>, number: u8, found: Option<Player>)
     }
 }
 
-/// The other player with this number, unless its inputs are cut.
+/// Returns the other player with this number, unless its inputs are cut.
 fn other<D: Disk>(peer: &Peer<'_, D>, number: u8) -> Option<Player>
     ensures some { IfSome result (λ player. IsOther peer.now player.number) }
     ensures same { IfSome result (λ player. player.number ≡ number) }
@@ -127,7 +128,7 @@ fn other<D: Disk>(peer: &Peer<'_, D>, number: u8) -> Option<Player>
     }
 }
 
-/// Whether fewer inputs are known of a player than of the one found so far. True if none was found.
+/// Returns whether fewer inputs are known of a player than of the one found so far. True if none was found.
 fn is_fewer<D: Disk>(peer: &Peer<'_, D>, player: Player, found: Option<Player>) -> bool
     ensures fewer { IsTrue result → IfSome found (λ it. count_in (known_by peer.now) player.number
         < count_in (known_by peer.now) it.number) }

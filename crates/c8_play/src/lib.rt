@@ -8,6 +8,7 @@
 
 mod alone;
 mod arguments;
+mod chime;
 mod command;
 mod console;
 mod desk;
@@ -20,6 +21,7 @@ mod terminal;
 
 pub use alone::play_alone;
 pub use arguments::play_command;
+pub use chime::{BELL, Chime};
 pub use command::play_given;
 pub use console::{Console, Gone, KEY_BYTES};
 pub use desk::{Desk, Pace};

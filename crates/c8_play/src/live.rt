@@ -7,6 +7,7 @@ ghost use Rattle.c8_play.specs.Desk.{IsSameDesk};
 ghost use Rattle.c8_play.specs.Frames.{IsFrame, IsSeen, HasPlayed, HasWaited, AreFrames, IsEnough, IsEndOfPlay};
 ghost use Rattle.c8_play.specs.Lead.{window_of, patience_of, frames_of};
 
+use crate::chime::Chime;
 use crate::console::Console;
 use crate::desk::{Desk, Pace};
 use crate::lead::{Lead, hindmost};
@@ -78,7 +79,11 @@ fn play_over<'g, D: Disk, W: Wire + Drop, C: Console + Drop, E: Write>(
 {
     let (mut session, mut wire, mut desk) = (session, wire, desk);
     let turns = play_frames(&mut session, &mut wire, &mut desk, game, rate, asked);
+    let has_left = desk.has_left();
     let lateness = desk.end();
+    if asked.says_end && has_left {
+        let _ = writeln!(progress, "you left the match");
+    }
     if asked.progress {
         let _ = tell_lateness(progress, &lateness);
         let _ = tell_turned_away(progress, wire.losses());
@@ -135,6 +140,7 @@ pub fn play_frames<D: Disk, W: Wire, C: Console>(
     peers_run_on::<D>();
     let mut lead = Lead::new(game.window(), rate);
     let mut status = StatusRow::new(desk.now(), asked.player, session.peer().players());
+    status.begin(Chime::new(asked.is_muted));
     let mut made: u64 = 0;
     for turn in 0..asked.turns {
         if session.is_over() || is_enough(session.peer(), asked.stop) || desk.has_left() {
@@ -147,7 +153,7 @@ pub fn play_frames<D: Disk, W: Wire, C: Console>(
     Ok(made)
 }
 
-/// Whether at least `enough` frames are confirmed; false without a number.
+/// Returns whether at least `enough` frames are confirmed; false without a number.
 fn is_enough<D: Disk>(peer: &Peer<'_, D>, enough: Option<u64>) -> bool
     ensures { IsTrue result ↔ IsEnough enough peer.now }
 {
@@ -199,6 +205,7 @@ fn play_frame<D: Disk, W: Wire, C: Console>(
 {
     let entry = enter(session, wire, desk, lead)?;
     status.note(session);
+    status.turn_away(wire.losses());
     show(session, desk, status, entry);
     Ok(())
 }
@@ -260,6 +267,7 @@ fn show<D: Disk, C: Console>(
     consider(session, desk, status, waits);
     let now = desk.now();
     let peer = session.peer();
+    status.sound(peer.shown().tone());
     desk.show(
         peer.shown().screen(),
         status.row(now, peer.confirmed(), waits),

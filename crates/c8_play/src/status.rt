@@ -1,9 +1,11 @@
 //! The row of text below the screen: how far a match is.
 
+use crate::chime::{BELL, Chime};
 use arrayvec::ArrayVec;
 use c8_disk::Disk;
 use c8_game::{MOST_PLAYERS, Player};
 use c8_live::{Counters, Session, Standing};
+use c8_transport::Losses;
 use std::io;
 use std::io::Write;
 use std::time::Duration;
@@ -17,6 +19,9 @@ const LONGEST: usize = 80;
 /// The most bytes of the row, with those that move the cursor and clear the row.
 pub const LONGEST_ROW: usize = 90;
 
+/// The most bytes that one frame writes for the row: the row, and a bell.
+const LONGEST_WRITTEN: usize = LONGEST_ROW + 1;
+
 /// Moves the cursor to the first column of row 17, below the screen, and clears the row. It comes before the text,
 /// because after a text up to the last column the cursor would still be on that column.
 const CLEAR: &[u8] = b"\x1b[17;1H\x1b[K";
@@ -26,6 +31,13 @@ const EVERY: u64 = 1;
 
 /// After this many seconds of a player's silence the row tells player 1 how to drop that player.
 const LONG: u128 = 3;
+
+/// After this many seconds without a first datagram of a player the row says what may be wrong.
+const NO_ANSWER: u128 = 10;
+
+/// For how many seconds the row says that a player is here, after its first datagram, if that came later than a second after
+/// the start.
+const GREETING: u64 = 3;
 
 /// How many milliseconds a second has.
 const SECOND: u128 = 1000;
@@ -40,6 +52,8 @@ struct Numbers {
     longest: u64,
     /// How many milliseconds each player has been silent, by place.
     silent: [u128; MOST_PLAYERS],
+    /// Whether the first datagram of each player came just now.
+    is_new: [bool; MOST_PLAYERS],
     is_alarmed: bool,
 }
 
@@ -54,14 +68,24 @@ pub struct StatusRow {
     /// When each player was last heard, or the start, and in how many turns it had been heard by then.
     heard: [Duration; MOST_PLAYERS],
     turns: [u64; MOST_PLAYERS],
+    start: Duration,
+    /// When the first datagram of each player came, or the start.
+    met: [Duration; MOST_PLAYERS],
+    /// How many packets were not sealed with the key of the match.
+    unsealed: u64,
     /// The rollbacks up to the last update, and the longest since.
     rollbacks: u64,
     longest: u64,
     numbers: Numbers,
     /// The player that one more control-D drops.
     asked: Option<Player>,
+    chime: Chime,
+    /// Whether the bell rings in this frame.
+    rings: bool,
     /// What the terminal shows in the row.
     shown: ArrayVec<u8, LONGEST_ROW>,
+    /// What the last frame wrote.
+    written: ArrayVec<u8, LONGEST_WRITTEN>,
 }
 
 impl StatusRow {
@@ -74,12 +98,33 @@ impl StatusRow {
             due: now,
             heard: [now; MOST_PLAYERS],
             turns: [0; MOST_PLAYERS],
+            start: now,
+            met: [now; MOST_PLAYERS],
+            unsealed: 0,
             rollbacks: 0,
             longest: 0,
             numbers: Numbers::default(),
             asked: None,
+            chime: Chime::new(true),
+            rings: false,
             shown: ArrayVec::new(),
+            written: ArrayVec::new(),
         }
+    }
+
+    /// Rings this chime from now on.
+    pub fn begin(&mut self, chime: Chime) {
+        self.chime = chime;
+    }
+
+    /// Takes the tone timer of the frame that is shown next.
+    pub fn sound(&mut self, tone: u8) {
+        self.rings = self.chime.rings(tone);
+    }
+
+    /// Notes what the wire has turned away so far.
+    pub fn turn_away(&mut self, losses: Losses) {
+        self.unsealed = losses.unsealed;
     }
 
     /// Notes the last turn of a session, or what it has just heard.
@@ -104,7 +149,8 @@ impl StatusRow {
         None
     }
 
-    /// Returns the bytes that make the terminal show how far the match is; none if it shows that already.
+    /// Returns the bytes that make the terminal show how far the match is; none if it shows that already. A bell follows
+    /// them if a tone begins.
     pub fn row(&mut self, now: Duration, confirmed: u32, waits: Option<Player>) -> &[u8] {
         let standing = self.counters.take();
         self.row_of(now, confirmed, &standing, waits)
@@ -116,8 +162,10 @@ impl StatusRow {
     /// - how many frames are ticked and confirmed;
     /// - `the machines differ`, while the alarm stands;
     /// - the player for whom the match waits, with whole seconds of its silence, as `waits for 2: 12 s`; this part
-    ///   changes at once, and tells player 1 how to drop the player;
-    /// - how long each other player has been silent;
+    ///   changes at once, and tells player 1 how to drop the player. If no datagram of that player ever came, it says
+    ///   after ten seconds what may be wrong, or at once that packets come with another secret;
+    /// - how long each other player has been silent, or, for three seconds after a first datagram that
+    ///   was waited for, `2 is here`;
     /// - how often the peer rolled back in the last second, and the most frames that one rollback simulated again.
     ///
     /// The text is cut off after 64 characters, or after 80 with more than two players.
@@ -141,14 +189,19 @@ impl StatusRow {
         // A full row takes no more.
         let _ = self.write_text(&mut row, waits);
         row.truncate(CLEAR.len().saturating_add(self.most()));
-        if row.as_slice() == self.shown.as_slice() {
-            return &[];
+        self.written.clear();
+        if row.as_slice() != self.shown.as_slice() {
+            let _ = self.written.write_all(&row);
+            self.shown = row;
         }
-        self.shown = row;
-        self.shown.as_slice()
+        if self.rings {
+            self.rings = false;
+            let _ = self.written.write_all(&[BELL]);
+        }
+        self.written.as_slice()
     }
 
-    /// How many characters the text has at most.
+    /// Returns how many characters the text has at most.
     fn most(&self) -> usize {
         if self.players > 2 {
             LONGEST
@@ -162,6 +215,9 @@ impl StatusRow {
         self.longest = self.longest.max(standing.longest);
         for place in 0..MOST_PLAYERS {
             if self.turns[place] != standing.heard[place] {
+                if self.turns[place] == 0 {
+                    self.met[place] = now;
+                }
                 self.turns[place] = standing.heard[place];
                 self.heard[place] = now;
             }
@@ -171,8 +227,10 @@ impl StatusRow {
     /// Updates the numbers.
     fn look(&mut self, now: Duration, confirmed: u32, standing: &Standing) {
         let mut silent = [0; MOST_PLAYERS];
+        let mut is_new = [false; MOST_PLAYERS];
         for place in 0..MOST_PLAYERS {
             silent[place] = now.saturating_sub(self.heard[place]).as_millis();
+            is_new[place] = self.is_new(now, place);
         }
         self.numbers = Numbers {
             ticked: standing.ticked,
@@ -180,10 +238,18 @@ impl StatusRow {
             rollbacks: standing.rollbacks.saturating_sub(self.rollbacks),
             longest: self.longest,
             silent,
+            is_new,
             is_alarmed: standing.is_alarmed,
         };
         self.rollbacks = standing.rollbacks;
         self.longest = 0;
+    }
+
+    /// Whether the first datagram of a player came just now, after a wait.
+    fn is_new(&self, now: Duration, place: usize) -> bool {
+        let met = self.met[place];
+        met.saturating_sub(self.start) > Duration::from_secs(EVERY)
+            && now.saturating_sub(met) < Duration::from_secs(GREETING)
     }
 
     /// Writes the text, the most important part first.
@@ -211,6 +277,17 @@ impl StatusRow {
     fn write_wait<E: Write>(&self, out: &mut E, player: Player) -> io::Result<()> {
         let number = player.number;
         let seconds = self.numbers.silent[player.place()] / SECOND;
+        if self.turns[player.place()] == 0 && self.asked != Some(player) {
+            if self.unsealed > 0 {
+                return write!(out, "  packets come with another secret, game or room");
+            }
+            if seconds >= NO_ANSWER {
+                return write!(
+                    out,
+                    "  no answer for {seconds} s: same game, room and secret?"
+                );
+            }
+        }
         write!(out, "  waits for {number}")?;
         if seconds > 0 {
             write!(out, ": {seconds} s")?;
@@ -228,8 +305,12 @@ impl StatusRow {
         for place in 0..MOST_PLAYERS {
             let number = place + 1;
             if number <= usize::from(self.players) && number != usize::from(self.me.number) {
-                let silent = self.numbers.silent[place];
-                write!(out, "  {number}: {silent} ms")?;
+                if self.numbers.is_new[place] {
+                    write!(out, "  {number} is here")?;
+                } else {
+                    let silent = self.numbers.silent[place];
+                    write!(out, "  {number}: {silent} ms")?;
+                }
             }
         }
         Ok(())

@@ -24,7 +24,7 @@ const ASK: &[u8] = b"\x1b[>15u\x1b[?u\x1b[?1004h\x1b[?7l";
 /// Undoes `ASK`.
 const ASK_NO_MORE: &[u8] = b"\x1b[?7h\x1b[?1004l\x1b[<u";
 
-/// How many wakes one poll reports at most; there is one socket.
+/// The most events of one poll; there is one socket.
 const MOST_EVENTS: usize = 4;
 
 /// The terminal of the process. It does not touch the terminal's settings: the script `c8play` makes the terminal send
@@ -34,6 +34,8 @@ pub struct Terminal<'r, R> {
     rt: &'r R,
     keys: File,
     screen: File,
+    /// What stands below the picture and its row from the start.
+    note: &'r [u8],
     poll: Poll,
     events: Events,
     /// The last time of the clock.
@@ -59,11 +61,17 @@ where
             rt,
             keys,
             screen,
+            note: &[],
             poll,
             events,
             last: Duration::from_secs(0),
             exchange: Exchange::new(),
         })
+    }
+
+    /// The same terminal, with bytes to write when it is prepared. They must not change the rows of the picture.
+    pub fn with_note(self, note: &'r [u8]) -> Terminal<'r, R> {
+        Terminal { note, ..self }
     }
 }
 
@@ -74,7 +82,9 @@ impl<'r, R: Clock> Console for Terminal<'r, R> {
 
     fn enter(&mut self) -> Result<(), Gone> {
         self.draw(ENTER)?;
-        self.draw(ASK)
+        self.draw(ASK)?;
+        let note = self.note;
+        self.draw(note)
     }
 
     fn leave(&mut self) {

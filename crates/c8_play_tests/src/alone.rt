@@ -1,11 +1,11 @@
-//! A game that one person plays: when its frames begin, what is painted in them, and what ends it.
+//! A game of one person: when its frames begin, what they paint, and what ends the game.
 
 ghost use Rattle.std.specs.Prelude.{◌≤◌};
 
 use crate::console::{Log, Marks, Sent, Still, Written};
 use c8_game::Game;
 use c8_keys::{Played, play};
-use c8_play::{Desk, Pace, play_alone};
+use c8_play::{Chime, Desk, Pace, play_alone};
 use std::alloc::Global;
 use std::io::Write;
 
@@ -37,7 +37,7 @@ fn seen_at(alloc: Global, game: &Game, rate: u8) -> Log
     let mut log = Log::new(alloc);
     let console = Written::new(&clock, &REPAINT, &mut log);
     let mut desk = Desk::new(console, Pace { rate, hold: 9 });
-    let _played = play_alone(game, &mut desk, 5);
+    let _played = play_alone(game, &mut desk, Chime::new(true), 5);
     let _lateness = desk.end();
     log
 }
@@ -68,7 +68,7 @@ fn frames_begin_by_the_clock_and_are_painted_once(rt: HostRuntime) {
 const COUNTS: &[u8] =
     b"players 2\nipf 10\nframes 30\ndelay 0\nwindow 8\nseed 0\nmask1 0020\nmask2 2000\ncode 6205640de2a17101e4a1730170011204\n";
 
-/// What is held in each frame if key 5 is struck in frame 3, and key 13, the other player's, in frame 20. A stroke
+/// The held keys of each frame: key 5 is struck in frame 3, and key 13, the other player's, in frame 20. A stroke
 /// counts for 9 frames.
 const LINES: &[u8] =
     b"0000 0000\n0000 0000\n0000 0000\n0020 0000\n0020 0000\n0020 0000\n0020 0000\n0020 0000\n0020 0000\n0020 0000\n0020 0000\n0020 0000\n0000 0000\n0000 0000\n0000 0000\n0000 0000\n0000 0000\n0000 0000\n0000 0000\n0000 0000\n0000 2000\n0000 2000\n0000 2000\n0000 2000\n0000 2000\n0000 2000\n0000 2000\n0000 2000\n0000 2000\n0000 0000\n";
@@ -108,7 +108,7 @@ fn played_by(
     let clock = Still::new();
     let mut log = Log::new(alloc);
     let mut desk = Desk::new(Written::new(&clock, sent, &mut log), Pace { rate, hold: 9 });
-    let played = play_alone(game, &mut desk, asked);
+    let played = play_alone(game, &mut desk, Chime::new(true), asked);
     let _lateness = desk.end();
     (played, log.marks)
 }
@@ -133,7 +133,7 @@ fn strokes_make_what_key_lines_do(rt: HostRuntime) {
     let alloc = rt.alloc();
     assert!(rt; is_played(alloc, 60, &BOTH, 1_000, 30));
     assert!(rt; is_played(alloc, 60, &CUT, 1_000, 30));
-    // as many frames as are asked for
+    // as many frames as the caller asks for
     assert!(rt; is_played(alloc, 60, &BOTH, 12, 12));
     assert!(rt; is_played(alloc, 60, &STOPPED, 1_000, 12));
     assert!(rt; is_played(alloc, 60, &HUNG_UP, 1_000, 12));

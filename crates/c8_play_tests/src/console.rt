@@ -1,4 +1,4 @@
-//! Consoles with written-down keys, and a clock that only sleeps move.
+//! Consoles with scripted keys, and a clock that only sleeps move.
 
 use c8_play::{Console, Exchange, Gone, KEY_BYTES};
 use mio::event::Source;
@@ -36,7 +36,7 @@ impl Clock for Still {
     }
 }
 
-/// What a terminal sends, and in which frame, counted from 0. If it sends nothing it hangs up.
+/// The bytes that a terminal sends in a frame, counted from 0. Without bytes it hangs up.
 pub type Sent = (u32, &'static [u8]);
 
 /// How often a console was prepared, written on, restored, and given a wire to wake it.

@@ -1,4 +1,4 @@
-//! What is drawn of a watched match, and when, by a clock of the test.
+//! The pictures of a watched match, and their times by a clock of the test.
 ghost use Rattle.std.specs.Prelude.{◌≡◌};
 
 use c8_front::Terminals;
@@ -110,7 +110,7 @@ impl Wire for Shows {
     }
 }
 
-/// Keeps what is written, and where each write ends. One write fails, and is not kept.
+/// Keeps the written text, and where each write ends. One write fails, and is not kept.
 #[derive(Drop)]
 struct Pages {
     text: Vec<u8>,
@@ -161,8 +161,8 @@ fn picture(alloc: Global, frames: u64, is_whole: bool) -> Vec<u8> {
     text
 }
 
-/// What must be drawn: the pictures that are due by the clock, every sixtieth of them whole, between the bytes that
-/// prepare the terminal and those that restore it.
+/// The expected text: the bytes that prepare the terminal, the pictures that are due by the clock (every sixtieth one
+/// is whole), and the bytes that restore the terminal.
 fn wanted(alloc: Global, row: &Row) -> Pages {
     let mut pages = Pages::new(alloc, row.until_failure);
     if row.screen {
@@ -177,8 +177,8 @@ fn wanted(alloc: Global, row: &Row) -> Pages {
     pages
 }
 
-/// For how many turns of a millisecond a match is watched, whether it is drawn, and how many writes come before one
-/// that fails; and how many pictures are then drawn, with that one.
+/// The turns of a watched match, a millisecond each, whether it is drawn, and how many writes come before one that
+/// fails. Then the number of drawn pictures, with the one that fails.
 struct Row {
     turns: u64,
     screen: bool,
@@ -288,7 +288,7 @@ const REPORT: &[u8] =
 /// A line of a screen on which no point is lit.
 const DARK: &[u8] = b"................................................................\n";
 
-/// What is drawn there, and then this report.
+/// The picture, and then this report.
 fn drawn(alloc: Global) -> Vec<u8> {
     let mut text = Vec::new(alloc);
     let _ = text.write_all(ENTER);

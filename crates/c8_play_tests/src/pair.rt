@@ -34,8 +34,8 @@ fn free(rt: &HostRuntime) -> Result<String, Fail> {
 const TOLD: &[u8] =
     b"frames were late by 0 ms in the median, by 0 ms at most\n0 of 60 frames after 0 turns\n";
 
-/// What a player prints that plays at one address with one at another, nothing if it is refused; what it writes on
-/// standard error; and how often its console was used.
+/// Plays at one address with a player at another. Returns the printed report (nothing after a refusal), the text on
+/// standard error, and how often the console was used.
 fn printed<'x, R>(
     rt: &'x R,
     number: u8,
@@ -56,6 +56,7 @@ where
         remotes: Some(&[remote]),
         watchers: [None, None],
         secret: None,
+        digits: None,
         watch_secret: None,
         room: 3,
         has_room: true,
@@ -64,6 +65,8 @@ where
         stop,
         checkpoint: 0,
         progress: true,
+        says_end: true,
+        is_muted: true,
         explain: false,
     };
     let mut log = Log::new(rt.alloc());

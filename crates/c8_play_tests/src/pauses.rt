@@ -1,8 +1,9 @@
-//! How often the threads of a peer sleep, by a clock that counts.
+//! Counts the sleeps of a peer's threads, and looks at how they end.
 
 use c8_disk::MemDisk;
 use c8_game::{Game, Player};
-use c8_net::{Asked, play_on, prepare};
+use c8_net::{Asked, Pace, play_on, prepare};
+use c8_transport::{Gate, Worker};
 use std::alloc::Global;
 use std::io;
 use std::net::{Net, SocketAddr, UdpSocket};
@@ -93,6 +94,7 @@ where
         remotes: Some(&[remote]),
         watchers: [None, None],
         secret: None,
+        digits: None,
         watch_secret: None,
         room: 3,
         has_room: true,
@@ -101,6 +103,8 @@ where
         stop: None,
         checkpoint: 0,
         progress: false,
+        says_end: false,
+        is_muted: true,
         explain: false,
     };
     let none = [None, None];
@@ -124,8 +128,8 @@ where
     }
 }
 
-/// The game thread sleeps for a millisecond after each turn, and a few times before it for the viewer, which looks each five
-/// milliseconds. The net thread waits at its socket alone.
+/// The game thread sleeps for a millisecond after each turn, and a few times before the first turn, to wait for the
+/// viewer. The viewer looks every five milliseconds. The net thread waits only at its socket.
 #[test]
 fn each_turn_has_its_pause(rt: HostRuntime) {
     let counting = Counting {
@@ -143,4 +147,23 @@ fn each_turn_has_its_pause(rt: HostRuntime) {
     );
     assert!(rt; fives >= 1 && fives <= TURNS, "{fives} pauses of five");
     assert!(rt; counting.others.load(Ordering::SeqCst) == 0);
+}
+
+/// Whether the net thread makes one turn after the game thread has ended, and the game thread none after the net thread.
+fn ends_in_order(rt: &HostRuntime) -> bool {
+    let pace = Pace::new(rt, None);
+    let both = pace.before(Worker::Net, 0)
+        && pace.before(Worker::Net, 1)
+        && pace.before(Worker::Game, 0);
+    pace.end(Worker::Game);
+    let last = pace.before(Worker::Net, 2);
+    let after = pace.before(Worker::Net, 3);
+    let other = Pace::new(rt, None);
+    other.end(Worker::Net);
+    both && last && !after && !other.before(Worker::Game, 0) && other.before(Worker::Net, 0)
+}
+
+#[test]
+fn the_net_thread_sends_the_last_datagrams(rt: HostRuntime) {
+    assert!(rt; ends_in_order(&rt));
 }

@@ -2,10 +2,11 @@
 
 use c8_game::Player;
 use c8_live::Standing;
-use c8_play::StatusRow;
+use c8_play::{Chime, StatusRow};
+use c8_transport::Losses;
 use std::time::Duration;
 
-/// The time, the player that it waits for, and all that is written then.
+/// The time, the player for whom the match waits, and the text that is then written.
 type Told = (u64, Option<u8>, &'static [u8]);
 
 /// The last row that is written.
@@ -62,7 +63,7 @@ fn a_row_is_written_where_it_changes(rt: HostRuntime) {
     assert!(rt; are_rows());
 }
 
-/// The time, how far the peer is, the player that it waits for, and all that is written then.
+/// The time, how far the peer is, the player for whom the match waits, and the text that is then written.
 struct Look {
     millis: u64,
     confirmed: u32,
@@ -169,7 +170,7 @@ static OF_FOUR: [Look; 3] = [
         heard: [2, 0, 9, 2],
         is_alarmed: false,
         waits: Some(2),
-        wanted: b"\x1b[17;1H\x1b[K262144/262136  waits for 2: 123456 s  1: 123456789 ms  2: 123456889 ms  4: 12345",
+        wanted: b"\x1b[17;1H\x1b[K262144/262136  no answer for 123456 s: same game, room and secret?  1: 123456789",
     },
 ];
 
@@ -204,14 +205,15 @@ fn a_row_tells_all_and_is_cut(rt: HostRuntime) {
     assert!(rt; are_told(3, 4, &OF_FOUR));
 }
 
-/// What a row says of player 2 after 3.5 seconds of silence: at player 1, and once player 1 has asked to drop it.
+/// A row's text about player 2 after 3.5 seconds of silence: first at player 1, then after player 1 has asked to drop
+/// it.
 const DROPS: &[u8] =
     b"\x1b[17;1H\x1b[K0/7  waits for 2: 3 s  control-D drops 2  2: 3500 ms  back 0, lo";
 
 const AGAIN: &[u8] =
     b"\x1b[17;1H\x1b[K0/7  waits for 2: 3 s  control-D again drops 2  2: 3500 ms  back";
 
-/// Whether the second control-D in a row drops the player whom the match waits for.
+/// Whether the second control-D in a row drops the player for whom the match waits.
 fn drops_at_the_second() -> bool {
     let two = Player { number: 2 };
     let mut status = StatusRow::new(Duration::from_secs(0), Player::CHAIR, 2);
@@ -231,7 +233,7 @@ fn drops_at_the_second() -> bool {
         && status.give_up(Some(two)).is_none()
 }
 
-/// Whether the row of another player says nothing of that, and control-D drops nobody there.
+/// Whether another player's row offers no drop, and control-D drops nobody there.
 fn only_player_one_drops() -> bool {
     let one = Player::CHAIR;
     let mut status = StatusRow::new(Duration::from_secs(0), Player { number: 2 }, 2);
@@ -248,4 +250,102 @@ fn only_player_one_drops() -> bool {
 fn control_d_drops_a_player(rt: HostRuntime) {
     assert!(rt; drops_at_the_second());
     assert!(rt; only_player_one_drops());
+}
+
+/// What a player 1 reads who waits for player 2 from the start: the time, how often player 2 was heard, how many packets were not
+/// sealed with the match's key, and the text.
+static FIRST_WORDS: [(u64, u64, u64, &[u8]); 6] = [
+    (
+        9_999,
+        0,
+        0,
+        b"\x1b[17;1H\x1b[K0/0  waits for 2: 9 s  control-D drops 2  2: 9999 ms  back 0, lo",
+    ),
+    (
+        12_000,
+        0,
+        0,
+        b"\x1b[17;1H\x1b[K0/0  no answer for 12 s: same game, room and secret?  2: 12000 m",
+    ),
+    (
+        13_000,
+        0,
+        1,
+        b"\x1b[17;1H\x1b[K0/0  packets come with another secret, game or room  2: 13000 ms",
+    ),
+    (
+        14_000,
+        1,
+        1,
+        b"\x1b[17;1H\x1b[K0/0  waits for 2  2 is here  back 0, longest 0",
+    ),
+    (
+        16_999,
+        2,
+        1,
+        b"\x1b[17;1H\x1b[K0/0  waits for 2  2 is here  back 0, longest 0",
+    ),
+    (
+        18_000,
+        2,
+        1,
+        b"\x1b[17;1H\x1b[K0/0  waits for 2: 1 s  2: 1001 ms  back 0, longest 0",
+    ),
+];
+
+/// Whether a player 1 reads these words; a text that stays the same is written once.
+fn are_first_words() -> bool {
+    let mut status = StatusRow::new(Duration::from_secs(0), Player::CHAIR, 2);
+    let mut last: &[u8] = &[];
+    for (millis, heard, unsealed, wanted) in &FIRST_WORDS {
+        status.turn_away(Losses {
+            lost: 0,
+            foreign: 0,
+            unsealed: *unsealed,
+        });
+        let standing = Standing {
+            ticked: 0,
+            rollbacks: 0,
+            longest: 0,
+            heard: [0, *heard, 0, 0],
+            is_alarmed: false,
+            lost: 0,
+            foreign: 0,
+            unsealed: 0,
+        };
+        let row = status.row_of(Duration::from_millis(*millis), 0, &standing, Player::new(2));
+        if row != if *wanted == last { &[] } else { *wanted } {
+            return false;
+        }
+        last = *wanted;
+    }
+    true
+}
+
+#[test]
+fn a_first_wait_says_what_may_be_wrong(rt: HostRuntime) {
+    assert!(rt; are_first_words());
+}
+
+/// Whether the bell rings where a tone begins, behind a row or alone, and not if it is muted.
+fn rings_so() -> bool {
+    let mut status = StatusRow::new(Duration::from_secs(0), Player::CHAIR, 2);
+    status.begin(Chime::new(false));
+    let now = Duration::from_millis(500);
+    status.sound(3);
+    let first = status.row(now, 7, None).ends_with(b"longest 0\x07");
+    status.sound(2);
+    let second = status.row(now, 7, None).is_empty();
+    status.sound(0);
+    let third = status.row(now, 7, None).is_empty();
+    status.sound(1);
+    let fourth = status.row(now, 7, None) == b"\x07".as_slice();
+    status.begin(Chime::new(true));
+    status.sound(1);
+    first && second && third && fourth && status.row(now, 7, None).is_empty()
+}
+
+#[test]
+fn the_bell_rings_once_a_tone(rt: HostRuntime) {
+    assert!(rt; rings_so());
 }

@@ -1,4 +1,4 @@
-//! A match that is watched until enough frames were seen.
+//! A watched match that ends after enough frames.
 
 use crate::drawing::{GAME, Shows};
 use c8_game::Game;
@@ -8,13 +8,13 @@ use std::sync::Wait;
 use std::thread::Threads;
 use std::time::Clock;
 
-/// More turns than are made, of a millisecond and more each. A frame is seen in each.
+/// A limit on the turns that is never reached. Each turn takes a millisecond or more, and sees a frame.
 const TURNS: u64 = 2_000;
 
 /// How many frames are enough.
 const ENOUGH: u64 = 3;
 
-/// How many frames are watched; none where watching fails.
+/// How many frames are watched; `None` if watching fails.
 fn watched<R>(rt: &R) -> u64
 where
     R: Clock + Threads + Wait + Sync + AllocGlobal,

@@ -1,4 +1,4 @@
-//! A match of three in which one of the others is there, and the row says for whom it waits.
+//! A match of three in which only one of the others is present. The row says for whom the match waits.
 
 ghost use Rattle.std.specs.Prelude.{[]};
 
@@ -19,12 +19,12 @@ const GAME: &[u8] =
 
 const RATE: u8 = 60;
 
-/// The row where player 2 is there, and where player 3 is. Its numbers are those of the first frame.
+/// The row if player 2 is present, and if player 3 is. Its numbers are those of the first frame.
 const WAITS_FOR_3: &[u8] = b"\x1b[17;1H\x1b[K1/0  waits for 3  2: 0 ms  3: 0 ms  back 0, longest 0";
 
 const WAITS_FOR_2: &[u8] = b"\x1b[17;1H\x1b[K1/0  waits for 2  2: 0 ms  3: 0 ms  back 0, longest 0";
 
-/// A way to a peer that ticks and answers whenever it hears something.
+/// A wire to a peer that ticks and answers whenever it hears something.
 #[derive(Drop)]
 struct Way<'g> {
     peer: Peer<'g, MemDisk>,
@@ -80,7 +80,7 @@ fn opened<'g>(alloc: Global, game: &'g Game, me: Player) -> Option<Peer<'g, MemD
     }
 }
 
-/// The way to a player.
+/// The wire to a player.
 fn way_to<'g>(alloc: Global, game: &'g Game, number: u8) -> Option<Way<'g>> {
     let peer = opened(alloc, game, Player::new(number)?)?;
     Some(Way {
@@ -90,7 +90,7 @@ fn way_to<'g>(alloc: Global, game: &'g Game, number: u8) -> Option<Way<'g>> {
     })
 }
 
-/// What is asked for: twelve turns.
+/// The options: twelve turns.
 fn asked_for() -> Asked<'static, 'static> {
     Asked {
         game: "",
@@ -100,6 +100,7 @@ fn asked_for() -> Asked<'static, 'static> {
         remotes: None,
         watchers: [None, None],
         secret: None,
+        digits: None,
         watch_secret: None,
         room: 0,
         has_room: true,
@@ -108,6 +109,8 @@ fn asked_for() -> Asked<'static, 'static> {
         stop: None,
         checkpoint: 0,
         progress: false,
+        says_end: false,
+        is_muted: true,
         explain: false,
     }
 }

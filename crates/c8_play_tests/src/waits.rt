@@ -1,4 +1,5 @@
-//! A match without other players: how far a player gets, when, what is seen of it, and what ends it.
+//! A match whose other players are absent: how far a player gets and when, what the screen shows, and what ends the
+//! match.
 
 ghost use Rattle.std.specs.Prelude.{[]};
 
@@ -54,7 +55,7 @@ impl Wire for Nowhere {
 #[derive(Clone, Copy)]
 enum Typed {
     Nothing,
-    /// Control-L, in frame 9: the screen is to be painted again, and the row below it.
+    /// Control-L, in frame 9: repaints the screen and the row below it.
     Repaint,
     ControlC,
     /// An escape that stands alone. It counts once nothing has come for 25 milliseconds, in frame 6.
@@ -96,7 +97,7 @@ struct Row {
     ticked: u32,
 }
 
-/// What is asked for in a row.
+/// The options of a row.
 fn asked_for(row: Row) -> Asked<'static, 'static> {
     Asked {
         game: "",
@@ -106,6 +107,7 @@ fn asked_for(row: Row) -> Asked<'static, 'static> {
         remotes: None,
         watchers: [None, None],
         secret: None,
+        digits: None,
         watch_secret: None,
         room: 0,
         has_room: true,
@@ -114,12 +116,14 @@ fn asked_for(row: Row) -> Asked<'static, 'static> {
         stop: row.stop,
         checkpoint: 0,
         progress: false,
+        says_end: false,
+        is_muted: true,
         explain: false,
     }
 }
 
-/// How many turns player 1 makes, how many frames it ticks, and how often it asks for a packet, where packets end a rest
-/// after this long.
+/// How many turns player 1 makes, how many frames it ticks, and how often it asks for a packet, where packets end a
+/// rest after this long.
 fn played(
     alloc: Global,
     game: &Game,
@@ -149,7 +153,7 @@ fn played(
     }
 }
 
-/// Ten turns, of which the window lets eight tick.
+/// Ten turns; the window lets eight of them tick.
 static TEN: Row = Row {
     typed: Typed::Repaint,
     turns: 10,
@@ -159,8 +163,9 @@ static TEN: Row = Row {
     ticked: 8,
 };
 
-/// Whether player 1 ticks as many frames as the window has, asks for packets in each turn and before each but the
-/// first, and all that is seen of ten is the picture of the first one, that it waits, and both again in the last one.
+/// Checks ten turns. Player 1 ticks as many frames as the window has. It asks for packets in each turn, and before each
+/// but the first. The screen shows the first picture and the row that says that it waits, and both again in the last
+/// turn.
 fn gets_as_far_as_the_window(alloc: Global) -> bool {
     let Ok(game) = Game::read(alloc, DRAWS) else {
         return false;

@@ -55,7 +55,8 @@ pub record IsShownOf (rules : Rules) (image : List ℕ) (wish : Wish) (shown : S
   pub frames_is : IsFrames (confirmed known) wish.to frames
   pub shown_is : IsShown rules wish.form (rows_below known frames) shown
 
--- for a game that was read, or why it was not: what is shown of the journal, or why it is refused, or too few frames
+-- the outcome for a game that was read, or for the error of its text: what is shown of the journal, why the journal is
+-- refused, or too few frames
 abbrev pub IsOutcomeOfRead : Result Rules GameError → List ℕ → Wish → Result Shown ReplayFault → Type 0
 IsOutcomeOfRead (Err error) image wish outcome = outcome ≡ Err (Game error)
 IsOutcomeOfRead (Ok rules) image wish (Ok shown) = IsShownOf rules image wish shown
@@ -70,7 +71,7 @@ IsOutcome game image wish outcome =
     ((rules : Rules) × Spells game rules × IsOutcomeOfRead (Ok rules) image wish outcome)
     ⊎ ((error : GameError) × ((error ≡ games.Memory) ⊎ IsRefused game error) × (outcome ≡ Err (Game error)))
 
--- the command is done, and the key lines are written, if they are shown
+-- the command is done; if it shows key lines, it has written them
 abbrev pub IsPrinted : Shown → Option (List ℕ) → Option (List ℕ) → Status → Type 0
 IsPrinted (Report played) old new status = status ≡ Done
 IsPrinted (Keys text) old new status = (status ≡ Done) × Appends old new text.items

@@ -42,7 +42,7 @@ pub struct Asked<'a> {
     pub explain: bool,
 }
 
-/// The command `replay` with its arguments and options.
+/// Returns the command `replay` with its arguments and options.
 pub fn replay_command<'a>(alloc: Global) -> Result<Command<'a>, AllocError> {
     let command = Command::new(alloc, "replay")
         .about("Shows the match that a player's journal confirms: prints the machine after it")
@@ -93,7 +93,7 @@ fn number<'a>(alloc: Global, name: &'a str, help: &'a str) -> Arg<'a> {
         .value_parser(value_parser!(u64))
 }
 
-/// What a parsed command line asks for.
+/// Returns what a parsed command line asks for.
 pub(crate) fn asked_of<'a>(given: &ArgMatches<'a>) -> Asked<'a> {
     let page = given.get_str("page");
     let form = match page {

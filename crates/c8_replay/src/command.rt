@@ -9,6 +9,7 @@ use crate::error::ReplayFault;
 use crate::screening::screen_journal;
 use crate::showing::{Shown, show_journal};
 use c8_command::{Refusal, Site, Status, Text, TextsError, both, read_file};
+use c8_front::is_same_file;
 use c8_game::GameError;
 use c8_image::{JournalError, read_image};
 use c8_keys::{game_site, write_report};
@@ -96,9 +97,15 @@ where
     }
 }
 
-/// Writes a page to its file, and returns whether that succeeded. It never overwrites the game or the journal.
-fn is_written<R: Files + AllocGlobal>(rt: &R, asked: &Asked<'_>, path: &str, page: &[u8]) -> bool {
-    path != asked.game && path != asked.journal && fs::write(rt, path, page).is_ok()
+/// Writes a page to its file, and returns whether that succeeded. It never overwrites the game or the journal, by whatever
+/// name.
+fn is_written<R>(rt: &R, asked: &Asked<'_>, path: &str, page: &[u8]) -> bool
+where
+    R: Files<File = File> + AllocGlobal,
+{
+    !is_same_file(rt, path, asked.game)
+        && !is_same_file(rt, path, asked.journal)
+        && fs::write(rt, path, page).is_ok()
 }
 
 /// Writes why the two files were not read.
@@ -170,7 +177,7 @@ fn print<W: Write>(shown: Shown, out: &mut W) -> io::Result<Status>
     Ok(Status::Done)
 }
 
-/// Where a fault is.
+/// Returns where a fault is.
 fn site_of<'a>(alloc: Global, asked: &Asked<'a>, game: &'a [u8], fault: ReplayFault) -> Site<'a> {
     match fault {
         ReplayFault::Game(error) => {

@@ -10,7 +10,8 @@ use c8_game::{Game, Keys};
 use c8_known::Known;
 use std::alloc::{AllocError, Global};
 
-/// The first confirmed rows as key lines: for each row the sets of the game's players as entered, in lower-case digits.
+/// Returns the first confirmed rows as key lines: for each row the sets of the game's players as entered, in lower-case
+/// digits.
 pub(crate) fn key_text(
     alloc: Global,
     game: &Game,
@@ -54,7 +55,7 @@ fn add_line(text: &mut Vec<u8>, sets: &[Keys]) -> Result<(), AllocError>
     }
 }
 
-/// The four digits of a set.
+/// Returns the four digits of a set.
 pub(crate) fn digits_of(keys: Keys) -> [u8; 4]
     ensures text { result ≡ set_text keys }
     ensures set { IsSet keys }

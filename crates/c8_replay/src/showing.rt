@@ -18,7 +18,7 @@ use c8_known::Known;
 use c8_machine::Machine;
 use std::alloc::Global;
 
-/// What is shown of a journal.
+/// The result of `show_journal`.
 #[derive(Drop)]
 pub enum Shown {
     /// The machine after the rows.

@@ -88,7 +88,7 @@ module _ {D : Type 0} (g : Ghosts D) where
   pub with_entry : (before : EntryValue) (old new : PeerValue D) (after with_it : EntryValue) → after ≡ with_it → HasPlayed g before old with_it new → HasPlayed g before old after new
   with_entry before old new after with_it same is = subst (λ (e : EntryValue). HasPlayed g before old e new) (sym same) is
 
-  -- the same for a note that is there unless memory ran out
+  -- the same for a note that was added unless memory ran out
   pub noted : (before : EntryValue) (peer : PeerValue D) (after with_it : EntryValue) (result : Result (Unit {0}) AllocError) → HasPlayed g before peer with_it peer
       → OnOk result (after ≡ with_it) → OnErr result (after ≡ before) → HasPlayed g before peer after peer
   noted before peer after with_it (Ok done) is same none = with_entry before peer peer after with_it same is

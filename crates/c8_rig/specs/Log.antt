@@ -15,7 +15,7 @@ use Rattle.c8_world.specs.World.{World, start, never_opened, peer_of, Act, Open,
 use Rattle.c8_world.specs.Agreement.{IsPlayer}
 use Rattle.c8_world.specs.Headline.{IsHeadline}
 
--- what a player's peer did, and the bytes that it said or heard by that; no bytes for other acts
+-- an act of a player's peer, and the bytes that it said or heard; other acts have no bytes
 pub record NoteValue : Type 0 where
   pub act : Act
   pub bytes : List ℕ
@@ -68,7 +68,7 @@ abbrev pub said_by : List NoteValue → List (List ℕ)
 said_by [] = []
 said_by (n ∷ log) = said_in n.act n.bytes ++ said_by log
 
--- what is delivered is what was said under this number; nobody watches
+-- a delivery has the bytes that were said under this number; nobody watches
 abbrev pub WasSaid : List (List ℕ) → Act → List ℕ → Type 0
 WasSaid said (Open p) bytes = Unit {0}
 WasSaid said (Tick p keys) bytes = Unit {0}
@@ -104,7 +104,7 @@ pub record IsCalled (rules : Rules) (room p : ℕ) (s : State) (call : Call) (Te
   pub done : IsDone rules room p s (Does call luck) answer t
   pub tells : Tells answer
 
--- An opening of a peer: one deed, whatever comes of it.
+-- An opening of a peer: one deed, whatever its result.
 pub record IsOpenedAnew (rules : Rules) (room p : ℕ) (s t : State) : Type 0 where
   pub finds : Bool
   pub opening : Opening

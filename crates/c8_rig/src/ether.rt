@@ -83,14 +83,14 @@ impl Model for Entry {
 }
 
 impl Entry {
-    /// The player.
+    /// Returns the player.
     pub fn player(&self) -> Player
         ensures { result.number ≡ self.now.player }
     {
         self.player
     }
 
-    /// The notes of the player's peer.
+    /// Returns the notes of the player's peer.
     pub fn notes(&self) -> &[Note]
         ensures { result.now ≡ self.now.notes }
     {
@@ -139,7 +139,7 @@ impl<B: Room> Book<B> {
         Ok(part)
     }
 
-    /// Whether an entry's notes are its player's part of the log. Proved: they are.
+    /// Returns whether an entry's notes are its player's part of the log. Proved: they are.
     fn is_part(&mut self, tokens: &Tokens, entry: &mut Entry) -> bool
         requires tokens { tokens.now ≡ B.ether }
         requires ether { entry.old.ether ≡ B.ether }
@@ -240,7 +240,7 @@ impl Unnamed {
         Ok((ether, entries))
     }
 
-    /// The ether, under the name that the proof picked.
+    /// Returns the ether, under the name that the proof picked.
     pub fn named<B: Room>(self, alloc: Global) -> Ether<B>
         requires ether { self.ether ≡ B.ether }
         requires players { self.players ≡ B.players }
@@ -350,7 +350,7 @@ impl<B: Room> Ether<B> {
         }
     }
 
-    /// The log, if each entry's notes are its player's part of it. Proved: they are.
+    /// Returns the log, if each entry's notes are its player's part of it. Proved: they are.
     pub(crate) fn into_log(self, entries: Vec<Entry>) -> Option<Vec<Note>>
         requires { AreAll B.ether B.players entries.items }
         ensures whole { IfNone result ⊥ }

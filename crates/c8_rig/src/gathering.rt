@@ -52,7 +52,7 @@ pub fn gather<'g, B: Room>(
     Ok(Gathering::Gathered { log, peers, agree })
 }
 
-/// Whether the peers of all players agree, player 1's first.
+/// Returns whether the peers of all players agree, player 1's first.
 fn agree(alloc: Global, peers: &[Peer<'_, MemDisk>]) -> Result<bool, AllocError>
     requires { length peers.now ≤ 4 }
     ensures { IfOk result (λ agree. HaveAgreedOrNot peers.now agree) }

@@ -12,7 +12,7 @@ use c8_peer::Kind;
 use c8_world::Act;
 use std::marker::Model;
 
-/// What a player's peer did, and the bytes that it said or heard by that; other acts have no bytes.
+/// An act of a player's peer, and the bytes that it said or heard. Other acts have no bytes.
 #[derive(Drop)]
 pub struct Note {
     pub act: Act,
@@ -29,7 +29,7 @@ impl Model for Note {
 }
 
 impl Note {
-    /// Whether two notes are equal.
+    /// Returns whether two notes are equal.
     fn is_same(&self, other: &Note) -> bool
         ensures { self.now ≡ other.now → result ≡ true }
     {
@@ -37,7 +37,7 @@ impl Note {
     }
 }
 
-/// Whether two acts are equal.
+/// Returns whether two acts are equal.
 fn is_same_act(one: Act, other: Act) -> bool
     ensures { act_of one ≡ act_of other → result ≡ true }
 {
@@ -59,7 +59,7 @@ fn is_same_act(one: Act, other: Act) -> bool
     }
 }
 
-/// Whether two kinds are equal, the leaver included.
+/// Returns whether two kinds are equal, the leaver included.
 fn is_same_kind(one: Kind, other: Kind) -> bool
     ensures { saying_of one ≡ saying_of other → result ≡ true }
 {
@@ -73,7 +73,7 @@ fn is_same_kind(one: Kind, other: Kind) -> bool
     }
 }
 
-/// Whether these are the notes of a player in a log, in their order.
+/// Returns whether these are the notes of a player in a log, in their order.
 pub(crate) fn is_part(log: &[Note], player: Player, notes: &[Note]) -> bool
     ensures { notes.now ≡ part_of player.number log.now → result ≡ true }
 {
@@ -89,7 +89,7 @@ pub(crate) fn is_part(log: &[Note], player: Player, notes: &[Note]) -> bool
     next == notes.len()
 }
 
-/// Whether this note is at a place.
+/// Returns whether this note is at a place.
 fn stands_at(notes: &[Note], place: usize, note: &Note) -> bool
     ensures within { result ≡ true → place < length notes.now }
     ensures there { slice_get notes.now place ≡ Some note.now → result ≡ true }

@@ -18,7 +18,7 @@ use std::marker::Brand;
 use std::sync::Wait;
 use std::thread::{Threads, map_vec};
 
-/// What a thread begins with.
+/// The arguments of a thread.
 #[derive(Drop)]
 struct Job {
     entry: Entry,

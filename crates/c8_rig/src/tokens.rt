@@ -67,7 +67,7 @@ impl Model for Part {
 }
 
 impl Tokens {
-    /// The keeper of an empty log without players.
+    /// Returns the keeper of an empty log without players.
     pub(crate) fn open(alloc: Global) -> Result<(Tokens, Keeper), AllocError>
         ensures { IfOk result (λ r.
             r.1 ≡ record { ether = r.0; players = 0; log = [] }) }

@@ -35,7 +35,7 @@ struct Seat<'a, 'g, B: Room, R, D: Disk> {
 }
 
 impl<'a, 'g, B: Room, R: Wait, D: Disk> Seat<'a, 'g, B, R, D> {
-    /// The next word of the generator.
+    /// Returns the next word of the generator.
     fn word(&mut self) -> u32
         ensures entry { self.new.entry ≡ self.old.entry }
         ensures peer { self.new.peer ≡ self.old.peer }
@@ -193,10 +193,10 @@ impl<'a, 'g, B: Room, R: Wait, D: Disk> Seat<'a, 'g, B, R, D> {
     }
 }
 
-/// Plays one player's part of a match in its own thread. It notes that the peer is opened, opens it on the disk in room
-/// 0, and makes `turns` turns, drawn by a generator of the seed and the player's number, as long as the gate lets it. A
-/// call is noted before it is made, and a datagram after the peer has said it. If memory for a note runs out, or the
-/// opening is refused, it stops there, and returns the entry with the peer, if there is one.
+/// Plays one player's part of a match in its own thread. It notes the opening, opens the peer on the disk in room 0,
+/// and makes `turns` turns, which a generator draws from the seed and the player's number, unless the gate ends it
+/// earlier. It notes a call before it makes it, and a datagram after the peer has said it. If memory for a note runs
+/// out, or the opening is refused, it stops there. It returns the entry, and the peer if there is one.
 pub fn rig_worker<'g, B: Room, R: Wait, D: Disk + Drop, G: Watch>(
     rt: &R,
     alloc: Global,
@@ -240,7 +240,7 @@ pub fn rig_worker<'g, B: Room, R: Wait, D: Disk + Drop, G: Watch>(
     (entry, Some(peer))
 }
 
-/// The player with a number, or player 4 for any other number.
+/// Returns the player with a number, or player 4 for any other number.
 fn player(number: u32) -> Player {
     match number {
         1 => Player::CHAIR,

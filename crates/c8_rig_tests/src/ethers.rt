@@ -1,6 +1,6 @@
-//! An ether in one thread. `rt try --test --fail-alloc N` refuses the Nth allocation: a call that fails has changed
-//! nothing, and succeeds when it is made again. Up to N = 5 the game or the ether itself is not made, and the test ends
-//! for want of memory; from 6 on it passes.
+//! An ether in one thread. `rt try --test --fail-alloc N` refuses the Nth allocation. A call that fails changes
+//! nothing, and succeeds when it is repeated. Up to N = 5 memory runs out for the game or the ether itself, and the
+//! test ends there; from 6 on it passes.
 ghost use Rattle.std.specs.Prelude.{◌≡◌, ◌≤◌, length};
 ghost use Rattle.c8_wire.specs.declared.sizes.TheConstants.{LONGEST_DATAGRAM};
 

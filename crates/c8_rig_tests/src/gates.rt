@@ -71,11 +71,11 @@ impl Watch for Turns {
     }
 }
 
-/// How many microseconds a worker sleeps between two looks.
+/// How many microseconds a worker sleeps between two checks.
 const PAUSE: u64 = 100;
 
-/// How often a worker looks whether another one has made its first turn: several seconds in all, because the processors
-/// may be busy.
+/// How often a worker checks whether another one has made its first turn: several seconds in all, because the
+/// processors may be busy.
 const LOOKS: u32 = 100_000;
 
 /// Lets no worker make its second turn before `workers` have made their first.

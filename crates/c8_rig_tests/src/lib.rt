@@ -1,5 +1,5 @@
-//! Tests of what no clause says about a match in threads: that the threads take their turns, at the same time and as
-//! the table of turns says; and that a draw follows its choice.
+//! Tests of facts about a match in threads that no clause states: the threads make their turns, at the same time and by
+//! the table of turns; and a draw follows its choice.
 #![tactic(auto)]
 
 mod ethers;

@@ -18,10 +18,10 @@ const SEEDS: u64 = 5;
 
 const TURNS: u16 = 200;
 
-/// In how many turns at most a player finds that nothing was said yet.
+/// The most turns in which a player finds that nothing was said yet.
 const FIRST: u32 = 40;
 
-/// What a turn is.
+/// A kind of turn.
 #[derive(Clone, Copy)]
 enum Turn {
     Tick(Keys),
@@ -105,7 +105,7 @@ impl Words {
     }
 }
 
-/// A log, all that was said in it, and what is left of one player's list: the place of each note in the log, and how
+/// A log, all that was said in it, and the rest of one player's list: the place of each note in the log, and how
 /// many datagrams were said before it.
 #[derive(Drop)]
 struct List<'a> {

@@ -59,7 +59,7 @@ fn leave_journals<R: Files + AllocGlobal>(rt: &R, folder: &str, transcript: &Tra
     are_written(rt, folder, players, &transcript.journals)
 }
 
-/// Why the texts of two files were not read.
+/// Returns why the texts of two files were not read.
 fn unread(error: TextsError) -> Refusal {
     match error {
         TextsError::FirstFailed | TextsError::SecondFailed => Refusal::DISK,

@@ -19,7 +19,7 @@ pub enum ScriptError {
 }
 
 impl ScriptError {
-    /// The number of the refusal.
+    /// Returns the number of the refusal.
     pub fn number(self) -> u8
         ensures { result ≡ script_error_number self }
     {
@@ -29,7 +29,7 @@ impl ScriptError {
         }
     }
 
-    /// The name of the refusal.
+    /// Returns the name of the refusal.
     pub fn name(self) -> &'static str {
         match self {
             ScriptError::Line => "Line",

@@ -25,7 +25,7 @@ pub(crate) fn site_if<'a>(
     })
 }
 
-/// The line of a text at a place, if one was found; otherwise the file.
+/// Returns the line of a text at a place, if one was found; otherwise the file.
 fn site_at<'a>(text: Text<'a>, found: Result<Option<usize>, AllocError>) -> Site<'a> {
     match found {
         Ok(Some(place)) => Site::line(text.file, place, Lines::at(text.bytes, place)),

@@ -36,8 +36,8 @@ pub fn read_script(alloc: Global, text: &[u8]) -> Result<Vec<Event>, ScriptError
     Ok(events)
 }
 
-/// The place of the first line of a script that is not skipped and spells no event; the text's first line is at 0.
-/// `None` if there is no such line. The error is that memory ran out.
+/// Returns the place of the first line of a script that is not skipped and spells no event; the text's first line is at
+/// 0. `None` if there is no such line. The error is that memory ran out.
 pub fn faulty_event(alloc: Global, text: &[u8]) -> Result<Option<usize>, AllocError>
     ensures { IfOk result (λ found. MatchOption found
         (AreEventLines text.now) (IsFirstNoEvent text.now)) }
@@ -52,7 +52,7 @@ pub fn faulty_event(alloc: Global, text: &[u8]) -> Result<Option<usize>, AllocEr
     Ok(None)
 }
 
-/// Whether a line is skipped or spells an event.
+/// Returns whether a line is skipped or spells an event.
 fn is_event_line(alloc: Global, line: &[u8]) -> Result<bool, AllocError>
     ensures { IfOk result (λ is. is ≡ is_event_line line.now) }
 {
@@ -66,7 +66,7 @@ fn is_event_line(alloc: Global, line: &[u8]) -> Result<bool, AllocError>
     }
 }
 
-/// Whether a line is empty or a comment.
+/// Returns whether a line is empty or a comment.
 fn is_skipped(line: &[u8]) -> bool
     ensures { result ≡ is_skipped line.now }
 {
@@ -76,7 +76,7 @@ fn is_skipped(line: &[u8]) -> bool
     }
 }
 
-/// The event that a line spells, by the words between its spaces.
+/// Returns the event that a line spells, by the words between its spaces.
 fn event_of(alloc: Global, line: &[u8]) -> Result<Event, ScriptError>
     ensures { MatchResult result (λ event. event_of line.now ≡ Some event)
         (λ error. (error ≡ Memory) ⊎ ((error ≡ Line) × (event_of line.now ≡ None))) }

@@ -60,7 +60,7 @@ pub fn play_script(alloc: Global, game: &[u8], script: &[u8]) -> Result<Transcri
     }
 }
 
-/// The game and the events that the texts spell, or why one of them is refused; the game's text comes first.
+/// Returns the game and the events that the texts spell, or why one of them is refused; the game's text comes first.
 fn read(alloc: Global, game: &[u8], script: &[u8]) -> Result<(Game, Vec<Event>), SimError>
     ensures { MatchResult result
         (λ read. Spells game.now read.0 × SpellsScript script.now read.1.items)
@@ -103,7 +103,7 @@ fn left_by(alloc: Global, world: &World<'_>) -> Result<(Ends, Journals), AllocEr
     Ok((world.ends(alloc)?, Journals::of(alloc, world)?))
 }
 
-/// The answers to the events before the one at which memory ran out.
+/// Returns the answers to the events before the one at which memory ran out.
 fn answers_before(error: RunError) -> Vec<Answer>
     ensures { result.items ≡ answers_before error }
 {

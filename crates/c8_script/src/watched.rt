@@ -15,7 +15,7 @@ pub struct Watched {
     pub six: Option<u32>,
 }
 
-/// The rows of both watchers after these events.
+/// Returns the rows of both watchers after these events.
 pub(crate) fn rows_told(world: &World<'_>, events: &[Event]) -> Watched
     ensures five { result.five ≡ told_of events.now 5 (length (rows_in world.now.table 5)) }
     ensures six { result.six ≡ told_of events.now 6 (length (rows_in world.now.table 6)) }

@@ -24,7 +24,7 @@ impl Secrets {
     /// The secrets of player 1 of a match with watchers. `Same` if both are the same.
     pub fn of_both(players: Secret, watchers: Secret) -> Result<Secrets, SecretError>
         ensures both { IfOk result (λ secrets. (secrets.players ≡ Some players) × (secrets.watchers ≡ Some watchers)) }
-        ensures same { IfErr result (λ error. error ≡ Same) }
+        ensures same { IfErr result (λ error. (error ≡ Same) × (players ≡ watchers)) }
     {
         if players.is_same(&watchers) {
             return Err(SecretError::Same);

@@ -1,6 +1,6 @@
 //! The text of a secret.
 
-ghost use Rattle.std.specs.Prelude.{◌≡◌, MatchResult};
+ghost use Rattle.std.specs.Prelude.{◌≡◌, ◌↔◌, true, MatchResult};
 ghost use Rattle.hex.specs.Hex.{encode_lower};
 ghost use Rattle.c8_sealed.specs.SecretText.{IsSecretText, IsNoSecretText, digits_of};
 
@@ -50,7 +50,9 @@ impl Secret {
     }
 
     /// Whether two secrets are the same.
-    pub(crate) fn is_same(&self, other: &Secret) -> bool {
+    pub(crate) fn is_same(&self, other: &Secret) -> bool
+        ensures { (result ≡ true) ↔ (self.now ≡ other.now) }
+    {
         self.bytes == other.bytes
     }
 }

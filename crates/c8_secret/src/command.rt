@@ -48,8 +48,8 @@ where
     }
 }
 
-/// Bytes that nobody can guess.
-fn random_bytes<R>(rt: &R) -> io::Result<[u8; SECRET_LENGTH]>
+/// Returns bytes of the system's random device, which nobody can guess.
+pub fn random_bytes<R>(rt: &R) -> io::Result<[u8; SECRET_LENGTH]>
 where
     R: Files<File = File>,
 {

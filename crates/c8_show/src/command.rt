@@ -37,7 +37,7 @@ pub fn show<W: Write, E: Write>(
     }
 }
 
-/// The bytes of a hexadecimal word, two digits each, in either case.
+/// Returns the bytes of a hexadecimal word, two digits each, in either case.
 fn bytes_of(alloc: Global, word: &str) -> Result<Vec<u8>, HexError>
     ensures { MatchResult result
         (λ bytes. decode_of word.now ≡ Ok bytes.items) (IsRefusalOfWord word.now) }
@@ -49,7 +49,7 @@ fn bytes_of(alloc: Global, word: &str) -> Result<Vec<u8>, HexError>
     }
 }
 
-/// The datagram that these bytes spell, or why they are refused.
+/// Returns the datagram that these bytes spell, or why they are refused.
 fn datagram_in(bytes: &[u8]) -> Result<Datagram<'_>, ShowError>
     ensures { MatchResult result (λ datagram. Spells bytes.now (packet_of datagram))
         (IsRefusalOfBytes bytes.now) }

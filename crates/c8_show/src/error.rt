@@ -17,7 +17,7 @@ pub enum HexError {
 }
 
 impl HexError {
-    /// The number of the refusal.
+    /// Returns the number of the refusal.
     pub fn number(self) -> u8
         ensures { result ≡ hex_error_number self }
     {
@@ -27,7 +27,7 @@ impl HexError {
         }
     }
 
-    /// The name of the refusal.
+    /// Returns the name of the refusal.
     pub fn name(self) -> &'static str {
         match self {
             HexError::Bad => "Bad",

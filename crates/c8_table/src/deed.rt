@@ -1,4 +1,4 @@
-//! A row of a table: a player, what its peer is asked, and the answer.
+//! A row of a table: a player, a call of its peer, and the answer.
 use c8_disk::Arm;
 use c8_peer::{
     Check, CheckError, DecideError, Heard, LeaveError, OpenError, Refused, TickError, Unsayable,
@@ -15,11 +15,11 @@ pub const THREE: u8 = 3;
 
 pub const FOUR: u8 = 4;
 
-/// A player, what its peer is asked, and the answer. A table names players by number, because it can lend no `Player`
-/// beside bytes.
+/// A player, a call of its peer, and the answer. A table names players by number, because it cannot lend a `Player` and
+/// bytes together.
 pub type Row = (u8, Deed, Answer);
 
-/// What a player's peer, or its disk, is asked.
+/// A call of a player's peer or its disk.
 #[derive(Clone, Copy)]
 pub enum Deed {
     /// All players open their peers on empty disks, and each gets a link to each other.
@@ -38,9 +38,9 @@ pub enum Deed {
     Add(&'static [u8]),
     /// Sets which calls of the disk fail.
     Arm(Arm),
-    /// Closes the peer. Whether the slot with this number begins with these bytes, followed by zeros.
+    /// Closes the peer. Answers whether the slot with this number begins with these bytes, followed by zeros.
     Slot(usize, &'static [u8]),
-    /// Closes the peer. How many bytes its disk holds.
+    /// Closes the peer. Answers how many bytes its disk holds.
     Length,
     /// Enters a key set.
     Tick(u16),

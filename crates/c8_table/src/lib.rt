@@ -1,6 +1,6 @@
-//! The peers of a match in one program: what each is asked, row by row, and what it answers. For the tests of c8_peer.
+//! Runs the peers of a match in one program, by tables of calls with their answers. For the tests of c8_peer.
 //!
-//! A [`Row`] says whose peer is asked what ([`Deed`]) and what it answers ([`Answer`]); [`plays`] and [`plays_beside`]
+//! A [`Row`] has a player, a call of its peer ([`Deed`]) and the answer ([`Answer`]). [`plays`] and [`plays_beside`]
 //! walk tables of rows. Nothing here has a contract; a row with another answer is an error.
 #![tactic(auto)]
 

@@ -7,7 +7,7 @@ use c8_peer::{Kind, Peer};
 use c8_wire::LONGEST_DATAGRAM;
 use std::alloc::Global;
 
-/// How many bytes of a disk a slot takes.
+/// The bytes of a slot on a disk.
 const SLOT: u32 = SLOT_LENGTH as u32;
 
 /// The bytes of a datagram.
@@ -206,7 +206,7 @@ fn writes(disk: &mut MemDisk, place: u32, bytes: &[u8]) -> bool {
     disk.write_at(place, bytes).is_ok()
 }
 
-/// The kind, if its leaver is a player.
+/// Returns the kind, if its leaver is a player.
 fn kind_of(what: What) -> Option<Kind> {
     match what {
         What::Hello => Some(Kind::Hello),
@@ -317,7 +317,7 @@ fn row(peer: &Peer<'_, MemDisk>, frame: u32) -> Answer {
     Answer::Sets([one.0, two.0, three.0, four.0])
 }
 
-/// Whether a slot of an image begins with these bytes, followed by zeros.
+/// Returns whether a slot of an image begins with these bytes, followed by zeros.
 fn is_slot(image: &[u8], number: usize, beginning: &[u8]) -> bool {
     let Some(slot) = image.chunks(SLOT_LENGTH).nth(number) else {
         return false;

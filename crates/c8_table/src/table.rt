@@ -1,4 +1,4 @@
-//! All players' peers, and one deed after another.
+//! All players' peers, and the deeds that they perform in order.
 use crate::deed::{Answer, Deed, FOUR, ONE, ROOM, Row, THREE, TWO, Told, What};
 use crate::node::{Letter, Node};
 use c8_disk::MemDisk;
@@ -8,7 +8,7 @@ use std::test::Fail;
 
 const ALL: [u8; 4] = [ONE, TWO, THREE, FOUR];
 
-/// The nodes of all players, player 1's first, and the datagrams to be heard later.
+/// The nodes of all players, player 1's first, and the datagrams for later deliveries.
 #[derive(Drop)]
 pub struct Table<'g> {
     alloc: Global,
@@ -29,7 +29,7 @@ pub fn plays(alloc: Global, text: &str, first: &[Row], rows: &[Row]) -> Result<(
     plays_beside(alloc, text, text, first, rows)
 }
 
-/// The same, with another game beside it.
+/// Does the same, with another game for the deeds that need one.
 pub fn plays_beside(
     alloc: Global,
     text: &str,

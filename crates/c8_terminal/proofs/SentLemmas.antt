@@ -84,7 +84,7 @@ answer_leads exact n fits =
     (λ m ds large h. leads_on ds _ (Answer 0) (Answer (capped (m / 10))) (Answer (capped m)) exact h (one_answer_digit exact (capped (m / 10)) (m % 10) (capped m) (omega arith) (omega arith)))
     n fits
 
--- one byte that leads on
+-- one byte that continues a sequence
 by_one : (b : ℕ) (from to : Reading) (exact : Bool) → step_in from b exact ≡ reads to exact → Leads (b ∷ []) from exact to
 unfolding Leads
 by_one b from to exact is = (to, is, refl)

@@ -46,7 +46,7 @@ pub record Step : Type 0 where
   pub told : Option Signal
   pub next : Decoding
 
--- a sequence goes on
+-- the sequence continues
 abbrev pub reads : Reading → Bool → Step
 reads reading exact = record { told = None; next = record { reading = reading; exact = exact } }
 
@@ -187,8 +187,8 @@ names_event n = nat_lt 0 n.event
 abbrev pub reports_events : ℕ → Bool
 reports_events flags = (flags / 2) % 2 == 1
 
--- a terminal is exact, that is, reports releases, once it answers that it reports event types, or names an event; a u
--- alone is not enough, and no other answer changes it
+-- a terminal counts as exact, as one that reports releases, once it answers that it reports event types, or names an
+-- event; a u alone is not enough, and no other answer changes this
 abbrev pub exact_after : Numbers → Bool → Bool
 exact_after n exact = exact || names_event n
 

@@ -75,8 +75,8 @@ impl Decoder {
         }
     }
 
-    /// Tells the decoder that no byte follows for now. A lone ESC was the escape key then. Other incomplete sequences
-    /// are kept, since a read may cut one.
+    /// Notes that no byte follows for now. A lone ESC was the escape key then. Other incomplete sequences are kept,
+    /// because a read may cut one.
     pub fn pause(&mut self) -> Option<Signal>
         ensures told { result ≡ (decoding.pause (read_by self.old)).told }
         ensures next { read_by self.new ≡ (decoding.pause (read_by self.old)).next }

@@ -36,8 +36,7 @@ impl Held {
         }
     }
 
-    /// Takes a signal. Its key is 0 to 15. [`Signal::Quit`], [`Signal::Repaint`]
-    /// and [`Signal::GiveUp`] change nothing.
+    /// Takes a signal. Its key is 0 to 15. [`Signal::Quit`], [`Signal::Repaint`] and [`Signal::GiveUp`] change nothing.
     pub fn note(&mut self, signal: Signal)
         requires { IsOfKeypad signal }
         ensures hold { hold_of self.new ≡ hold_of self.old }

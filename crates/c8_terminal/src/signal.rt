@@ -13,8 +13,8 @@ pub enum Signal {
     LetGo,
     /// Escape or control-C: the person wants to end.
     Quit,
-    /// Control-L: everything is to be painted again.
+    /// Control-L: the person wants everything repainted.
     Repaint,
-    /// Control-D: the person does not want to wait for another player any more.
+    /// Control-D: the person wants to give up the player for whom the match waits.
     GiveUp,
 }

@@ -21,7 +21,7 @@ pub struct Asked<'a> {
     pub explain: bool,
 }
 
-/// The command `rig` with its options.
+/// Returns the command `rig` with its options.
 pub fn rig_command<'a>(alloc: Global) -> Result<Command<'a>, AllocError> {
     let command = Command::new(alloc, "rig")
         .about(
@@ -51,7 +51,7 @@ pub fn rig_command<'a>(alloc: Global) -> Result<Command<'a>, AllocError> {
     with_explain(alloc, command.arg(progress)?)
 }
 
-/// What a parsed command line asks for; the parser has checked that each argument is there and in its range.
+/// Returns what a parsed command line asks for. The parser has checked that each argument is present and in range.
 pub(crate) fn asked_of<'a>(given: &ArgMatches<'a>) -> Option<Asked<'a>> {
     Some(Asked {
         game: word_of(given, "GAME"),

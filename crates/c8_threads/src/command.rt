@@ -14,6 +14,7 @@ use crate::error::RigError;
 use crate::script::write_script;
 use crate::watch::Counts;
 use c8_command::{Part, Refusal, Site, Status, Text, TextError, read_file};
+use c8_front::is_same_file;
 use c8_game::{Game, GameError};
 use c8_keys::game_site;
 use c8_rig::{Gathering, Note};
@@ -21,7 +22,6 @@ use clap::ArgMatches;
 use std::alloc::{AllocError, Global};
 use std::fs::File;
 use std::io::Write;
-use std::os::unix::fs::MetadataExt;
 use std::rt::Files;
 use std::sync::Wait;
 use std::sync::atomic::{AtomicBool, Ordering};
@@ -131,14 +131,6 @@ fn wait_for<R: Clock + Wait>(rt: &R, is_over: &AtomicBool) {
     }
 }
 
-/// Whether two paths lead to one file, whatever their names.
-fn is_same_file<R: Files<File = File>>(rt: &R, one: &str, other: &str) -> bool {
-    match (fs::metadata(rt, one), fs::metadata(rt, other)) {
-        (Ok(one), Ok(other)) => one.dev() == other.dev() && one.ino() == other.ino(),
-        _ => false,
-    }
-}
-
 /// Plays a match of the game that a text spells. Each player has a thread of its own, and makes `turns` turns, which a
 /// generator draws from the seed. Writes the log to `script`, if there is one, and then the verdict to `out`. A refusal
 /// is one line on `refused`; `--explain` adds a second line. With `progress` it also writes to `refused` how the log
@@ -173,7 +165,7 @@ where
     }
 }
 
-/// Whether the players agree; `None` if their notes are not one log.
+/// Returns whether the players agree; `None` if their notes are not one log.
 fn played<R, S, E>(
     rt: &R,
     asked: &Asked<'_>,

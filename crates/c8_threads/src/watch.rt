@@ -40,7 +40,7 @@ impl Counts {
         self.is_over.store(true, Ordering::SeqCst);
     }
 
-    /// How many notes the log has.
+    /// Returns how many notes the log has.
     fn all(&self) -> u64 {
         let mut all: u64 = 0;
         for notes in &self.notes {
@@ -84,12 +84,12 @@ impl Watch for Counts {
     }
 }
 
-/// The time since the clock's start; 0 if the clock cannot be read.
+/// Returns the time since the clock's start; 0 if the clock cannot be read.
 fn now<R: Clock>(rt: &R) -> Duration {
     rt.monotonic().unwrap_or(Duration::from_secs(0))
 }
 
-/// When the next line is due.
+/// Returns when the next line is due.
 fn soon<R: Clock>(rt: &R) -> Duration {
     now(rt).saturating_add(Duration::from_secs(EVERY))
 }

@@ -8,10 +8,10 @@ use crate::error::SocketError;
 use c8_game::{MOST_PLAYERS, Player};
 use std::net::SocketAddr;
 
-/// How many watchers a match may have.
+/// The most watchers of a match.
 pub const MOST_WATCHERS: usize = 2;
 
-/// How many players and watchers a match has at most.
+/// The most players and watchers of a match.
 pub(crate) const MOST_SEATS: usize = MOST_PLAYERS + MOST_WATCHERS;
 
 /// The word in an address's place that stands for none: the address is learnt.
@@ -87,7 +87,7 @@ impl Addresses {
         })
     }
 
-    /// The first contact of each player and watcher, in order of number.
+    /// Returns the first contact of each player and watcher, in order of number.
     pub(crate) fn contacts(&self) -> [Contact; MOST_SEATS] {
         let [one, two, three, four] = self.others;
         let [five, six] = self.watchers;
@@ -102,7 +102,7 @@ impl Addresses {
     }
 }
 
-/// The contact of a player or watcher from which nothing has come yet.
+/// Returns the contact of a player or watcher from which nothing has come yet.
 fn contact(remote: Option<Remote>) -> Contact {
     match remote {
         None => Contact::Nobody,
@@ -111,7 +111,7 @@ fn contact(remote: Option<Remote>) -> Contact {
     }
 }
 
-/// Whether two addresses have the same host and port. An IPv4 address that is mapped into IPv6 counts as IPv4.
+/// Returns whether two addresses have the same host and port. An IPv4 address that is mapped into IPv6 counts as IPv4.
 pub(crate) fn is_same(one: SocketAddr, other: SocketAddr) -> bool {
     one.port() == other.port() && one.ip().to_canonical() == other.ip().to_canonical()
 }
@@ -150,7 +150,7 @@ fn watcher(
     }
 }
 
-/// The place among all players, from 0, of the player at a place among the others.
+/// Returns the place among all players, from 0, of the player at a place among the others.
 fn place_of(place: usize, me: Player) -> usize
     requires { place < 3 }
     ensures { result < 4 }

@@ -19,7 +19,7 @@ pub(crate) enum Contact {
 }
 
 impl Contact {
-    /// Whether this is the named address of the contact.
+    /// Returns whether this is the named address of the contact.
     pub(crate) fn is_named(self, from: SocketAddr) -> bool {
         match self {
             Contact::Named(address) => is_same(address, from),
@@ -27,7 +27,7 @@ impl Contact {
         }
     }
 
-    /// The contact after a packet of this player came from an address.
+    /// Returns the contact after a packet of this player came from an address.
     pub(crate) fn heard(self, from: SocketAddr, now: Duration) -> Contact {
         match self {
             Contact::Learnt(whereabouts) => Contact::Learnt(whereabouts.heard(from, now)),
@@ -35,7 +35,7 @@ impl Contact {
         }
     }
 
-    /// The addresses to send to, at most two.
+    /// Returns the addresses to send to, at most two.
     pub(crate) fn addresses(self, now: Duration) -> [Option<SocketAddr>; 2] {
         match self {
             Contact::Nobody => [None, None],
@@ -63,7 +63,7 @@ struct Voice {
 }
 
 impl Voice {
-    /// Whether nothing has come from it for `SILENCE` seconds.
+    /// Returns whether nothing has come from it for `SILENCE` seconds.
     fn is_silent(self, now: Duration) -> bool {
         now.saturating_sub(self.last) >= Duration::from_secs(SILENCE)
     }

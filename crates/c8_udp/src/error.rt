@@ -51,7 +51,7 @@ pub enum SocketError {
 }
 
 impl SocketError {
-    /// The number of the refusal.
+    /// Returns the number of the refusal.
     pub fn number(self) -> u8
         ensures { result ≡ socket_error_number self }
     {
@@ -63,7 +63,7 @@ impl SocketError {
         }
     }
 
-    /// The name of the refusal.
+    /// Returns the name of the refusal.
     pub fn name(self) -> &'static str {
         match self {
             SocketError::Failed(_) => "Failed",

@@ -70,12 +70,12 @@ impl<S> Udp<S> {
         udp
     }
 
-    /// The socket.
+    /// Returns the socket.
     pub fn socket(&self) -> &S {
         &self.socket
     }
 
-    /// Whether it returns packets from an address.
+    /// Returns whether `receive` accepts packets from an address.
     fn hears(&self, from: SocketAddr) -> bool {
         if self.hears_all {
             return true;
@@ -88,7 +88,7 @@ impl<S> Udp<S> {
         false
     }
 
-    /// The addresses of a player or watcher, at most two.
+    /// Returns the addresses of a player or watcher, at most two.
     fn addresses_of(&self, seat: Seat) -> [Option<SocketAddr>; 2] {
         self.contacts[place_of_seat(seat)].addresses(self.now)
     }
@@ -135,7 +135,7 @@ impl<S: Source> Source for Udp<S> {
     }
 }
 
-/// The place among all players and watchers, from 0.
+/// Returns the place among all players and watchers, from 0.
 fn place_of_seat(seat: Seat) -> usize
     ensures { result < MOST_SEATS }
 {
@@ -211,8 +211,8 @@ impl<S: Socket> Wire for Udp<S> {
     }
 }
 
-/// Whether the socket is closed. Every other error is temporary: no buffer space, nobody listens, a host or network is
-/// unreachable, a firewall refuses, an interface has lost its address.
+/// Returns whether the socket is closed. Every other error is temporary: no buffer space, nobody listens, a host or
+/// network is unreachable, a firewall refuses, an interface has lost its address.
 fn is_closed(error: &io::Error) -> bool {
     error
         .raw_os_error()

@@ -1,4 +1,4 @@
--- What a watcher hears of the one player who shows it a match.
+-- What a watcher hears from the player who shows it a match.
 use Rattle.std.specs.Prelude.{◌≡◌, ℕ, List, [], ◌∷◌, Option, Ok}
 use Rattle.c8_wire.specs.Packet.{ShowMessage, Packet}
 use Rattle.c8_wire.specs.Packet as packets

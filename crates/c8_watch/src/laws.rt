@@ -1,4 +1,4 @@
-//! Facts for callers that no single call states; each is the contract of a function that does nothing.
+//! Facts for callers that belong to no single call. Each is the contract of a function that does nothing.
 ghost use Rattle.std.specs.Prelude.{◌≡◌, ◌<◌, ◌≤◌, ◌+◌, ◌^◌, ℕ, List, [], ◌∷◌, ◌++◌, Option};
 ghost use Rattle.c8_game.specs.Rules.{Rules, AreInRange};
 ghost use Rattle.c8_known.specs.Growth.{Begins};

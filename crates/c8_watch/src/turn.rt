@@ -1,4 +1,4 @@
-//! A turn of a watcher: it hears, and says how many rows it has.
+//! A turn of a watcher: it hears packets, and tells player 1 how many rows it has.
 ghost use Rattle.std.specs.Prelude.{◌≡◌};
 ghost use Rattle.c8_transport.specs.Wire.{most_packets};
 ghost use Rattle.c8_watch.specs.Turns.{HasHeard, IsTurn};

@@ -63,7 +63,7 @@ pub fn watch_worker<W: Wire, G: Gate, P: Picture>(
     Ok(made)
 }
 
-/// Opens a board that shows what a spectator has, with its pen and 1 to 4 viewers. The error is that memory ran out.
+/// Opens a board that shows a spectator's rows, with its pen and 1 to 4 viewers. The error is that memory ran out.
 pub fn open_watch_board(
     alloc: Global,
     spectator: &Spectator<'_>,
@@ -109,7 +109,7 @@ fn open_at(
     Board::open(alloc, game, count, machine, viewers)
 }
 
-/// Publishes what a spectator has.
+/// Publishes a spectator's rows.
 fn publish(spectator: &Spectator<'_>, board: &Board, pen: &mut Pen)
     requires board { pen.old.board ≡ board.now }
     requires shows { MayShow spectator.now pen.old }

@@ -217,8 +217,8 @@ fn begin(rows: &[Row], confirmed: &Rows<'_>) -> bool {
     true
 }
 
-/// How often each of these came: new rows at a watcher, none, a gap, and a datagram that is not for it; a watcher that
-/// started again, player 3 cut, and a stop; and a watcher that ends with more rows than one SHOW has.
+/// Counts of: new rows at a watcher, no new rows, a gap, and a datagram for another; a watcher that started over, a cut
+/// of player 3, and a stop; and a watcher that ends with more rows than one SHOW has.
 type Counted = [u32; 8];
 
 /// Counts one more at a place.
@@ -228,8 +228,8 @@ fn count(counted: &mut Counted, place: usize) {
     }
 }
 
-/// Counts an answer, and returns whether it may come. A watcher refuses only these, and no SEEN has more rows than are
-/// confirmed.
+/// Counts an answer, and returns whether it is allowed. A watcher gives only these refusals, and no SEEN has more rows
+/// than are confirmed.
 fn note(counted: &mut Counted, came: Option<Answer>) -> bool {
     let Some(answer) = came else {
         return true;
@@ -260,7 +260,7 @@ fn ends(game: &Game, drawn: &Drawn<'_>, watcher: Watcher, counted: &mut Counted)
     true
 }
 
-/// Whether a match has only answers that may come, and its watchers end as they should.
+/// Whether a match has only allowed answers, and its watchers end as they should.
 fn plays(game: &Game, drawn: &mut Drawn<'_>, counted: &mut Counted) -> bool {
     let _met = drawn.meet();
     for _ in 0..STEPS {

@@ -1,5 +1,5 @@
-//! A SHOW of two rows, the first of which the watcher has: cut short at every length, made one byte longer, and with
-//! every byte replaced by each of its 255 other values. A table made from the documents has the answer to each.
+//! Alters a SHOW of two rows whose first row the watcher has: cuts it at every length, adds one byte, and replaces
+//! every byte by each of its 255 other values. A table, made from the documents, has the answer to each.
 use crate::letter::Letter;
 use crate::played::{FIVE, ROOM, SIX, game_of, row_of, serial};
 use c8_game::{Game, Row};
@@ -25,7 +25,7 @@ const START_AT: usize = 27;
 /// Where its rows begin.
 const ROWS_AT: usize = 30;
 
-/// How many byte lists there are: shorter ones, the longer one, and 255 changes of each byte.
+/// The number of byte lists: the shorter ones, the longer one, and 255 changes of each byte.
 const LISTS: usize = 46 + 1 + 46 * 255;
 
 type Answer = Result<Taken, NotTaken>;
@@ -135,7 +135,7 @@ struct Before {
     machine: Machine,
 }
 
-/// Whether a watcher has what it had before.
+/// Whether a watcher is unchanged.
 fn has_no_more(spectator: &Spectator<'_>, before: &Before) -> bool {
     spectator.rows() == before.rows.as_slice()
         && spectator.count() == 6

@@ -1,8 +1,7 @@
-//! Memory that is refused when a watcher is made.
+//! Out of memory while a watcher is made.
 //!
-//! With enough memory the watcher is compared with what it must be. `rt try --test --fail-alloc N` refuses the Nth
-//! allocation. If that is the watcher's, the test fails with the name `STANDS`, or with another name if it finds
-//! something wrong.
+//! With enough memory the test checks the new watcher. `rt try --test --fail-alloc N` refuses the Nth allocation. If
+//! that is the watcher's, the test fails with the name `STANDS`, or with another name if it finds something wrong.
 use crate::played::{ROOM, SIX, game_of};
 use c8_game::Game;
 use c8_machine::Machine;

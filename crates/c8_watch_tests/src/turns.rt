@@ -1,4 +1,4 @@
-//! The turns of a watcher, over a wire that the test makes.
+//! The turns of a watcher, over a wire of the test.
 ghost use Rattle.std.specs.Prelude.{◌≡◌};
 
 use crate::letter::Letter;

@@ -18,11 +18,11 @@ impl Gate for Turns {
     fn after(&self, _: Worker, _: u64) {}
 }
 
-/// How many microseconds a worker sleeps between two looks.
+/// How many microseconds a worker sleeps between two checks.
 const PAUSE: u64 = 100;
 
-/// How often a worker looks whether the other one has made its first turn, with a sleep between looks: several seconds
-/// in all, because the processors may be busy.
+/// How often a worker checks whether the other one has made its first turn, with a sleep between checks: several
+/// seconds in all, because the processors may be busy.
 const LOOKS: u32 = 100_000;
 
 /// Lets each worker make two turns, the second one once the other has made its first.

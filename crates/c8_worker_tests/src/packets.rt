@@ -1,4 +1,4 @@
-//! Packets that a net worker moves, and packets that are lost because a queue is full.
+//! Packets that a net worker moves, and packets that full queues lose.
 use crate::gates::Turns;
 use crate::sides::relays;
 use c8_game::Player;

@@ -1,4 +1,4 @@
-//! The players of a game, each with what its worker takes.
+//! The players of a game, each with the arguments of its worker.
 ghost use Rattle.std.specs.Prelude.{◌≡◌, IfOk};
 ghost use Rattle.c8_board.specs.Starts.{origin_from};
 ghost use Rattle.c8_known.specs.Confirmed.{confirmed_rows};
@@ -47,7 +47,7 @@ pub(crate) struct Outcome {
     pub(crate) shown: Look,
 }
 
-/// Two relays with this many places, each of which takes what the other one sends.
+/// Two relays with this many places. Each receives what the other one sends.
 pub(crate) fn relays(alloc: Global, places: usize) -> Result<(Relay, Relay), AllocError> {
     let (to_two, from_one) = inlet(alloc, places)?;
     let (to_one, from_two) = inlet(alloc, places)?;

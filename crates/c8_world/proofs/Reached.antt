@@ -146,7 +146,7 @@ all_agree laws rules room w v events answers p r range few is chain nobody p_pla
 
 -- ---- what reads of the disks give
 
--- The first n players' journals are what a read of each disk finds; all journals stay sound.
+-- The world in which the first n players' journals are what a read of their disks finds; all journals stay sound.
 adopt : World → Reads → ℕ → World
 adopt w reads zero = w
 adopt w reads (suc n) = with_peer (adopt w reads n) (suc n) (away (peer_of (adopt w reads n) (suc n)) (found (peer_of (adopt w reads n) (suc n)) (reads (suc n))) None)

@@ -500,7 +500,7 @@ unread_sound rules room w p range sound plays =
     placed_same rules room w p (away (peer_of w p) (journal_of w p) (peer_of w p).pending) [] range sound plays refl
     (record { pending = λ r e. (λ mode. absurd cc, ((sound.peers p plays).pending r e).1); awake = λ mode. absurd (mode refl) }) (λ packet among. absurd (no_item packet among))
 
--- an opening that settles what it found: first the peer gets the journal that was found, then it is opened
+-- an opening that settles what it found, in two steps: the peer gets the found journal, then it is opened
 settle_open : (laws : ArePeersLawful) (rules : Rules) (room : ℕ) (w : World) (p : ℕ) (finds : Bool) (outcome : Opening) → AreInRange rules → room < 2 ^ 64 → IsSound rules room w → IsPlayer rules p
     → MayBecome rules room p (found (peer_of w p) finds) outcome → outcome ≢ NoMemory → ((why : DiskError) → outcome ≢ NotRead why)
     → Reaches rules room w (stepped w p (opened rules room p (peer_of w p) (found (peer_of w p) finds) outcome)).world

@@ -102,8 +102,8 @@ AgreeByReads rules w reads p r = has_leave p (read_by w reads 1) ≡ false → h
 abbrev pub IsAmong : List Packet → Packet → Type 0
 IsAmong said packet = (number : ℕ) × (slice_get said number ≡ Some packet)
 
--- A datagram is true by its sender's journal; a SEEN, whose sender has no journal, by how many frames player 1 counts
--- as confirmed.
+-- A datagram is true by its sender's journal. A watcher has no journal, so its SEEN is true by how many frames player 1
+-- counts as confirmed.
 abbrev pub IsTrueBy : Rules → World → Packet → Option ℕ → Type 0
 IsTrueBy rules w packet (Some rows) = rows ≤ confirmed (known_by rules w 1)
 IsTrueBy rules w packet None = IsTrue rules packet.head.from (journal_of w packet.head.from) packet

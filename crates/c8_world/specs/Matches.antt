@@ -45,7 +45,7 @@ answers_of (line ∷ lines) = line.answer ∷ answers_of lines
 abbrev pub Leads : Rules → World → List Line → World → Type 0
 Leads rules w lines v = Chain rules 0 w (events_of lines) (answers_of lines) v
 
--- the disk does what it is asked to do
+-- the disk does not fail
 abbrev pub works : Happening
 works = record { finds = false; opening = Stands; luck = Works; leaves = false }
 
@@ -214,9 +214,9 @@ stops calls pick luck leaves = record {
 abbrev pub sends : ℕ → List Line
 sends word = opens 2 1 ∷ meet (two 100 8) 0 1 2 2 1 ++ brings (two 100 8) 4 1 2 2 1 (inputs (two 100 8) 0 0 (word ∷ [])) Kept
 
--- The record was refused and is lost, and another set is entered; or it was refused and is there all the same; or it
--- was taken. The set that is there is sent. Which of these happens after how many calls depends on the disk and the
--- log.
+-- The disk refused the record and lost it, and another set is entered; or it refused the record but has it all the
+-- same; or it took the record. The player sends the set that the disk has. The disk and the log decide which of these
+-- happens after how many calls.
 abbrev pub lost : ℕ → ℕ → List Line
 lost calls pick = opens 1 1 ∷ stops calls pick (Refuses Failed) false ∷ opens 1 2 ∷ enters 1 0x0040 ∷ sends 0x0040
 

@@ -178,7 +178,7 @@ pub record IsFailure (act : code.Act) (calls : ℕ) (answer : codes.Answer) (old
   pub does : IsCarriedOut act answer armed acted
   pub ends : IsArmed (player_of (act_of act)) arms.Off acted new
 
--- A stop or a failure at whose act memory was refused: the disk is then armed not to fail.
+-- A stop or a failure whose act was refused memory: afterwards the disk is armed not to fail.
 pub record IsTakenBack (act : code.Act) (arm : Arm) (old new : TableValue) : Type 0 where
   pub armed : TableValue
   pub undone : TableValue

@@ -187,7 +187,7 @@ pub fn a_cut_bounds_who_stays()
     peers_are_lawful();
 }
 
-/// What a drop round rests on. `reports`: before player 1 has cut a leaver's list, a stayer's answer is at least what
+/// The premises of a drop round. `reports`: before player 1 has cut a leaver's list, a stayer's answer is at least what
 /// it holds. `frozen`: if the list is cut, each other undropped player has frozen the leaver.
 pub fn answers_bound_who_stays()
     ensures reports { (rules : Rules) (room : ℕ) (w : World) (p : ℕ)
@@ -217,7 +217,7 @@ pub fn undropped_peers_see_no_difference()
     peers_are_lawful();
 }
 
-/// The same agreement for what a read of each disk gives, whichever of the pending records it finds.
+/// The same agreement for the journals that reads of the disks find, with or without each pending record.
 pub fn what_disks_give_agrees()
     ensures { (rules : Rules) (room : ℕ) (w : World) (reads : Reads) (p r : ℕ)
         → AreInRange rules → room < 2 ^ 64 → IsReached rules room w
@@ -261,8 +261,8 @@ pub fn any_two_moments_agree()
 /// - `ranges`: the games that are played are games.
 /// - `turns`: two players, a window of one frame. The second tick is refused until the other player's set is there.
 ///   DATA that comes twice brings nothing the second time.
-/// - `stops`: player 1 stops inside a tick. Its set may be lost, and another one is entered; it may be there although
-///   the disk refused it; if the disk took it, it is there.
+/// - `stops`: player 1 stops inside a tick. The disk may lose its set, and another one is entered; the disk may have
+///   the set although it refused it; a set that the disk took is never lost.
 /// - `cuts`: player 1 drops player 3. Player 2 brings the two inputs that player 1 lacks, and both cut player 3's list
 ///   after them.
 /// - `restarts`: the same, but player 2 stops after its answer and is opened again. Datagrams to its first epoch are

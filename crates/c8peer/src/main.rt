@@ -1,9 +1,10 @@
-//! c8peer: the commands `peer`, `play`, `watch`, `secret` and `game` of c8play in a program of their own, which takes less time to prove
-//! and build. The script `c8play` starts it for these commands.
+//! c8peer: the commands `peer`, `play`, `host`, `join`, `watch`, `secret` and `game` of c8play in a program of their own, which
+//! takes less time to prove and build. The script `c8play` starts it for these commands.
 #![tactic(auto)]
 
 use c8_command::Status;
 use c8_front::{Terminals, Unhurried, line_of, status_at, tell, words_in};
+use c8_host::{host_command, host_given, join_command, join_given};
 use c8_net::{peer_command, peer_given, watch_command, watch_given};
 use c8_play::{play_command, play_given};
 use c8_program::{game_command, game_given};
@@ -50,6 +51,8 @@ where
     };
     let command = line_of(alloc, peer_command(alloc)?)?;
     let command = command.subcommand(play_command(alloc)?)?;
+    let command = command.subcommand(host_command(alloc)?)?;
+    let command = command.subcommand(join_command(alloc)?)?;
     let command = command.subcommand(watch_command(alloc)?)?;
     let command = command.subcommand(secret_command(alloc)?)?;
     let command = command.subcommand(game_command(alloc)?)?;
@@ -57,6 +60,8 @@ where
         Ok(matches) => match matches.subcommand() {
             Some(("peer", given)) => peer_given(rt, given, input, terminals, out, refused),
             Some(("play", given)) => play_given(rt, given, out, refused),
+            Some(("host", given)) => host_given(rt, given, out, refused),
+            Some(("join", given)) => join_given(rt, given, input, terminals, out, refused),
             Some(("watch", given)) => watch_given(rt, given, terminals, out, refused),
             Some(("secret", _)) => secret_given(rt, out, refused),
             Some(("game", given)) => game_given(rt, given, out, refused),

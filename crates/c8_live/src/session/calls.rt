@@ -91,7 +91,7 @@ impl<'g, D: Disk> Session<'g, D> {
     }
 }
 
-/// How many frames a delivery with this answer simulated; 0 unless it kept a record.
+/// Returns how many frames a delivery with this answer simulated; 0 unless it kept a record.
 fn frames_of(answer: Result<Heard, Refused>, last_run: u32) -> u32 {
     match answer {
         Ok(Heard::Kept) => last_run,

@@ -19,7 +19,7 @@ pub struct WatchAsked<'a> {
     /// The path of the watchers' secret, if the match has one.
     pub secret: Option<&'a str>,
     pub room: u64,
-    /// How many turns the watcher makes at most.
+    /// The most turns of the watcher.
     pub turns: u64,
     /// It ends once it has this many frames; `None` for never.
     pub stop: Option<u64>,
@@ -29,7 +29,7 @@ pub struct WatchAsked<'a> {
     pub explain: bool,
 }
 
-/// The command `watch` with its arguments and options.
+/// Returns the command `watch` with its arguments and options.
 pub fn watch_command<'a>(alloc: Global) -> Result<Command<'a>, AllocError> {
     let command = Command::new(alloc, "watch")
         .about("Watches a match over UDP, and prints the machine after the frames that it saw")
@@ -76,7 +76,7 @@ fn with_options<'a>(alloc: Global, command: Command<'a>) -> Result<Command<'a>, 
     with_explain(alloc, command.arg(screen)?)
 }
 
-/// What a parsed command line asks for; the parser has checked that each argument is there and in its range.
+/// Returns what a parsed command line asks for. The parser has checked that each argument is present and in range.
 pub(super) fn asked_of<'a>(given: &ArgMatches<'a>) -> Option<WatchAsked<'a>> {
     let seat = Watcher::new(given.get_one::<u8>("SEAT")?)?;
     Some(WatchAsked {

@@ -54,7 +54,7 @@ impl<'r, 'w, R: Clock, W: Write> Drawing<'r, 'w, R, W> {
         }
     }
 
-    /// The time; the last one if the clock cannot be read.
+    /// Returns the time; the last one if the clock cannot be read.
     fn now(&mut self) -> Duration {
         self.last = self.rt.monotonic().unwrap_or(self.last);
         self.last

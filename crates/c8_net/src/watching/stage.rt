@@ -21,7 +21,7 @@ use std::time::{Clock, Duration};
 /// How many milliseconds the viewer sleeps between two looks.
 const VIEWER_PAUSE: u64 = 5;
 
-/// A board that shows what a spectator has, with its pen and one viewer.
+/// A board that shows a spectator's rows, with its pen and one viewer.
 #[derive(Drop)]
 pub(super) struct Stage {
     board: Board,
@@ -137,8 +137,7 @@ where
     (spectator, turns)
 }
 
-/// Runs the viewer's thread until the turns are over: it asks for the end once there are as many frames as `--stop`
-/// asks for.
+/// Runs the viewer's thread until the turns are over. It asks for the end once the watcher has the frames of `--stop`.
 fn look_on<R: Clock + Wait>(
     rt: &R,
     enough: Option<u64>,

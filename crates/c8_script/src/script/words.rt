@@ -10,7 +10,7 @@ use c8_peer::Kind;
 use c8_wire::Watcher;
 use c8_world::{Act, Event};
 
-/// The event that the words of a line spell.
+/// Returns the event that the words of a line spell.
 pub fn event_in(words: &[&[u8]]) -> Option<Event>
     ensures { result ≡ event_in (map (λ word. word.now) words.now) }
 {
@@ -23,7 +23,7 @@ pub fn event_in(words: &[&[u8]]) -> Option<Event>
     }
 }
 
-/// The stop that these words spell: its two numbers, and then the act inside it.
+/// Returns the stop that these words spell: its two numbers, and then the act inside it.
 fn stop_in(words: &[&[u8]]) -> Option<Event>
     ensures { result ≡ stop_in (map (λ word. word.now) words.now) }
 {
@@ -36,7 +36,7 @@ fn stop_in(words: &[&[u8]]) -> Option<Event>
     Some(Event::Stop(held_in(act)?, number_in(calls)?, number_in(pick)?))
 }
 
-/// The failure that these words spell: its number, and then the act inside it.
+/// Returns the failure that these words spell: its number, and then the act inside it.
 fn fail_in(words: &[&[u8]]) -> Option<Event>
     ensures { result ≡ fail_in (map (λ word. word.now) words.now) }
 {
@@ -49,7 +49,7 @@ fn fail_in(words: &[&[u8]]) -> Option<Event>
     Some(Event::Fail(held_in(act)?, number_in(calls)?))
 }
 
-/// The act that these words spell, if a stop or a failure may hold it.
+/// Returns the act that these words spell, if a stop or a failure may hold it.
 fn held_in(words: &[&[u8]]) -> Option<Act>
     ensures { result ≡ held_in (act_in (map (λ word. word.now) words.now)) }
 {
@@ -59,7 +59,7 @@ fn held_in(words: &[&[u8]]) -> Option<Act>
     }
 }
 
-/// Whether a stop or a failure may hold an act; a watcher has no disk.
+/// Returns whether a stop or a failure may hold an act; a watcher has no disk.
 fn may_be_held(act: Act) -> bool
     ensures { result ≡ may_be_held act }
 {
@@ -76,7 +76,7 @@ fn may_be_held(act: Act) -> bool
     }
 }
 
-/// The act that these words spell.
+/// Returns the act that these words spell.
 fn act_in(words: &[&[u8]]) -> Option<Act>
     ensures { result ≡ act_in (map (λ word. word.now) words.now) }
 {
@@ -88,7 +88,7 @@ fn act_in(words: &[&[u8]]) -> Option<Act>
     }
 }
 
-/// The act that a verb and two words spell.
+/// Returns the act that a verb and two words spell.
 fn other_act_in(verb: &[u8], one: &[u8], other: &[u8]) -> Option<Act>
     ensures { result ≡ other_act_in verb.now one.now other.now }
 {
@@ -101,7 +101,7 @@ fn other_act_in(verb: &[u8], one: &[u8], other: &[u8]) -> Option<Act>
     }
 }
 
-/// The act that a verb and more than two words spell.
+/// Returns the act that a verb and more than two words spell.
 fn saying_in(verb: &[u8], one: &[u8], other: &[u8], what: &[u8], more: &[&[u8]]) -> Option<Act>
     ensures { result
         ≡ saying_in verb.now one.now other.now what.now (map (λ word. word.now) more.now) }
@@ -113,7 +113,7 @@ fn saying_in(verb: &[u8], one: &[u8], other: &[u8], what: &[u8], more: &[&[u8]])
     }
 }
 
-/// The delivery of a datagram to a player or watcher.
+/// Returns the delivery of a datagram to a player or watcher.
 fn given_in(number: &[u8], to: &[u8]) -> Option<Act>
     ensures { result ≡ act_or (act_of Give (number_in number.now) (player_in to.now)) (act_of Hear (number_in number.now) (watcher_in to.now)) }
 {
@@ -160,7 +160,7 @@ fn shown_in(one: &[u8], other: &[u8], what: &[u8], more: &[&[u8]]) -> Option<Act
     }
 }
 
-/// The act that a verb and the word of a player spell.
+/// Returns the act that a verb and the word of a player spell.
 fn player_act_in(verb: &[u8], player: &[u8]) -> Option<Act>
     ensures { result ≡ player_act_in verb.now player.now }
 {
@@ -179,7 +179,7 @@ fn player_act_in(verb: &[u8], player: &[u8]) -> Option<Act>
     }
 }
 
-/// The kind that a word spells, for some kinds with the word of a leaver.
+/// Returns the kind that a word spells, for some kinds with the word of a leaver.
 fn kind_in(what: &[u8], leaver: &[&[u8]]) -> Option<Kind>
     ensures { result ≡ kind_in what.now (map (λ word. word.now) leaver.now) }
 {
@@ -194,7 +194,7 @@ fn kind_in(what: &[u8], leaver: &[&[u8]]) -> Option<Kind>
     }
 }
 
-/// The player of one digit, 1 to 4.
+/// Returns the player of one digit, 1 to 4.
 fn player_in(word: &[u8]) -> Option<Player>
     ensures { result ≡ player_in word.now }
 {
@@ -206,7 +206,7 @@ fn player_in(word: &[u8]) -> Option<Player>
     }
 }
 
-/// The watcher of one digit, 5 or 6.
+/// Returns the watcher of one digit, 5 or 6.
 fn watcher_in(word: &[u8]) -> Option<Watcher>
     ensures { result ≡ watcher_in word.now }
 {
@@ -218,7 +218,7 @@ fn watcher_in(word: &[u8]) -> Option<Watcher>
     }
 }
 
-/// The number of 1 to 20 digits, if it fits in 64 bits.
+/// Returns the number of 1 to 20 digits, if it fits in 64 bits.
 fn number_in(word: &[u8]) -> Option<u64>
     ensures { result ≡ number_in word.now }
 {

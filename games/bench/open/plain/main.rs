@@ -1,7 +1,7 @@
-//! A plain Rust opening of a journal in a file, to measure `Log::open` and `replay` against: the slots and records of
-//! docs/FORMATS.md, read 32 slots a call and judged where they were read. With the word `twice` it makes the reads that an
-//! opening is defined to make: it finds the end first, as `Log::open` does, and then reads the records, as `replay` does; else
-//! it does both at once.
+//! A plain Rust opening of a journal in a file, to compare with `Log::open` and `replay`. It reads the slots and records of
+//! docs/FORMATS.md, 32 slots a call, and checks them in place. With the word `twice` it makes the reads of a defined
+//! opening: it first finds the end, as `Log::open` does, and then reads the records, as `replay` does. Without it, it does
+//! both at once.
 
 use std::fs::File;
 use std::io::{self, Read};
@@ -58,7 +58,7 @@ struct Table {
 }
 
 impl Table {
-    /// The least frame whose input is not settled, or `ticks` where each is.
+    /// The least frame whose input is not settled, or `ticks` if each is.
     fn reach(&self, ticks: usize) -> usize {
         match self.cut {
             Some(length) if length <= self.inputs.len() => ticks,
@@ -112,7 +112,7 @@ impl<'g> Known<'g> {
         Known { game, me, limit, records: 0, epoch: 0, ticks: 0, tables: tables.collect() }
     }
 
-    /// Whether the next tick is less than a window ahead of the frames that are confirmed.
+    /// Whether the next tick is less than a window ahead of the confirmed frames.
     fn is_within_window(&self) -> bool {
         self.tables.iter().all(|table| self.ticks < table.reach(self.ticks) + self.game.window)
     }
@@ -154,7 +154,7 @@ impl<'g> Known<'g> {
         Ok(())
     }
 
-    /// Takes a record after others. Whether it may stand there.
+    /// Takes a record after others. Returns whether it is allowed there.
     fn follow(&mut self, kind: u8, player: u8, number: u32, start: usize, run: &[u8]) -> bool {
         let (me, place, count) = (self.me, player as usize - 1, run.len() / 2);
         let is_dropped = me != 1 && self.tables[me as usize - 1].leaving;
@@ -221,7 +221,7 @@ fn read_slots(file: &File, mut take: impl FnMut(&[u8; BODY]) -> Result<(), Refus
     Ok((count, false))
 }
 
-/// Closes the gate after the last record, where it is missing or was left open.
+/// Closes the gate after the last record, if it is missing or open.
 fn close_gate(file: &File, (count, is_closed): (usize, bool)) -> Result<(), Refusal> {
     if !is_closed {
         file.write_all_at(&[CLOSED_GATE], (SLOT * count) as u64)?;

@@ -1,5 +1,5 @@
-//! A plain Rust session for two players, to measure `Roll` against: the machine of docs/MACHINE.md (`machine`), a
-//! ring of snapshots, and a mark of the confirmed machine at each multiple of 32 frames.
+//! A plain Rust session for two players, to compare with `Roll`: the machine of docs/MACHINE.md (`machine`), a ring of
+//! snapshots, and a mark of the confirmed machine at each multiple of 32 frames.
 
 mod machine;
 mod sha256;
@@ -63,7 +63,7 @@ impl<'g> Session<'g> {
         if self.first == self.ticks { &self.shown } else { &self.snapshots[self.first % room].machine }
     }
 
-    /// Goes back to the first frame whose row is not the best guess any more, and runs again from there on.
+    /// Rolls back to the first frame whose row is no longer the best prediction, and resimulates from there.
     #[inline(never)]
     fn settle(&mut self) -> Option<usize> {
         let room = self.snapshots.len();

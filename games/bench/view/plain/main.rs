@@ -1,4 +1,4 @@
-//! The same reading in plain Rust: one pass of judging by the table of refusals, and an iterator over the run.
+//! The same reading in plain Rust: one pass that checks the table of refusals, and an iterator over the run.
 use std::hint::black_box;
 use std::time::Instant;
 

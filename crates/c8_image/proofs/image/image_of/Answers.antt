@@ -2,7 +2,7 @@ use Rattle.std.proofs.Common.{◌≡◌, ◌<◌, ℕ, List, length, take, Optio
 use Rattle.std.proofs.lemmas.List.{take_all, length-take}
 use Rattle.c8_image.proofs.image.image_of.Goals as goal
 
--- a read that got less than it asked for got everything
+-- a read that returned fewer bytes than it could has read everything
 all_taken : (known : Option (List ℕ)) (n : ℕ) (items : List ℕ) → IfSome (option_map (take n) known) (λ xs. items ≡ xs) → length items < n → IfSome known (λ bytes. items ≡ bytes)
 all_taken None n items taken short = tt
 all_taken (Some bytes) n items taken short = taken ∙ take_all n bytes (omega (arith, ap length taken, length-take n bytes))

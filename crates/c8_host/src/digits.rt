@@ -1,0 +1,22 @@
+//! The digits of a secret from standard input.
+
+use std::alloc::Global;
+use std::io;
+use std::io::Read;
+
+/// How many bytes are read at most: more than a secret has.
+const MOST: usize = 80;
+
+/// Reads the first line of an input, without its end: LF, CR or the end of the input. It reads no byte after that, and
+/// stops after 80 bytes. The error is the reader's, or that memory ran out.
+pub fn digits_in<I: Read>(alloc: Global, input: &mut I) -> io::Result<Vec<u8>> {
+    let mut digits = Vec::with_capacity(alloc, MOST)?;
+    let mut byte = [0];
+    while digits.len() < MOST {
+        if input.read(&mut byte)? == 0 || byte == [b'\n'] || byte == [b'\r'] {
+            break;
+        }
+        digits.push(byte[0])?;
+    }
+    Ok(digits)
+}

@@ -1,0 +1,28 @@
+//! The ends of the help of `host` and `join`.
+
+/// The end of the help of `host`.
+pub const HOST_ENDING: &str =
+    "The terminal shows the line that your friend types. Your friend needs the same game file, and the file
+of the secret: send it by a way that nobody else reads. GAME.secret is made once, and serves for all
+matches of this game. The room is new each time.
+
+  ./c8play host games/rally.game
+
+The match begins once the friend is there; until then the row below the picture says for whom it waits.
+A friend in another network needs your router's address, and the router forwards the UDP port to this
+machine. Keys, screen and the rest are as in the command play; both players have 60 frames a second.
+With --journal a player whose program ends comes back with the same --journal and --room.
+
+Refusals and exit statuses are those of the command peer; a secret that cannot be made is disk 1 Failed.";
+
+/// The end of the help of `join`.
+pub const JOIN_ENDING: &str =
+    "The friend's terminal shows the whole line. Without --secret the digits are read from standard input:
+typed, unseen, or from a file:
+
+  ./c8play join games/rally.game 192.0.2.7:4001 3735928559 --secret rally.game.secret
+  ./c8play join games/rally.game 192.0.2.7:4001 3735928559 <rally.game.secret
+
+Keys, screen and the rest are as in the command play; both players have 60 frames a second.
+
+Refusals and exit statuses are those of the command peer.";
