@@ -1,5 +1,5 @@
 -- What the calls of a handle do to its session.
-use Rattle.std.specs.Prelude.{ℕ, ◌≡◌, ◌<◌, ◌/◌, min, List, [], ◌∷◌, ◌++◌, take, drop, map, Option, None, Some, Result}
+use Rattle.std.specs.Prelude.{ℕ, ◌≡◌, ◌<◌, ◌/◌, min, List, [], ◌∷◌, ◌++◌, take, drop, map, Option, None, Some, Result, Err}
 use Rattle.c8_disk.specs.declared.error.DiskError.{DiskError}
 use Rattle.c8_disk.specs.declared.file.FileDisk.{FileDisk}
 use Rattle.c8_game.specs.Rules.{Rules}
@@ -10,10 +10,11 @@ use Rattle.c8_wire.specs.checked.Read.{read}
 use Rattle.c8_peer.specs.declared.check.Check.{Check}
 use Rattle.c8_peer.specs.declared.heard.Heard.{Heard}
 use Rattle.c8_peer.specs.Opened.{IsOpened}
-use Rattle.c8_peer.specs.Peer.{IsAnswered, IsSaid}
-use Rattle.c8_peer.specs.State.{Call, Reply, Saying, Tick, Deliver, Say, Leave, Decide, Checkpoint, Ticked, Delivered, Left, Decided, Checked}
+use Rattle.c8_peer.specs.Peer.{IsAnswered, IsSaid, IsStep}
+use Rattle.c8_peer.specs.State.{Call, Reply, Saying, Hello, Welcome, Data, Freeze, Frozen, Cut, Said, Tick, Deliver, Say, Leave, Decide, Checkpoint, Ticked, Delivered, Left, Decided, Checked}
 use Rattle.c8_refusals.specs.declared.error.TickError.{TickError}
 use Rattle.c8_refusals.specs.declared.error.Refused.{Refused}
+use Rattle.c8_refusals.specs.declared.error.Unsayable.{Unsayable}
 use Rattle.c8_refusals.specs.declared.error.LeaveError.{LeaveError}
 use Rattle.c8_refusals.specs.declared.error.DecideError.{DecideError}
 use Rattle.c8_refusals.specs.declared.error.CheckError.{CheckError}
@@ -21,7 +22,7 @@ use Rattle.c8_embed.specs.declared.medium.Medium.{Medium}
 use Rattle.c8_embed.specs.declared.session.Session.{Session}
 use Rattle.c8_embed.specs.Engine.{EngineValue, HasTurned}
 use Rattle.c8_embed.specs.Journal.{disk}
-use Rattle.c8_engine.specs.Codes.{tick_code, heard_code, leave_code, decide_code, check_code, turn_code}
+use Rattle.c8_engine.specs.Codes.{tick_code, heard_code, leave_code, decide_code, check_code, turn_code, say_code}
 
 -- the engine of a session
 abbrev pub EngineOf : Type 0
@@ -87,6 +88,29 @@ pub record HasMadeTurn (old new : EngineOf) (code : ℕ) : Type 0 where
 -- the first `size` bytes, if there are any, are a datagram that the peer says to this player
 abbrev pub HasSaid : EngineOf → ℕ → ℕ → List ℕ → Type 0
 HasSaid e to size out = 0 < size → (what : Saying) × IsSaid e.peer (Say to what) (take size out)
+
+-- the saying that a kind's number asks for, about this leaver if it is about one
+abbrev pub IsKind : ℕ → ℕ → Saying → Type 0
+IsKind kind leaver Hello = kind ≡ 0
+IsKind kind leaver Welcome = kind ≡ 1
+IsKind kind leaver Data = kind ≡ 2
+IsKind kind leaver (Freeze l) = (kind ≡ 3) × (l ≡ leaver)
+IsKind kind leaver (Frozen l) = (kind ≡ 4) × (l ≡ leaver)
+IsKind kind leaver (Cut l) = (kind ≡ 5) × (l ≡ leaver)
+
+-- the first `size` bytes are a datagram of this kind that the peer says to this player
+pub record HasSaidKind (e : EngineOf) (to kind leaver size : ℕ) (out : List ℕ) : Type 0 where
+  pub what : Saying
+  pub kind_is : IsKind kind leaver what
+  pub said : IsSaid e.peer (Say to what) (take size out)
+
+-- the peer refuses to say a datagram of this kind to this player, and the code tells why
+pub record HasRefusedToSay (e : EngineOf) (to kind leaver code : ℕ) : Type 0 where
+  pub what : Saying
+  pub kind_is : IsKind kind leaver what
+  pub why : Unsayable
+  pub step : IsStep e.peer (Say to what) (Said (Err why)) e.peer
+  pub code_is : code ≡ say_code why
 
 -- ---- rows as C reads them: four words each
 

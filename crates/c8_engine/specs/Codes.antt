@@ -14,12 +14,14 @@ use Rattle.c8_peer.specs.declared.check.Check.{Check}
 use Rattle.c8_peer.specs.declared.check.Check.TheVariants.{Piece, Done}
 use Rattle.c8_peer.specs.declared.heard.Heard.{Heard}
 use Rattle.c8_peer.specs.declared.heard.Heard.TheVariants.{Nothing, Kept, Out}
+use Rattle.c8_refusals.specs.Errors as refusing
 use Rattle.c8_refusals.specs.declared.error.OpenError.{OpenError}
 use Rattle.c8_refusals.specs.declared.error.OpenError.TheVariants as opens
 use Rattle.c8_refusals.specs.declared.error.TickError.{TickError}
 use Rattle.c8_refusals.specs.declared.error.TickError.TheVariants as ticks
 use Rattle.c8_refusals.specs.declared.error.Refused.{Refused}
 use Rattle.c8_refusals.specs.declared.error.Refused.TheVariants as refusals
+use Rattle.c8_refusals.specs.declared.error.Unsayable.{Unsayable}
 use Rattle.c8_refusals.specs.declared.error.LeaveError.{LeaveError}
 use Rattle.c8_refusals.specs.declared.error.LeaveError.TheVariants as leaves
 use Rattle.c8_refusals.specs.declared.error.DecideError.{DecideError}
@@ -100,6 +102,9 @@ check_code (Err checks.Nothing) = 1201
 check_code (Err checks.Dropped) = 1202
 check_code (Err (checks.Disk why)) = disk_code why
 check_code (Err checks.Down) = 1204
+
+abbrev pub say_code : Unsayable → ℕ
+say_code why = 900 + refusing.unsayable_number_of why
 
 abbrev pub turn_code : Result (Unit {0}) DiskError → ℕ
 turn_code (Ok done) = 0

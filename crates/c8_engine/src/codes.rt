@@ -1,6 +1,6 @@
 //! The number that each answer has in C.
 ghost use Rattle.std.specs.Prelude.{◌≡◌, ◌<◌};
-ghost use Rattle.c8_engine.specs.Codes.{closed_code, nobody_code, disk_code, game_code, open_code, tick_code, heard_code, leave_code, decide_code, check_code, turn_code, file_code};
+ghost use Rattle.c8_engine.specs.Codes.{closed_code, nobody_code, disk_code, game_code, open_code, tick_code, heard_code, leave_code, decide_code, check_code, turn_code, file_code, say_code};
 
 use c8_disk::{DiskError, FileError};
 use c8_game::GameError;
@@ -123,7 +123,8 @@ pub(crate) fn file_code(error: FileError) -> u32
 }
 
 pub(crate) fn say_code(error: Unsayable) -> u32
-    ensures { 0 < result }
+    ensures code { result ≡ say_code error }
+    ensures some { nobody_code < result }
 {
     900 + u32::from(error.number())
 }

@@ -1,7 +1,8 @@
 //! The datagrams of a session's peer.
-ghost use Rattle.std.specs.Prelude.{◌≡◌, ◌≤◌, None};
-ghost use Rattle.c8_engine.specs.Codes.{closed_code};
-ghost use Rattle.c8_engine.specs.Calls.{IfOpen, HasSaid};
+ghost use Rattle.std.specs.Prelude.{◌≡◌, ◌≤◌, ◌<◌, None, IfSome};
+ghost use Rattle.c8_peer.specs.Asked.{saying_of};
+ghost use Rattle.c8_engine.specs.Codes.{closed_code, nobody_code};
+ghost use Rattle.c8_engine.specs.Calls.{IfOpen, IsKind, HasSaid, HasSaidKind, HasRefusedToSay};
 
 use crate::codes::{closed_code, nobody_code, say_code};
 use crate::handle::Handle;
@@ -42,7 +43,9 @@ pub extern "C" fn c8_say(
     ensures same { handle.new.value ≡ handle.old.value }
     ensures closed { handle.old.value ≡ None → result ≡ closed_code }
     ensures said { IfOpen handle.old.value handle.new.value (λ e f.
-        result ≡ 0 → HasSaid e to length.new out.new) }
+        result ≡ 0 → HasSaidKind e to kind leaver length.new out.new) }
+    ensures refused { IfOpen handle.old.value handle.new.value (λ e f.
+        nobody_code < result → HasRefusedToSay e to kind leaver result) }
     ensures fits { result ≡ 0 → length.new ≤ 174 }
 {
     if !handle.is_open() {
@@ -64,7 +67,9 @@ pub extern "C" fn c8_say(
 }
 
 /// The kind of a number; `None` if there is none, or if the leaver is no player.
-fn kind_of(kind: u8, leaver: u8) -> Option<Kind> {
+fn kind_of(kind: u8, leaver: u8) -> Option<Kind>
+    ensures { IfSome result (λ it. IsKind kind leaver (saying_of it)) }
+{
     match kind {
         0 => Some(Kind::Hello),
         1 => Some(Kind::Welcome),

@@ -98,7 +98,7 @@ fn tell_outcome<W: Write, E: Write>(
     out: &mut W,
     refused: &mut E,
 ) -> io::Result<Status>
-    requires { IsOutcomeOfSim game.entry.bytes.now script.entry.bytes.now outcome }
+    requires { IsOutcomeOfSim game.bytes.now script.bytes.now outcome }
     ensures { IfOk result (λ status.
         HasEnded game.entry.bytes.now script.entry.bytes.now status
         (W.contents out.old) (W.contents out.new)) }
