@@ -62,14 +62,7 @@ where
             Err(_) => Err(no_memory(rt.alloc(), asked.journal)),
         };
     }
-    let Ok(bytes) = Vec::with_capacity(rt.alloc(), JOURNAL_CAPACITY as usize) else {
-        return Err(no_memory(rt.alloc(), asked.journal));
-    };
-    let opened = match trouble.keep(OpenedFile::open(rt, asked.journal)) {
-        Ok(file) => FileDisk::over(Medium { file, trouble }, bytes, JOURNAL_CAPACITY),
-        Err(_) => Err(FileError::Failed),
-    };
-    match opened {
+    match disk_at(rt, asked.journal, JOURNAL_CAPACITY, trouble) {
         Ok(disk) => Ok(Journal::File(disk)),
         Err(FileError::Memory) => Err(no_memory(rt.alloc(), asked.journal)),
         Err(FileError::Full) => {
@@ -85,6 +78,23 @@ where
             let error = PeerError::Disk(DiskError::Failed);
             Err(Fault::of_journal(rt.alloc(), error, asked.journal, trouble))
         }
+    }
+}
+
+/// Opens the file at a path as a disk with room for `capacity` bytes, and makes the file if there is none.
+fn disk_at<'t, R>(
+    rt: &R,
+    path: &str,
+    capacity: u32,
+    trouble: &'t Trouble,
+) -> Result<FileDisk<Medium<'t>>, FileError>
+where
+    R: Files<File = File> + AllocGlobal,
+{
+    let bytes = Vec::with_capacity(rt.alloc(), capacity as usize)?;
+    match trouble.keep(OpenedFile::open(rt, path)) {
+        Ok(file) => FileDisk::over(Medium { file, trouble }, bytes, capacity),
+        Err(_) => Err(FileError::Failed),
     }
 }
 
