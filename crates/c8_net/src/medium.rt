@@ -1,5 +1,7 @@
 //! The file of a journal, and the system's error if it fails.
 
+ghost use Rattle.std.specs.Prelude.{◌≡◌};
+
 use c8_disk::{OpenedFile, SystemFile};
 use std::cell::Cell;
 use std::io;
@@ -24,7 +26,9 @@ impl Trouble {
     }
 
     /// Keeps the error of an answer.
-    pub(crate) fn keep<T>(&self, answer: io::Result<T>) -> io::Result<T> {
+    pub(crate) fn keep<T>(&self, answer: io::Result<T>) -> io::Result<T>
+        ensures { result ≡ answer }
+    {
         if let Err(error) = &answer {
             self.last.set(Some(*error));
         }
