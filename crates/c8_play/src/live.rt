@@ -265,9 +265,9 @@ fn show<D: Disk, C: Console>(
         status.forget();
     }
     consider(session, desk, status, waits);
+    sound(session, status);
     let now = desk.now();
     let peer = session.peer();
-    status.sound(peer.shown().tone());
     desk.show(
         peer.shown().screen(),
         status.row(now, peer.confirmed(), waits),
@@ -282,6 +282,11 @@ fn waited_for<D: Disk>(session: &Session<'_, D>, entry: Entry) -> Option<Player>
     } else {
         None
     }
+}
+
+/// Passes on the tone of what the player sees.
+fn sound<D: Disk>(session: &Session<'_, D>, status: &mut StatusRow) {
+    status.sound(session.peer().shown().tone());
 }
 
 /// Gives up the player for whom the match waits, once the person has asked for it twice.
