@@ -3,7 +3,7 @@
 ghost use Rattle.std.specs.Prelude.{◌≡◌, ◌≤◌};
 ghost use Rattle.c8_play.specs.Alone.{IsPlayedAlone, IsEndAlone};
 
-use crate::chime::{BELL, Chime};
+use crate::chime::Chime;
 use crate::console::Console;
 use crate::desk::Desk;
 use c8_game::{Game, Row};
@@ -32,12 +32,7 @@ pub fn play_alone<C: Console>(game: &Game, desk: &mut Desk<C>, chime: Chime, fra
         let row = Row { sets: [keys; 4] };
         played.machine.frame(game, game.joined(&row));
         played.frames = frame + 1;
-        let bell: &[u8] = if chime.rings(played.machine.tone()) {
-            &[BELL]
-        } else {
-            &[]
-        };
-        desk.show(played.machine.screen(), bell);
+        desk.show(played.machine.screen(), chime.bell(played.machine.tone()));
     }
     played
 }

@@ -1,7 +1,7 @@
 //! The bell of the terminal, in place of a tone.
 
-/// The byte at which a terminal rings its bell.
-pub const BELL: u8 = 0x07;
+/// The bytes at which a terminal rings its bell.
+const BELL: &[u8] = b"\x07";
 
 /// Rings once when a tone begins.
 #[derive(Clone, Copy, Debug, PartialEq, Eq)]
@@ -20,10 +20,10 @@ impl Chime {
         }
     }
 
-    /// Takes the tone timer of the next frame, and returns whether the bell rings.
-    pub fn rings(&mut self, tone: u8) -> bool {
+    /// Takes the tone timer of the next frame, and returns what to write: the bell, or nothing.
+    pub fn bell(&mut self, tone: u8) -> &'static [u8] {
         let begins = tone > 0 && !self.sounded;
         self.sounded = tone > 0;
-        begins && !self.is_muted
+        if begins && !self.is_muted { BELL } else { &[] }
     }
 }

@@ -21,7 +21,7 @@ mod terminal;
 
 pub use alone::play_alone;
 pub use arguments::play_command;
-pub use chime::{BELL, Chime};
+pub use chime::Chime;
 pub use command::play_given;
 pub use console::{Console, Gone, KEY_BYTES};
 pub use desk::{Desk, Pace};

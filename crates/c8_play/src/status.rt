@@ -1,6 +1,6 @@
 //! The row of text below the screen: how far a match is.
 
-use crate::chime::{BELL, Chime};
+use crate::chime::Chime;
 use arrayvec::ArrayVec;
 use c8_disk::Disk;
 use c8_game::{MOST_PLAYERS, Player};
@@ -80,8 +80,8 @@ pub struct StatusRow {
     /// The player that one more control-D drops.
     asked: Option<Player>,
     chime: Chime,
-    /// Whether the bell rings in this frame.
-    rings: bool,
+    /// The bell, if it rings in this frame.
+    bell: &'static [u8],
     /// What the terminal shows in the row.
     shown: ArrayVec<u8, LONGEST_ROW>,
     /// What the last frame wrote.
@@ -106,7 +106,7 @@ impl StatusRow {
             numbers: Numbers::default(),
             asked: None,
             chime: Chime::new(true),
-            rings: false,
+            bell: &[],
             shown: ArrayVec::new(),
             written: ArrayVec::new(),
         }
@@ -119,7 +119,7 @@ impl StatusRow {
 
     /// Takes the tone timer of the frame that is shown next.
     pub fn sound(&mut self, tone: u8) {
-        self.rings = self.chime.rings(tone);
+        self.bell = self.chime.bell(tone);
     }
 
     /// Notes what the wire has turned away so far.
@@ -194,10 +194,8 @@ impl StatusRow {
             let _ = self.written.write_all(&row);
             self.shown = row;
         }
-        if self.rings {
-            self.rings = false;
-            let _ = self.written.write_all(&[BELL]);
-        }
+        let _ = self.written.write_all(self.bell);
+        self.bell = &[];
         self.written.as_slice()
     }
 
