@@ -218,8 +218,13 @@ impl Machine {
         met != 0
     }
 
-    /// The first 8 bytes of SHA-256 over all that the machine is.
+    /// The first 8 bytes of the digest.
     pub fn mark(&self) -> [u8; 8] {
+        *self.digest().first_chunk().unwrap()
+    }
+
+    /// SHA-256 over all that the machine is.
+    pub fn digest(&self) -> [u8; 32] {
         let mut bytes = Vec::with_capacity(4419);
         bytes.extend(self.memory);
         bytes.extend(self.v);
@@ -233,7 +238,7 @@ impl Machine {
         bytes.push(self.waits.unwrap_or(0xff));
         bytes.extend(self.draws.to_be_bytes());
         bytes.push(self.stop);
-        sha256(&bytes)[..8].try_into().unwrap()
+        sha256(&bytes)
     }
 }
 
