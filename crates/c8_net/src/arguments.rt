@@ -56,6 +56,11 @@ impl Asked<'_, '_> {
         self.journal == NO_JOURNAL
     }
 
+    /// Whether the match has a secret.
+    pub(crate) fn has_secret(&self) -> bool {
+        self.secret.is_some() || self.digits.is_some()
+    }
+
     /// After how many confirmed frames the peer makes the next checkpoint; 0 for never, as without a journal.
     pub(crate) fn interval(&self) -> u32 {
         if self.has_no_journal() {

@@ -193,7 +193,7 @@ fn tell_outcome<W: Write, E: Write>(
         }
         Err(fault) => {
             let remotes = asked.remotes.unwrap_or(&[]);
-            let may_learn = asked.secret.is_some() || asked.digits.is_some();
+            let may_learn = asked.has_secret();
             let word = refused_address(asked.local, remotes, asked.watchers, may_learn);
             refuse(alloc, asked.explain, word, &fault, refused)
         }

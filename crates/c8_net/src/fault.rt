@@ -80,7 +80,7 @@ impl<'a> Fault<'a> {
 
     /// The same fault, with what says more.
     pub(crate) fn because(self, why: Option<Why>) -> Self
-        ensures { result.error ≡ self.error }
+        ensures { result.error ≡ self.entry.error }
     {
         Fault { why, ..self }
     }
