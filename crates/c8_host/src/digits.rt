@@ -12,7 +12,7 @@ const MOST: usize = 80;
 pub fn digits_in<I: Read>(alloc: Global, input: &mut I) -> io::Result<Vec<u8>> {
     let mut digits = Vec::with_capacity(alloc, MOST)?;
     let mut byte = [0];
-    while digits.len() < MOST {
+    for _ in 0..MOST {
         if input.read(&mut byte)? == 0 || byte == [b'\n'] || byte == [b'\r'] {
             break;
         }
