@@ -228,7 +228,7 @@ impl StatusRow {
         let mut is_new = [false; MOST_PLAYERS];
         for place in 0..MOST_PLAYERS {
             silent[place] = now.saturating_sub(self.heard[place]).as_millis();
-            is_new[place] = self.is_new(now, place);
+            is_new[place] = self.is_new(now, self.met[place]);
         }
         self.numbers = Numbers {
             ticked: standing.ticked,
@@ -244,8 +244,7 @@ impl StatusRow {
     }
 
     /// Whether the first datagram of a player came just now, after a wait.
-    fn is_new(&self, now: Duration, place: usize) -> bool {
-        let met = self.met[place];
+    fn is_new(&self, now: Duration, met: Duration) -> bool {
         met.saturating_sub(self.start) > Duration::from_secs(EVERY)
             && now.saturating_sub(met) < Duration::from_secs(GREETING)
     }
