@@ -44,30 +44,49 @@ where
         writeln!(refused, "error: host wants a terminal")?;
         return Ok(Status::CommandLine);
     };
-    let alloc = rt.alloc();
     let game = word_of(given, "GAME");
-    let usual = format!(in alloc; "{game}.secret")?;
+    let usual = format!(in rt.alloc(); "{game}.secret")?;
     let secret = given.get_str("secret").unwrap_or(usual.as_str());
-    let room = match made(rt, secret) {
-        Ok(drawn) => number_of(given, "room").unwrap_or(drawn),
+    match made(rt, secret) {
+        Ok(drawn) => {
+            let room = number_of(given, "room").unwrap_or(drawn);
+            invite(rt, given, console, secret, room, out, refused)
+        }
         Err(error) => {
             let site = is_explained(given).then_some(Site::File(secret));
-            return Refusal::DISK.tell_at(site, &error, refused);
+            Refusal::DISK.tell_at(site, &error, refused)
         }
-    };
+    }
+}
+
+/// Shows the invitation to a match in this room, and plays it.
+fn invite<R, W, E>(
+    rt: &R,
+    given: &ArgMatches<'_>,
+    console: Terminal<'_, R>,
+    secret: &str,
+    room: u64,
+    out: &mut W,
+    refused: &mut E,
+) -> io::Result<Status>
+where
+    R: Files<File = File> + Net + Clock + AllocGlobal,
+    W: Write,
+    E: Write,
+{
     let port = given.get_one::<u16>("port").unwrap_or(4001);
     let list = list_of(rt)?;
-    let addresses = own_addresses(alloc, list.as_str())?;
+    let addresses = own_addresses(rt.alloc(), list.as_str())?;
     let invitation = Invitation {
-        game,
+        game: word_of(given, "GAME"),
         secret,
         addresses: &addresses,
         port,
         room,
     };
     write!(refused, "{invitation}")?;
-    let note = note(alloc, &invitation)?;
-    let local = format!(in alloc; "0.0.0.0:{port}")?;
+    let note = note(rt.alloc(), &invitation)?;
+    let local = format!(in rt.alloc(); "0.0.0.0:{port}")?;
     let asked = Asked {
         player: Player::CHAIR,
         local: local.as_str(),
@@ -76,14 +95,8 @@ where
         room,
         ..usual_match(given)
     };
-    play(
-        rt,
-        given,
-        &asked,
-        console.with_note(note.as_bytes()),
-        out,
-        refused,
-    )
+    let console = console.with_note(note.as_bytes());
+    play(rt, given, &asked, console, out, refused)
 }
 
 /// Runs `join` as the command line asks, and plays as player 2. Without `--secret` it reads the secret's digits from
