@@ -1,0 +1,188 @@
+//! What a peer shows of itself.
+use crate::answers::Answers;
+use crate::bytes::write_bytes;
+use crate::words::{count_in, player_in};
+use c8_digest::mark;
+use c8_disk::MemDisk;
+use c8_game::{Player, Row};
+use c8_peer::Peer;
+use std::fmt::Display;
+use std::io;
+use std::io::Write;
+
+/// Prints what a peer's readers return, by name. Returns whether all words name readers.
+pub(crate) fn look(
+    peer: &Peer<'_, MemDisk>,
+    words: &[&str],
+    out: &mut Answers,
+) -> io::Result<bool> {
+    let mut left = words;
+    for _ in 0..words.len() {
+        if left.is_empty() {
+            break;
+        }
+        let taken = read(peer, left, &mut out.text)?;
+        match left.get(taken..) {
+            Some(more) if taken > 0 => left = more,
+            _ => return Ok(false),
+        }
+        let end = if left.is_empty() { "\n" } else { " " };
+        write!(out.text, "{end}")?;
+    }
+    Ok(!words.is_empty())
+}
+
+/// Prints what the first reader returns. Returns how many words name it, 0 if they name none.
+fn read(peer: &Peer<'_, MemDisk>, words: &[&str], text: &mut Vec<u8>) -> io::Result<usize> {
+    match words {
+        [name @ ("row" | "best"), frame, ..] => match count_in(frame) {
+            Some(frame) => Ok(2 * usize::from(read_frame(peer, name, frame, text)?)),
+            None => Ok(0),
+        },
+        [name, at, ..] if is_of_player(name) => match player_in(at) {
+            Some(player) => Ok(2 * usize::from(read_player(peer, name, player, text)?)),
+            None => Ok(0),
+        },
+        [name, ..] => {
+            let is_read = read_count(peer, name, text)?
+                || read_flag(peer, name, text)?
+                || read_machine(peer, name, text)?;
+            Ok(usize::from(is_read))
+        }
+        [] => Ok(0),
+    }
+}
+
+fn is_of_player(name: &str) -> bool {
+    matches!(
+        name,
+        "count" | "acked" | "linked" | "frozen" | "leaving" | "cut"
+    )
+}
+
+/// Prints a name and a value.
+fn named<T: Display + Drop>(text: &mut Vec<u8>, name: &str, value: T) -> io::Result<bool> {
+    write!(text, "{name} {value}")?;
+    Ok(true)
+}
+
+fn yes(is_so: bool) -> &'static str {
+    if is_so { "yes" } else { "no" }
+}
+
+fn read_count(peer: &Peer<'_, MemDisk>, name: &str, text: &mut Vec<u8>) -> io::Result<bool> {
+    match name {
+        "epoch" => named(text, name, peer.epoch()),
+        "now" => named(text, name, peer.now()),
+        "confirmed" => named(text, name, peer.confirmed()),
+        "last_run" => named(text, name, peer.last_run()),
+        "last_checkpoint" => named(text, name, peer.last_checkpoint()),
+        "base" => named(text, name, peer.base().0),
+        "counter" => {
+            let counter = peer.shown().counter();
+            write!(text, "{name} {counter:03x}")?;
+            Ok(true)
+        }
+        _ => Ok(false),
+    }
+}
+
+fn read_flag(peer: &Peer<'_, MemDisk>, name: &str, text: &mut Vec<u8>) -> io::Result<bool> {
+    match name {
+        "down" => named(text, name, yes(peer.is_down())),
+        "dropped" => named(text, name, yes(peer.dropped())),
+        "alarm" => named(text, name, yes(peer.alarm())),
+        _ => Ok(false),
+    }
+}
+
+/// Prints the registers or the mark of the shown machine, the mark of the confirmed one, or what the journal has of
+/// all players.
+fn read_machine(peer: &Peer<'_, MemDisk>, name: &str, text: &mut Vec<u8>) -> io::Result<bool> {
+    match name {
+        "registers" => {
+            write!(text, "{name}")?;
+            write_bytes(text, peer.shown().registers(), &[], 1, true)?;
+        }
+        "mark" => {
+            write!(text, "{name}")?;
+            write_bytes(text, &mark(peer.shown()), &[], 8, false)?;
+        }
+        "base_mark" => {
+            write!(text, "{name}")?;
+            write_bytes(text, &mark(peer.base().1), &[], 8, false)?;
+        }
+        "players" => write_players(peer, text)?,
+        _ => return Ok(false),
+    }
+    Ok(true)
+}
+
+fn read_player(
+    peer: &Peer<'_, MemDisk>,
+    name: &str,
+    player: Player,
+    text: &mut Vec<u8>,
+) -> io::Result<bool> {
+    match name {
+        "count" => named(text, name, peer.count(player)),
+        "acked" => named(text, name, peer.acked(player)),
+        "linked" => named(text, name, yes(peer.is_linked(player))),
+        "frozen" => named(text, name, yes(peer.frozen(player))),
+        "leaving" => named(text, name, yes(peer.leaving(player))),
+        "cut" => match peer.cut_of(player) {
+            Some(length) => named(text, name, length),
+            None => named(text, name, "none"),
+        },
+        _ => Ok(false),
+    }
+}
+
+/// Prints the key sets of a confirmed frame, or the best ones of any frame.
+fn read_frame(
+    peer: &Peer<'_, MemDisk>,
+    name: &str,
+    frame: u32,
+    text: &mut Vec<u8>,
+) -> io::Result<bool> {
+    if name == "best" {
+        return write_row(text, name, &peer.best_row(frame));
+    }
+    let rows = peer.rows();
+    if frame >= rows.len() {
+        return named(text, name, "none");
+    }
+    write_row(text, name, &rows.row(frame))
+}
+
+fn write_row(text: &mut Vec<u8>, name: &str, row: &Row) -> io::Result<bool> {
+    let [one, two, three, four] = row.sets;
+    write!(text, "{name} {one} {two} {three} {four}")?;
+    Ok(true)
+}
+
+/// Prints how many inputs the journal has of each player, whether they are frozen, whether the player leaves, and where
+/// the list is cut.
+fn write_players(peer: &Peer<'_, MemDisk>, text: &mut Vec<u8>) -> io::Result<()> {
+    write!(text, "players")?;
+    for number in 1..5u8 {
+        if let Some(player) = Player::new(number) {
+            write_player(peer, player, text)?;
+        }
+    }
+    Ok(())
+}
+
+fn write_player(peer: &Peer<'_, MemDisk>, player: Player, text: &mut Vec<u8>) -> io::Result<()> {
+    write!(text, " {}", peer.count(player))?;
+    if peer.frozen(player) {
+        write!(text, " frozen")?;
+    }
+    if peer.leaving(player) {
+        write!(text, " leaving")?;
+    }
+    if let Some(length) = peer.cut_of(player) {
+        write!(text, " cut {length}")?;
+    }
+    Ok(())
+}

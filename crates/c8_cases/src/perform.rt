@@ -1,0 +1,120 @@
+//! The commands of a case, one after another.
+use crate::answers::{Answers, add};
+use crate::faults::{Trial, write_outcomes};
+use crate::script::{Command, Script};
+use crate::stage::Stage;
+use crate::words::{size_in, words_in};
+use c8_game::Game;
+use std::alloc::Global;
+use std::io;
+
+/// The commands of a file from a place on, and the games that they name.
+#[derive(Clone, Copy)]
+pub(crate) struct Case<'g, 't> {
+    pub(crate) alloc: Global,
+    pub(crate) script: &'g Script<'t>,
+    pub(crate) first: usize,
+    pub(crate) game: Option<&'g Game>,
+    pub(crate) other: Option<&'g Game>,
+}
+
+impl<'g, 't> Case<'g, 't> {
+    /// Does what the command at a place says, and adds what it prints. Returns whether it can be read.
+    pub(crate) fn perform(
+        self,
+        place: usize,
+        stage: &mut Stage<'g>,
+        out: &mut Answers,
+        text: &mut Vec<u8>,
+    ) -> io::Result<bool> {
+        let Some(command) = self.script.commands.get(place).copied() else {
+            return Ok(false);
+        };
+        let all = words_in(self.alloc, self.script.line(command.line))?;
+        let block = self.script.block(command);
+        let (words, many) = without_times(&all);
+        let (mut last, mut count) = (Vec::new(self.alloc), 0usize);
+        for turn in 0..many {
+            out.text.clear();
+            if !self.perform_once(place, turn, words, block, stage, out)? {
+                return Ok(false);
+            }
+            if count > 0 && last == out.text {
+                count = count.saturating_add(1);
+            } else {
+                add(text, &last, count)?;
+                last.clear();
+                last.extend_from_slice(&out.text)?;
+                count = 1;
+            }
+        }
+        add(text, &last, count)?;
+        Ok(many > 0)
+    }
+
+    /// Does once what a command says, after `turn` times.
+    fn perform_once(
+        self,
+        place: usize,
+        turn: usize,
+        words: &[&str],
+        block: &[&[u8]],
+        stage: &mut Stage<'g>,
+        out: &mut Answers,
+    ) -> io::Result<bool> {
+        let inner = without_stops(words);
+        if inner.len() == words.len() {
+            return stage.perform(words, block, out);
+        }
+        let trial = Trial {
+            case: self,
+            place,
+            turn,
+            words: inner,
+            block,
+        };
+        let is_read = write_outcomes(trial, out)?;
+        let mut unseen = Answers::new(self.alloc);
+        Ok(is_read && stage.perform(inner, block, &mut unseen)?)
+    }
+
+    /// A stage after the commands up to a place.
+    pub(crate) fn replayed(self, place: usize) -> io::Result<Stage<'g>> {
+        let mut stage = Stage::new(self.alloc, self.game, self.other)?;
+        for command in self.script.commands(self.first, place) {
+            self.replay(*command, &mut stage)?;
+        }
+        Ok(stage)
+    }
+
+    /// Does what a command says, and prints nothing.
+    fn replay(self, command: Command, stage: &mut Stage<'g>) -> io::Result<()> {
+        let all = words_in(self.alloc, self.script.line(command.line))?;
+        let (words, many) = without_times(&all);
+        let mut unseen = Answers::new(self.alloc);
+        for _ in 0..many {
+            stage.perform(
+                without_stops(words),
+                self.script.block(command),
+                &mut unseen,
+            )?;
+        }
+        Ok(())
+    }
+}
+
+/// The words of a command without `times N`, and N. Where N is no number it is 0.
+fn without_times<'a, 't>(words: &'a [&'t str]) -> (&'a [&'t str], usize) {
+    match words {
+        [words @ .., "times", many] => (words, size_in(many).unwrap_or(0)),
+        _ => (words, 1),
+    }
+}
+
+/// The words of a command without `stops` in front.
+fn without_stops<'a, 't>(words: &'a [&'t str]) -> &'a [&'t str] {
+    match words {
+        ["stops", words @ ..] => words,
+        _ => words,
+    }
+}
