@@ -1,9 +1,7 @@
 //! What a peer is asked.
-use crate::answers::Answers;
-use crate::bytes::write_datagram;
-use crate::words::player_in;
 use c8_disk::MemDisk;
 use c8_game::{Keys, Player};
+use c8_part_cases::{Answers, player_in, write_datagram};
 use c8_peer::{Check, Heard, Kind, Peer, Refused};
 use c8_wire::LONGEST_DATAGRAM;
 use std::io;
@@ -30,6 +28,19 @@ impl Letter {
             *byte = *new;
         }
         changed
+    }
+}
+
+/// The kind of a datagram: `hello`, `welcome`, `data`; or `freeze P`, `frozen P`, `cut P` about a leaver.
+pub(crate) fn kind_in(words: &[&str]) -> Option<Kind> {
+    match words {
+        ["hello"] => Some(Kind::Hello),
+        ["welcome"] => Some(Kind::Welcome),
+        ["data"] => Some(Kind::Data),
+        ["freeze", leaver] => player_in(leaver).map(Kind::Freeze),
+        ["frozen", leaver] => player_in(leaver).map(Kind::Frozen),
+        ["cut", leaver] => player_in(leaver).map(Kind::Cut),
+        _ => None,
     }
 }
 

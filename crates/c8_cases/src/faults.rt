@@ -1,23 +1,14 @@
 //! What a failure inside a call leaves: of each call of the disk, and of each image that a crash may leave then.
-use crate::answers::Answers;
-use crate::look::look;
-use crate::node::Node;
 use crate::perform::Case;
 use crate::stage::Stage;
-use crate::words::player_in;
 use c8_disk::Arm;
 use c8_game::Player;
+use c8_part_cases::{Answers, player_in};
 use std::io;
 use std::io::Write;
 
 /// The most calls of a disk that are served before a failure.
 const MOST_CALLS: u64 = 20;
-
-/// How many picks of a crash are tried.
-const PICKS: u64 = 6;
-
-/// What is printed of a peer that is opened again.
-const FOUND: [&str; 4] = ["epoch", "now", "last_checkpoint", "players"];
 
 /// A command of a player, after the commands of a case up to a place and `turn` times the same.
 #[derive(Clone, Copy)]
@@ -27,6 +18,8 @@ pub(crate) struct Trial<'a, 'g, 't> {
     pub(crate) turn: usize,
     pub(crate) words: &'a [&'a str],
     pub(crate) block: &'a [&'a [u8]],
+    /// How many picks of a crash are tried.
+    pub(crate) picks: u64,
 }
 
 impl<'a, 'g, 't> Trial<'a, 'g, 't> {
@@ -51,84 +44,57 @@ impl<'a, 'g, 't> Trial<'a, 'g, 't> {
         }
     }
 
-    /// What the command prints where a call of the disk fails, `answered` if that changes nothing; and what is found
-    /// when the peer is opened again: after a crash with this pick, or else with all that was written.
-    fn outcome(
-        self,
-        at: Player,
-        arm: Arm,
-        pick: Option<u64>,
-        answer: &[u8],
-    ) -> io::Result<Vec<u8>> {
-        let mut stage = self.stage()?;
+    /// What the command prints where a call of the disk fails, `answered` if that changes nothing; and what the next
+    /// opening finds: after a crash with this pick, or else with all that was written.
+    fn outcome(self, arm: Arm, pick: Option<u64>, answer: &[u8]) -> io::Result<Vec<u8>> {
+        let (at, mut stage) = (self.player(), self.stage()?);
         let mut out = Answers::new(self.case.alloc);
-        if let Some(node) = stage.node(at) {
-            node.arm(arm);
-        }
+        stage.arm(at, arm);
         stage.perform(self.words, self.block, &mut out)?;
         let mut text = Vec::new(self.case.alloc);
         if out.text.as_slice() == answer {
-            write!(text, "answered")?;
+            write!(text, "answered, then ")?;
         } else {
             text.extend_from_slice(out.text.trim_ascii_end())?;
+            write!(text, ", then ")?;
         }
-        if let Some(node) = stage.node(at) {
-            after(node, pick);
+        match pick {
+            Some(pick) => stage.crash(at, pick),
+            None => stage.arm(at, Arm::Off),
         }
-        write!(text, ", then ")?;
-        text.extend_from_slice(&self.found(at, &mut stage)?)?;
+        out.text.clear();
+        stage.find(at, &mut out)?;
+        text.extend_from_slice(&out.text)?;
         Ok(text)
     }
 
-    /// What an opening finds.
-    fn found(self, at: Player, stage: &mut Stage<'g>) -> io::Result<Vec<u8>> {
-        let mut out = Answers::new(self.case.alloc);
-        stage.open_again(at, &mut out)?;
-        if let Some(
-            Node {
-                peer: Some(peer),
-                ..
-            },
-        ) = stage.node(at)
-        {
-            out.text.clear();
-            look(peer, &FOUND, &mut out)?;
-        }
-        Ok(out.text)
+    /// The player whose disk fails. None is the disk of a log that no peer has.
+    fn player(self) -> Option<Player> {
+        player_in(self.words.get(1)?)
     }
 
     /// The outcomes after a number of served calls: of one failure, and of a stop and a crash with each pick.
-    fn outcomes(self, at: Player, calls: u64, answer: &[u8]) -> io::Result<Vec<Vec<u8>>> {
+    fn outcomes(self, calls: u64, answer: &[u8]) -> io::Result<Vec<Vec<u8>>> {
         let mut all = Vec::new(self.case.alloc);
-        all.push(self.outcome(at, Arm::Once(calls), None, answer)?)?;
-        for pick in 0..PICKS {
-            all.push(self.outcome(at, Arm::Stop(calls), Some(pick), answer)?)?;
+        all.push(self.outcome(Arm::Once(calls), None, answer)?)?;
+        for pick in 0..self.picks {
+            all.push(self.outcome(Arm::Stop(calls), Some(pick), answer)?)?;
         }
         Ok(all)
     }
 }
 
-fn after(node: &mut Node<'_>, pick: Option<u64>) {
-    match pick {
-        Some(pick) => node.crash(pick),
-        None => node.arm(Arm::Off),
-    }
-}
-
 /// Prints what each failure inside a command leaves, and the letters of the different outcomes. Returns whether the
-/// command can be read, and has a player.
+/// command can be read.
 pub(crate) fn write_outcomes(trial: Trial<'_, '_, '_>, out: &mut Answers) -> io::Result<bool> {
-    let (Some(at), Some(answer)) = (
-        trial.words.get(1).and_then(|at| player_in(at)),
-        trial.answer()?,
-    ) else {
+    let Some(answer) = trial.answer()? else {
         return Ok(false);
     };
     let alloc = trial.case.alloc;
     let mut seen: Vec<Vec<u8>> = Vec::new(alloc);
     let (mut last, mut first) = (Vec::new(alloc), 0u64);
     for calls in 0..MOST_CALLS {
-        let outcomes = trial.outcomes(at, calls, &answer)?;
+        let outcomes = trial.outcomes(calls, &answer)?;
         let is_served = outcomes
             .iter()
             .all(|outcome| outcome.starts_with(b"answered"));

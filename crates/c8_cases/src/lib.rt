@@ -6,17 +6,13 @@
 //! `calls` and `look` what a peer is asked, `slots` its journal, and `faults` what each failure inside a call leaves.
 #![tactic(auto)]
 
-mod answers;
-mod bytes;
 mod calls;
 mod faults;
 mod look;
 mod node;
 mod perform;
 mod run;
-mod script;
 mod slots;
 mod stage;
-mod words;
 
 pub use run::{Ran, run};

@@ -1,10 +1,8 @@
 //! What a peer shows of itself.
-use crate::answers::Answers;
-use crate::bytes::write_bytes;
-use crate::words::{count_in, player_in};
 use c8_digest::mark;
 use c8_disk::MemDisk;
 use c8_game::{Player, Row};
+use c8_part_cases::{Answers, count_in, player_in, write_bytes};
 use c8_peer::Peer;
 use std::fmt::Display;
 use std::io;

@@ -1,8 +1,8 @@
 //! One player's peer, or its disk.
-use crate::answers::Answers;
 use crate::slots::add_slot;
-use c8_disk::{Arm, Disk, LONGEST_WRITE, MemDisk};
+use c8_disk::{Arm, Disk, MemDisk};
 use c8_game::{Game, Player};
+use c8_part_cases::{Answers, write_at};
 use c8_peer::Peer;
 use std::alloc::Global;
 use std::io;
@@ -111,21 +111,4 @@ impl<'g> Node<'g> {
             None => Ok(false),
         }
     }
-}
-
-/// Writes bytes to a disk. Returns whether they are short enough, and begin within what it holds.
-pub(crate) fn write_at(
-    disk: &mut MemDisk,
-    place: u32,
-    bytes: &[u8],
-    out: &mut Answers,
-) -> io::Result<bool> {
-    if place > disk.len() || bytes.len() > LONGEST_WRITE {
-        return Ok(false);
-    }
-    match disk.write_at(place, bytes) {
-        Ok(()) => out.tell("ok")?,
-        Err(error) => out.refuse("disk", error.number(), error.name(), error)?,
-    }
-    Ok(true)
 }

@@ -1,10 +1,8 @@
 //! The commands of a case, one after another.
-use crate::answers::{Answers, add};
 use crate::faults::{Trial, write_outcomes};
-use crate::script::{Command, Script};
 use crate::stage::Stage;
-use crate::words::{size_in, words_in};
 use c8_game::Game;
+use c8_part_cases::{Answers, Command, Script, add, number_in, size_in, words_in};
 use std::alloc::Global;
 use std::io;
 
@@ -62,7 +60,7 @@ impl<'g, 't> Case<'g, 't> {
         stage: &mut Stage<'g>,
         out: &mut Answers,
     ) -> io::Result<bool> {
-        let inner = without_stops(words);
+        let (inner, picks) = without_stops(words);
         if inner.len() == words.len() {
             return stage.perform(words, block, out);
         }
@@ -72,6 +70,7 @@ impl<'g, 't> Case<'g, 't> {
             turn,
             words: inner,
             block,
+            picks,
         };
         let is_read = write_outcomes(trial, out)?;
         let mut unseen = Answers::new(self.alloc);
@@ -94,7 +93,7 @@ impl<'g, 't> Case<'g, 't> {
         let mut unseen = Answers::new(self.alloc);
         for _ in 0..many {
             stage.perform(
-                without_stops(words),
+                without_stops(words).0,
                 self.script.block(command),
                 &mut unseen,
             )?;
@@ -111,10 +110,14 @@ fn without_times<'a, 't>(words: &'a [&'t str]) -> (&'a [&'t str], usize) {
     }
 }
 
-/// The words of a command without `stops` in front.
-fn without_stops<'a, 't>(words: &'a [&'t str]) -> &'a [&'t str] {
+/// How many picks of a crash are tried, unless a command says otherwise.
+const PICKS: u64 = 6;
+
+/// The words of a command without `stops` in front, and how many picks are tried.
+fn without_stops<'a, 't>(words: &'a [&'t str]) -> (&'a [&'t str], u64) {
     match words {
-        ["stops", words @ ..] => words,
-        _ => words,
+        ["stops", "picks", many, words @ ..] => (words, number_in(many).unwrap_or(PICKS)),
+        ["stops", words @ ..] => (words, PICKS),
+        _ => (words, PICKS),
     }
 }

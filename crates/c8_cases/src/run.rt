@@ -1,9 +1,8 @@
 //! A whole file: its cases, what they print, and what differs.
-use crate::answers::Answers;
 use crate::perform::Case;
-use crate::script::{Script, Section};
 use crate::stage::{Stage, text_of};
 use c8_game::Game;
+use c8_part_cases::{Answers, Script, Section};
 use std::alloc::Global;
 use std::io;
 use std::io::Write;

@@ -1,10 +1,7 @@
 //! The slots of a journal.
-use crate::answers::Answers;
-use crate::bytes::write_slot;
-use crate::node::write_at;
-use crate::words::{count_in, size_in};
 use c8_disk::{Disk, MemDisk};
 use c8_log::SLOT_LENGTH;
+use c8_part_cases::{Answers, count_in, size_in, write_at, write_slot};
 use std::io;
 use std::io::Write;
 

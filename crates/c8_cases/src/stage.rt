@@ -1,13 +1,12 @@
 //! All players' peers.
-use crate::answers::Answers;
-use crate::calls::{Letter, call, deliver, say, show};
+use crate::calls::{Letter, call, deliver, kind_in, say, show};
 use crate::look::look;
 use crate::node::Node;
 use crate::slots::{journal, place_in};
-use crate::words::{arm_in, bytes_in, count_in, kind_in, number_in, player_in, size_in};
-use c8_disk::MemDisk;
+use c8_disk::{Arm, MemDisk};
 use c8_game::{Game, Player};
 use c8_log::SLOT_LENGTH;
+use c8_part_cases::{Answers, Desk, arm_in, bytes_in, count_in, number_in, player_in, size_in};
 use c8_peer::Kind;
 use std::alloc::{AllocError, Global};
 use std::io;
@@ -20,6 +19,9 @@ const CAPACITY: u32 = 20000;
 
 const CALLS: u32 = 1000;
 
+/// What is printed of a peer that is opened again.
+const FOUND: [&str; 4] = ["epoch", "now", "last_checkpoint", "players"];
+
 /// The nodes of all players, player 1's first, and what has been said.
 #[derive(Drop)]
 pub(crate) struct Stage<'g> {
@@ -28,6 +30,7 @@ pub(crate) struct Stage<'g> {
     other: Option<&'g Game>,
     nodes: Vec<Node<'g>>,
     letters: Vec<Letter>,
+    desk: Desk,
 }
 
 impl<'g> Stage<'g> {
@@ -47,6 +50,7 @@ impl<'g> Stage<'g> {
             other,
             nodes,
             letters: Vec::new(alloc),
+            desk: Desk::new(alloc),
         })
     }
 
@@ -57,6 +61,9 @@ impl<'g> Stage<'g> {
         block: &[&[u8]],
         out: &mut Answers,
     ) -> io::Result<bool> {
+        if self.desk.perform(words, block, out)? {
+            return Ok(true);
+        }
         match words {
             ["game"] | ["game", "other"] => self.judge_game(block, out),
             ["why"] => {
@@ -70,6 +77,43 @@ impl<'g> Stage<'g> {
             },
             _ => Ok(false),
         }
+    }
+
+    /// Sets which calls fail: of a player's disk, or of the one on the desk.
+    pub(crate) fn arm(&mut self, at: Option<Player>, arm: Arm) {
+        match at.and_then(|at| self.node(at)) {
+            Some(node) => node.arm(arm),
+            None => self.desk.hand().arm(arm),
+        }
+    }
+
+    /// Crashes: a player's disk, or the one on the desk.
+    pub(crate) fn crash(&mut self, at: Option<Player>, pick: u64) {
+        match at.and_then(|at| self.node(at)) {
+            Some(node) => node.crash(pick),
+            None => self.desk.hand().crash(pick),
+        }
+    }
+
+    /// Prints what the next opening finds: of a player's peer, or of the log on the desk.
+    pub(crate) fn find(&mut self, at: Option<Player>, out: &mut Answers) -> io::Result<()> {
+        let Some(at) = at else {
+            self.desk.hand().open(out)?;
+            self.desk.hand().bodies(out)?;
+            return Ok(());
+        };
+        self.open(at, self.game, ROOM, out)?;
+        if let Some(
+            Node {
+                peer: Some(peer),
+                ..
+            },
+        ) = self.node(at)
+        {
+            out.text.clear();
+            look(peer, &FOUND, out)?;
+        }
+        Ok(())
     }
 
     /// Does what a command says of a player.
@@ -222,11 +266,6 @@ impl<'g> Stage<'g> {
             },
             _ => Ok(false),
         }
-    }
-
-    /// Opens a player's peer in the game and the usual room.
-    pub(crate) fn open_again(&mut self, at: Player, out: &mut Answers) -> io::Result<bool> {
-        self.open(at, self.game, ROOM, out)
     }
 
     /// Opens a player's peer, on an empty disk if it has none.

@@ -1,14 +1,13 @@
-//! How numbers, players, key sets, kinds and bytes are spelled.
+//! How numbers, players and bytes are spelled.
 use c8_disk::Arm;
 use c8_game::Player;
-use c8_peer::Kind;
 use hex::FromHexError;
 use std::alloc::Global;
 use std::io;
 use std::io::ErrorKind;
 
 /// The words of a line, between single spaces.
-pub(crate) fn words_in(alloc: Global, line: &[u8]) -> io::Result<Vec<&str>> {
+pub fn words_in(alloc: Global, line: &[u8]) -> io::Result<Vec<&str>> {
     match str::from_utf8(line) {
         Ok(line) => Ok(line.split(' ').collect(alloc)?),
         Err(_) => Err(ErrorKind::InvalidData.into()),
@@ -16,40 +15,27 @@ pub(crate) fn words_in(alloc: Global, line: &[u8]) -> io::Result<Vec<&str>> {
 }
 
 /// The player of a number from 1 to 4.
-pub(crate) fn player_in(word: &str) -> Option<Player> {
+pub fn player_in(word: &str) -> Option<Player> {
     match word.parse::<u8>() {
         Ok(number) => Player::new(number),
         Err(_) => None,
     }
 }
 
-pub(crate) fn number_in(word: &str) -> Option<u64> {
+pub fn number_in(word: &str) -> Option<u64> {
     word.parse::<u64>().ok()
 }
 
-pub(crate) fn count_in(word: &str) -> Option<u32> {
+pub fn count_in(word: &str) -> Option<u32> {
     word.parse::<u32>().ok()
 }
 
-pub(crate) fn size_in(word: &str) -> Option<usize> {
+pub fn size_in(word: &str) -> Option<usize> {
     word.parse::<usize>().ok()
 }
 
-/// The kind of a datagram: `hello`, `welcome`, `data`; or `freeze P`, `frozen P`, `cut P` about a leaver.
-pub(crate) fn kind_in(words: &[&str]) -> Option<Kind> {
-    match words {
-        ["hello"] => Some(Kind::Hello),
-        ["welcome"] => Some(Kind::Welcome),
-        ["data"] => Some(Kind::Data),
-        ["freeze", leaver] => player_in(leaver).map(Kind::Freeze),
-        ["frozen", leaver] => player_in(leaver).map(Kind::Frozen),
-        ["cut", leaver] => player_in(leaver).map(Kind::Cut),
-        _ => None,
-    }
-}
-
 /// Which calls of a disk fail: `off`, `stop N` or `once N`.
-pub(crate) fn arm_in(words: &[&str]) -> Option<Arm> {
+pub fn arm_in(words: &[&str]) -> Option<Arm> {
     match words {
         ["off"] => Some(Arm::Off),
         ["stop", calls] => number_in(calls).map(Arm::Stop),
@@ -58,9 +44,9 @@ pub(crate) fn arm_in(words: &[&str]) -> Option<Arm> {
     }
 }
 
-/// The bytes that words spell in hexadecimal; a word in quotes has its letters as bytes, and `..` stands for the zeros
-/// up to `whole` bytes. Then come those of a block's lines.
-pub(crate) fn bytes_in(
+/// The bytes that words spell in hexadecimal; `09*100` is a byte 100 times, a word in quotes has its letters as bytes,
+/// and `..` stands for the zeros up to `whole` bytes. Then come those of a block's lines.
+pub fn bytes_in(
     alloc: Global,
     words: &[&str],
     block: &[&[u8]],
@@ -101,6 +87,9 @@ fn add_word(bytes: &mut Vec<u8>, word: &str, whole: usize) -> io::Result<bool> {
         bytes.extend_from_slice(letters.unwrap_or("").as_bytes())?;
         return Ok(letters.is_some());
     }
+    if let Some((byte, many)) = word.split_once('*') {
+        return add_many(bytes, byte, many);
+    }
     match hex::decode(*bytes.allocator(), word) {
         Ok(spelled) => {
             bytes.extend_from_slice(&spelled)?;
@@ -108,5 +97,18 @@ fn add_word(bytes: &mut Vec<u8>, word: &str, whole: usize) -> io::Result<bool> {
         }
         Err(FromHexError::OutOfMemory) => Err(ErrorKind::OutOfMemory.into()),
         Err(_) => Ok(false),
+    }
+}
+
+/// Adds a byte many times, at most 5000. Returns whether the words spell both.
+fn add_many(bytes: &mut Vec<u8>, byte: &str, many: &str) -> io::Result<bool> {
+    match (u8::from_str_radix(byte, 16), many.parse::<u16>()) {
+        (Ok(byte), Ok(many)) => {
+            for _ in 0..many.min(5000) {
+                bytes.push(byte)?;
+            }
+            Ok(true)
+        }
+        _ => Ok(false),
     }
 }

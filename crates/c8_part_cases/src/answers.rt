@@ -6,13 +6,13 @@ use std::io::Write;
 
 /// The printed answers, and the sentence of the last refusal among them.
 #[derive(Drop)]
-pub(crate) struct Answers {
-    pub(crate) text: Vec<u8>,
-    pub(crate) why: Vec<u8>,
+pub struct Answers {
+    pub text: Vec<u8>,
+    pub why: Vec<u8>,
 }
 
 impl Answers {
-    pub(crate) fn new(alloc: Global) -> Answers {
+    pub fn new(alloc: Global) -> Answers {
         Answers {
             text: Vec::new(alloc),
             why: Vec::new(alloc),
@@ -20,12 +20,12 @@ impl Answers {
     }
 
     /// Prints a line.
-    pub(crate) fn tell<T: Display + Drop>(&mut self, line: T) -> io::Result<()> {
+    pub fn tell<T: Display + Drop>(&mut self, line: T) -> io::Result<()> {
         writeln!(self.text, "{line}")
     }
 
     /// Prints a refusal: the part that refuses, and the number and the name of the error. Keeps its sentence.
-    pub(crate) fn refuse<E: Display + Drop>(
+    pub fn refuse<E: Display + Drop>(
         &mut self,
         part: &str,
         number: u8,
@@ -38,7 +38,7 @@ impl Answers {
     }
 
     /// Prints the sentence of the last refusal.
-    pub(crate) fn explain(&mut self) -> io::Result<()> {
+    pub fn explain(&mut self) -> io::Result<()> {
         self.text.extend_from_slice(&self.why)?;
         writeln!(self.text)
     }
@@ -46,7 +46,7 @@ impl Answers {
 
 /// Adds what a command printed `many` times in succession. One line ends in `times N` then; several lines have a line
 /// `times N` behind them.
-pub(crate) fn add(text: &mut Vec<u8>, printed: &[u8], many: usize) -> io::Result<()> {
+pub fn add(text: &mut Vec<u8>, printed: &[u8], many: usize) -> io::Result<()> {
     if many < 2 || printed.is_empty() {
         return text.write_all(printed);
     }

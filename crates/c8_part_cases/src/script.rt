@@ -11,30 +11,30 @@ const RULE: &[u8] = b"----";
 
 /// A command: the place of its line, and of the first line behind its block.
 #[derive(Clone, Copy)]
-pub(crate) struct Command {
-    pub(crate) line: usize,
-    pub(crate) end: usize,
+pub struct Command {
+    pub line: usize,
+    pub end: usize,
 }
 
 /// Some commands, by their places, with one answer: the place of the rule, and of the first line behind the answer.
 #[derive(Clone, Copy)]
-pub(crate) struct Section {
-    pub(crate) first: usize,
-    pub(crate) last: usize,
-    pub(crate) rule: usize,
-    pub(crate) end: usize,
+pub struct Section {
+    pub first: usize,
+    pub last: usize,
+    pub rule: usize,
+    pub end: usize,
 }
 
 /// The lines of a case file, and what they are.
 #[derive(Drop)]
-pub(crate) struct Script<'t> {
-    pub(crate) lines: Vec<&'t [u8]>,
-    pub(crate) commands: Vec<Command>,
-    pub(crate) sections: Vec<Section>,
+pub struct Script<'t> {
+    pub lines: Vec<&'t [u8]>,
+    pub commands: Vec<Command>,
+    pub sections: Vec<Section>,
 }
 
 impl<'t> Script<'t> {
-    pub(crate) fn read(alloc: Global, text: &'t [u8]) -> Result<Script<'t>, AllocError> {
+    pub fn read(alloc: Global, text: &'t [u8]) -> Result<Script<'t>, AllocError> {
         let mut script = Script {
             lines: Vec::new(alloc),
             commands: Vec::new(alloc),
@@ -91,7 +91,7 @@ impl<'t> Script<'t> {
     }
 
     /// How many commands have an answer.
-    pub(crate) fn ended(&self) -> usize {
+    pub fn ended(&self) -> usize {
         match self.sections.last() {
             Some(section) => section.last,
             None => 0,
@@ -110,7 +110,7 @@ impl<'t> Script<'t> {
     }
 
     /// The line at a place; an empty one if there is none.
-    pub(crate) fn line(&self, place: usize) -> &'t [u8] {
+    pub fn line(&self, place: usize) -> &'t [u8] {
         match self.lines.get(place) {
             Some(line) => *line,
             None => &[],
@@ -118,7 +118,7 @@ impl<'t> Script<'t> {
     }
 
     /// The lines from one place up to another.
-    pub(crate) fn between(&self, from: usize, to: usize) -> &[&'t [u8]] {
+    pub fn between(&self, from: usize, to: usize) -> &[&'t [u8]] {
         match self.lines.get(from..to) {
             Some(lines) => lines,
             None => &[],
@@ -126,12 +126,12 @@ impl<'t> Script<'t> {
     }
 
     /// The block of a command.
-    pub(crate) fn block(&self, command: Command) -> &[&'t [u8]] {
+    pub fn block(&self, command: Command) -> &[&'t [u8]] {
         self.between(command.line.saturating_add(1), command.end)
     }
 
     /// The commands from one place up to another.
-    pub(crate) fn commands(&self, from: usize, to: usize) -> &[Command] {
+    pub fn commands(&self, from: usize, to: usize) -> &[Command] {
         match self.commands.get(from..to) {
             Some(commands) => commands,
             None => &[],

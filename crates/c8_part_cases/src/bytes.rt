@@ -2,22 +2,28 @@
 use std::io;
 use std::io::Write;
 
-/// Prints bytes in groups of these sizes, and then in groups of `rest` bytes. With `zeros`, two dots stand for all that
-/// is left if that is zeros.
-pub(crate) fn write_bytes(
+/// Prints bytes in groups of these sizes, and then in groups of `rest` bytes. With `short`, two dots stand for all that
+/// is left if that is zeros, and `09*100` for 100 bytes 09 that are left.
+pub fn write_bytes(
     text: &mut Vec<u8>,
     bytes: &[u8],
     sizes: &[usize],
     rest: usize,
-    zeros: bool,
+    short: bool,
 ) -> io::Result<()> {
     let mut left = bytes;
     for turn in 0..bytes.len() {
         if left.is_empty() {
             return Ok(());
         }
-        if zeros && left.len() > 2 && left.iter().all(|byte| *byte == 0) {
-            return write!(text, " ..");
+        if short
+            && left.len() > 2
+            && let Some(byte) = repeated(left)
+        {
+            return match byte {
+                0 => write!(text, " .."),
+                _ => write!(text, " {byte:02x}*{}", left.len()),
+            };
         }
         let size = sizes.get(turn).copied().unwrap_or(rest);
         let (group, more) = left.split_at(size.max(1).min(left.len()));
@@ -25,6 +31,12 @@ pub(crate) fn write_bytes(
         left = more;
     }
     Ok(())
+}
+
+/// The byte that all of these are.
+fn repeated(bytes: &[u8]) -> Option<u8> {
+    let first = *bytes.first()?;
+    bytes.iter().all(|byte| *byte == first).then_some(first)
 }
 
 /// Prints a space and the digits of a group.
@@ -48,7 +60,7 @@ const LISTS: [usize; 14] = [2, 1, 1, 8, 1, 1, 2, 4, 4, 1, 1, 4, 4, 2];
 const SHOW: [usize; 11] = [2, 1, 1, 8, 1, 1, 2, 4, 4, 4, 2];
 
 /// Prints the bytes of a datagram, a group for each field. Pairs of version 2 stay together.
-pub(crate) fn write_datagram(text: &mut Vec<u8>, bytes: &[u8]) -> io::Result<()> {
+pub fn write_datagram(text: &mut Vec<u8>, bytes: &[u8]) -> io::Result<()> {
     let rest = if bytes.get(2) == Some(&2) { 3 } else { 2 };
     match bytes.get(3) {
         Some(3) => write_bytes(text, bytes, &DATA, rest, false),
@@ -67,7 +79,7 @@ const SLOT: [usize; 6] = [1, 1, 1, 4, 4, 2];
 const HEAD: [usize; 8] = [1, 1, 1, 4, 4, 2, 32, 8];
 
 /// Prints the bytes of a journal's slot, a group for each field of its record.
-pub(crate) fn write_slot(text: &mut Vec<u8>, bytes: &[u8]) -> io::Result<()> {
+pub fn write_slot(text: &mut Vec<u8>, bytes: &[u8]) -> io::Result<()> {
     match bytes.get(1) {
         Some(1) => write_bytes(text, bytes, &HEAD, 16, true),
         Some(3 | 4 | 7) => write_bytes(text, bytes, &SLOT, 2, true),
