@@ -30,7 +30,7 @@ pub(crate) struct Stage<'g> {
     other: Option<&'g Game>,
     nodes: Vec<Node<'g>>,
     letters: Vec<Letter>,
-    desk: Desk,
+    desk: Desk<'g>,
 }
 
 impl<'g> Stage<'g> {
@@ -50,7 +50,7 @@ impl<'g> Stage<'g> {
             other,
             nodes,
             letters: Vec::new(alloc),
-            desk: Desk::new(alloc),
+            desk: Desk::new(alloc, game),
         })
     }
 

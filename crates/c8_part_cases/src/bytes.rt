@@ -72,18 +72,29 @@ pub fn write_datagram(text: &mut Vec<u8>, bytes: &[u8]) -> io::Result<()> {
     writeln!(text)
 }
 
-/// The sizes of a slot's fields: its gate, and those of a record before its words.
-const SLOT: [usize; 6] = [1, 1, 1, 4, 4, 2];
+/// The sizes of a record's fields before its words.
+const RECORD: [usize; 5] = [1, 1, 4, 4, 2];
 
 /// Those of a HEAD, with the game's id and the match id.
-const HEAD: [usize; 8] = [1, 1, 1, 4, 4, 2, 32, 8];
+const HEAD: [usize; 7] = [1, 1, 4, 4, 2, 32, 8];
 
-/// Prints the bytes of a journal's slot, a group for each field of its record.
+/// Prints the bytes of a journal's slot: its gate, and its record.
 pub fn write_slot(text: &mut Vec<u8>, bytes: &[u8]) -> io::Result<()> {
-    match bytes.get(1) {
-        Some(1) => write_bytes(text, bytes, &HEAD, 16, true),
-        Some(3 | 4 | 7) => write_bytes(text, bytes, &SLOT, 2, true),
-        _ => write_bytes(text, bytes, &SLOT, 16, true),
+    match bytes {
+        [gate, body @ ..] => {
+            write!(text, " {gate:02x}")?;
+            write_record(text, body)
+        }
+        [] => writeln!(text),
+    }
+}
+
+/// Prints the bytes of a record, a group for each field.
+pub fn write_record(text: &mut Vec<u8>, body: &[u8]) -> io::Result<()> {
+    match body.first() {
+        Some(1) => write_bytes(text, body, &HEAD, 16, true),
+        Some(3 | 4 | 7) => write_bytes(text, body, &RECORD, 2, true),
+        _ => write_bytes(text, body, &RECORD, 16, true),
     }?;
     writeln!(text)
 }

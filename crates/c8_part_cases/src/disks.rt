@@ -168,6 +168,11 @@ impl Hand {
         Ok(true)
     }
 
+    /// The log, if it is open.
+    pub(crate) fn open_log(&mut self) -> Option<&mut Log<MemDisk>> {
+        self.log.as_mut()
+    }
+
     /// Prints each body that the log counts.
     pub fn bodies(&mut self, out: &mut Answers) -> io::Result<bool> {
         let many = match &self.log {

@@ -1,13 +1,15 @@
 //! Tests that are text, of the parts below a peer. docs/TESTING.md has the language of case files.
 //!
 //! `script` has the form of a file, `words` and `bytes` have how bytes, numbers and players are spelled, and `answers`
-//! what commands print. A [`Desk`] does what commands say; `disks` has its disks and logs.
+//! what commands print. A [`Desk`] does what commands say; `disks` has its disks and logs,
+//! `records` replays.
 #![tactic(auto)]
 
 mod answers;
 mod bytes;
 mod desk;
 mod disks;
+mod records;
 mod script;
 mod words;
 
