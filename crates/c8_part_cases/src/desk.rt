@@ -1,8 +1,11 @@
 //! The parts in hand, and the commands that use them.
 use crate::answers::Answers;
+use crate::datagrams::{hear, links_in, show, show_data, show_fronts, show_link, version_in};
 use crate::disks::Hand;
 use crate::records::{body_in, replay_in};
+use crate::words::{bytes_in, player_in};
 use c8_game::Game;
+use c8_hand::Links;
 use std::alloc::Global;
 use std::io;
 
@@ -12,6 +15,7 @@ pub struct Desk<'g> {
     alloc: Global,
     game: Option<&'g Game>,
     hand: Hand,
+    links: Option<Links>,
 }
 
 impl<'g> Desk<'g> {
@@ -21,6 +25,7 @@ impl<'g> Desk<'g> {
             alloc,
             game,
             hand: Hand::empty(),
+            links: None,
         }
     }
 
@@ -39,8 +44,43 @@ impl<'g> Desk<'g> {
                 Some(game) => replay_in(self.alloc, game, rest, block, &mut self.hand, out),
                 None => Ok(false),
             },
+            ["view" | "fronts" | "data", ..] => self.datagram(words, block, out),
+            ["links", rest @ ..] => {
+                self.links = self.game.and_then(|game| links_in(game, rest));
+                Ok(self.links.is_some())
+            }
+            ["hear", rest @ ..] => match (self.game, &mut self.links) {
+                (Some(game), Some(links)) => hear(game, links, rest, out),
+                _ => Ok(false),
+            },
+            ["link", player] => match (&self.links, player_in(player)) {
+                (Some(links), Some(player)) => {
+                    show_link(links, player, out)?;
+                    Ok(true)
+                }
+                _ => Ok(false),
+            },
             _ => Ok(false),
         }
+    }
+
+    /// Does what a command says of a datagram.
+    fn datagram(&mut self, words: &[&str], block: &[&[u8]], out: &mut Answers) -> io::Result<bool> {
+        let (version, spelled) = match words {
+            ["data", version, spelled @ ..] => (version_in(version), spelled),
+            [_, spelled @ ..] => (None, spelled),
+            [] => (None, words),
+        };
+        let Some(bytes) = bytes_in(self.alloc, spelled, block, 0)? else {
+            return Ok(false);
+        };
+        match (words, version) {
+            (["view", ..], _) => show(&bytes, out)?,
+            (["fronts", ..], _) => show_fronts(&bytes, out)?,
+            (_, Some(version)) => show_data(self.alloc, version, &bytes, out)?,
+            _ => return Ok(false),
+        }
+        Ok(true)
     }
 
     /// The disk or the log in hand.

@@ -2,11 +2,12 @@
 //!
 //! `script` has the form of a file, `words` and `bytes` have how bytes, numbers and players are spelled, and `answers`
 //! what commands print. A [`Desk`] does what commands say; `disks` has its disks and logs,
-//! `records` replays.
+//! `records` replays, `datagrams` datagrams and links.
 #![tactic(auto)]
 
 mod answers;
 mod bytes;
+mod datagrams;
 mod desk;
 mod disks;
 mod records;
