@@ -2,10 +2,12 @@
 use crate::answers::Answers;
 use crate::datagrams::{hear, links_in, show, show_data, show_fronts, show_link, version_in};
 use crate::disks::Hand;
+use crate::machines::{call_machine, show_game};
 use crate::records::{body_in, replay_in};
 use crate::words::{bytes_in, player_in};
 use c8_game::Game;
 use c8_hand::Links;
+use c8_machine::Machine;
 use std::alloc::Global;
 use std::io;
 
@@ -16,6 +18,7 @@ pub struct Desk<'g> {
     game: Option<&'g Game>,
     hand: Hand,
     links: Option<Links>,
+    machine: Option<Machine>,
 }
 
 impl<'g> Desk<'g> {
@@ -26,6 +29,7 @@ impl<'g> Desk<'g> {
             game,
             hand: Hand::empty(),
             links: None,
+            machine: None,
         }
     }
 
@@ -45,6 +49,18 @@ impl<'g> Desk<'g> {
                 None => Ok(false),
             },
             ["view" | "fronts" | "data", ..] => self.datagram(words, block, out),
+            ["wire" | "id" | "session", ..] => match self.game {
+                Some(game) => show_game(game, words, out),
+                None => Ok(false),
+            },
+            ["machine", "start"] => {
+                self.machine = self.game.map(Machine::start);
+                Ok(self.machine.is_some())
+            }
+            ["machine", rest @ ..] => match (self.game, &mut self.machine) {
+                (Some(game), Some(machine)) => call_machine(game, machine, rest, out),
+                _ => Ok(false),
+            },
             ["links", rest @ ..] => {
                 self.links = self.game.and_then(|game| links_in(game, rest));
                 Ok(self.links.is_some())
