@@ -1,5 +1,5 @@
-//! The tests of c8_known, c8_window and c8_roll: examples worked out by hand, and what no contract says. c8_round is
-//! tested by rows of c8_peer's tests and by scripts.
+//! The tests of c8_known, c8_window and c8_roll that no case can be: rolls in random matches, compared with machines that
+//! run from the first frame; and the text of a refusal that no case prints.
 #![tactic(auto)]
 
 #[cfg(test)]

@@ -2,6 +2,7 @@
 use crate::answers::Answers;
 use crate::datagrams::{hear, links_in, show, show_data, show_fronts, show_link, version_in};
 use crate::disks::Hand;
+use crate::inputs::Inputs;
 use crate::machines::{call_machine, show_game};
 use crate::records::{body_in, replay_in};
 use crate::words::{bytes_in, player_in};
@@ -19,6 +20,7 @@ pub struct Desk<'g> {
     hand: Hand,
     links: Option<Links>,
     machine: Option<Machine>,
+    inputs: Inputs<'g>,
 }
 
 impl<'g> Desk<'g> {
@@ -30,6 +32,7 @@ impl<'g> Desk<'g> {
             hand: Hand::empty(),
             links: None,
             machine: None,
+            inputs: Inputs::empty(),
         }
     }
 
@@ -60,6 +63,14 @@ impl<'g> Desk<'g> {
             ["machine", rest @ ..] => match (self.game, &mut self.machine) {
                 (Some(game), Some(machine)) => call_machine(game, machine, rest, out),
                 _ => Ok(false),
+            },
+            ["known", rest @ ..] => match self.game {
+                Some(game) => self.inputs.known(self.alloc, game, rest, out),
+                None => Ok(false),
+            },
+            ["roll", rest @ ..] => match self.game {
+                Some(game) => self.inputs.roll(self.alloc, game, rest, out),
+                None => Ok(false),
             },
             ["links", rest @ ..] => {
                 self.links = self.game.and_then(|game| links_in(game, rest));

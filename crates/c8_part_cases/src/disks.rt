@@ -3,7 +3,7 @@ use crate::answers::Answers;
 use crate::bytes::write_bytes;
 use crate::words::{arm_in, bytes_in, count_in, number_in, size_in};
 use c8_disk::{Arm, Disk, LONGEST_WRITE, MemDisk};
-use c8_log::{BODY_LENGTH, Block, Log, LogError};
+use c8_log::{BODY_LENGTH, Block, Log, LogError, kept_len};
 use std::alloc::Global;
 use std::io;
 use std::io::Write;
@@ -168,6 +168,14 @@ impl Hand {
         Ok(true)
     }
 
+    /// What the disk holds; nothing while a log is open on it.
+    pub(crate) fn image(&self) -> &[u8] {
+        match &self.disk {
+            Some(disk) => disk.bytes(),
+            None => &[],
+        }
+    }
+
     /// The log, if it is open.
     pub(crate) fn open_log(&mut self) -> Option<&mut Log<MemDisk>> {
         self.log.as_mut()
@@ -220,6 +228,10 @@ fn call_disk(
             write!(out.text, "{}", disk.len())?;
             write_bytes(&mut out.text, disk.bytes(), &[], 16, true)?;
             writeln!(out.text)?;
+            Ok(true)
+        }
+        ("kept", []) => {
+            out.tell(kept_len(disk.bytes()))?;
             Ok(true)
         }
         ("debug", []) => {

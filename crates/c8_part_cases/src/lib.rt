@@ -2,7 +2,8 @@
 //!
 //! `script` has the form of a file, `words` and `bytes` have how bytes, numbers and players are spelled, and `answers`
 //! what commands print. A [`Desk`] does what commands say; `disks` has its disks and logs,
-//! `records` replays, `datagrams` datagrams and links, `machines` games and machines.
+//! `records` replays, `datagrams` datagrams and links, `machines` games and machines,
+//! `inputs` known inputs and rolls.
 #![tactic(auto)]
 
 mod answers;
@@ -10,6 +11,7 @@ mod bytes;
 mod datagrams;
 mod desk;
 mod disks;
+mod inputs;
 mod machines;
 mod records;
 mod script;

@@ -11,11 +11,13 @@ use c8_log::{BODY_LENGTH, Log, OPEN_GATE};
 use c8_record::{Record, ReplayError, body_of, replay, replay_bytes};
 use std::alloc::Global;
 use std::io;
+use std::io::Write;
 
 /// The match id, unless a command names another.
 const ROOM: u64 = 0x0102030405060708;
 
-/// Replays a journal of a player: the records of a block, or the log in hand. Returns whether the command can be read.
+/// Replays a journal of a player: the records of a block, the bytes of the disk in hand, or the log in hand. Returns
+/// whether the command can be read.
 pub(crate) fn replay_in(
     alloc: Global,
     game: &Game,
@@ -24,28 +26,26 @@ pub(crate) fn replay_in(
     hand: &mut Hand,
     out: &mut Answers,
 ) -> io::Result<bool> {
-    let (me, room, log) = match words {
-        [me] => (player_in(me), Some(ROOM), None),
-        [me, "room", room] => (player_in(me), number_in(room), None),
-        [me, "log"] => (player_in(me), Some(ROOM), hand.open_log()),
-        _ => (None, None, None),
+    let (me, room) = match words {
+        [me, "room", room] => (player_in(me), number_in(room)),
+        [me, ..] => (player_in(me), Some(ROOM)),
+        [] => (None, None),
     };
     let (Some(me), Some(room)) = (me, room) else {
         return Ok(false);
     };
-    let answer = match log {
-        Some(log) => replayed_log(alloc, game, me, room, log)?,
-        None => match image_of(alloc, block)? {
-            Some(image) => replayed(alloc, game, me, room, &image)?,
-            None => None,
+    match words {
+        [_, "log"] => match hand.open_log() {
+            Some(log) => replay_log(alloc, game, me, room, log, out),
+            None => Ok(false),
         },
-    };
-    match answer {
-        Some(Ok(epoch)) => out.tell(format_args!("epoch {epoch}"))?,
-        Some(Err(error)) => out.refuse("replay", error.number(), error.name(), error)?,
-        None => return Ok(false),
+        [_, "disk"] => replay_image(alloc, game, me, room, hand.image(), out),
+        [_] | [_, "room", _] => match image_of(alloc, block)? {
+            Some(image) => replay_image(alloc, game, me, room, &image, out),
+            None => Ok(false),
+        },
+        _ => Ok(false),
     }
-    Ok(true)
 }
 
 /// The bytes of a disk with an open slot for each record of a block. None if a line spells none.
@@ -67,38 +67,57 @@ fn image_of(alloc: Global, block: &[&[u8]]) -> io::Result<Option<Vec<u8>>> {
     Ok(Some(image))
 }
 
-/// The answer of a replay of the bytes of a player's disk. None if the game has no such player.
-fn replayed(
+/// Prints the answer of a replay of the bytes of a disk. Returns whether the game has the player.
+fn replay_image(
     alloc: Global,
     game: &Game,
     me: Player,
     room: u64,
     image: &[u8],
-) -> io::Result<Option<Result<u32, ReplayError>>> {
+    out: &mut Answers,
+) -> io::Result<bool> {
     game.in_range();
     if me.number > game.players() {
-        return Ok(None);
+        return Ok(false);
     }
     let mut known = Known::new(alloc, game, me)?;
-    let mut checks = Checks::new();
-    Ok(Some(replay_bytes(image, game, room, &mut known, &mut checks)))
+    let answer = replay_bytes(image, game, room, &mut known, &mut Checks::new());
+    tell(answer, &known, out)?;
+    Ok(true)
 }
 
-/// The answer of a replay of a log. None if the log is down, or the game has no such player.
-fn replayed_log(
+/// Prints the answer of a replay of a log. Returns whether the log is up, and the game has the player.
+fn replay_log(
     alloc: Global,
     game: &Game,
     me: Player,
     room: u64,
     log: &mut Log<MemDisk>,
-) -> io::Result<Option<Result<u32, ReplayError>>> {
+    out: &mut Answers,
+) -> io::Result<bool> {
     game.in_range();
     if me.number > game.players() || log.is_down() {
-        return Ok(None);
+        return Ok(false);
     }
     let mut known = Known::new(alloc, game, me)?;
-    let mut checks = Checks::new();
-    Ok(Some(replay(log, game, room, &mut known, &mut checks)))
+    let answer = replay(log, game, room, &mut known, &mut Checks::new());
+    tell(answer, &known, out)?;
+    Ok(true)
+}
+
+/// Prints the answer of a replay; and what is then known: the ticks, the confirmed frames, and the last of their rows.
+fn tell(answer: Result<u32, ReplayError>, known: &Known, out: &mut Answers) -> io::Result<()> {
+    match answer {
+        Ok(epoch) => write!(out.text, "epoch {epoch} ticks {}", known.ticks())?,
+        Err(error) => return out.refuse("replay", error.number(), error.name(), error),
+    }
+    let confirmed = known.confirmed();
+    write!(out.text, " confirmed {confirmed}")?;
+    if let Some(last) = confirmed.checked_sub(1) {
+        let [one, two, three, four] = known.row(last).sets;
+        write!(out.text, " row {one} {two} {three} {four}")?;
+    }
+    writeln!(out.text)
 }
 
 /// Prints the body of a record: of an own input. Returns whether the command can be read.
