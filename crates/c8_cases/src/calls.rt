@@ -1,7 +1,8 @@
 //! What a peer is asked.
+use crate::look::look;
 use c8_disk::MemDisk;
 use c8_game::{Keys, Player};
-use c8_part_cases::{Answers, player_in, write_datagram};
+use c8_part_cases::{Answers, keys_in, player_in, unreadable, write_datagram};
 use c8_peer::{Check, Heard, Kind, Peer, Refused};
 use c8_wire::LONGEST_DATAGRAM;
 use std::io;
@@ -32,74 +33,62 @@ impl Letter {
 }
 
 /// The kind of a datagram: `hello`, `welcome`, `data`; or `freeze P`, `frozen P`, `cut P` about a leaver.
-pub(crate) fn kind_in(words: &[&str]) -> Option<Kind> {
+pub(crate) fn kind_in(words: &[&str]) -> io::Result<Kind> {
     match words {
-        ["hello"] => Some(Kind::Hello),
-        ["welcome"] => Some(Kind::Welcome),
-        ["data"] => Some(Kind::Data),
-        ["freeze", leaver] => player_in(leaver).map(Kind::Freeze),
-        ["frozen", leaver] => player_in(leaver).map(Kind::Frozen),
-        ["cut", leaver] => player_in(leaver).map(Kind::Cut),
-        _ => None,
+        ["hello"] => Ok(Kind::Hello),
+        ["welcome"] => Ok(Kind::Welcome),
+        ["data"] => Ok(Kind::Data),
+        ["freeze", leaver] => Ok(Kind::Freeze(player_in(leaver)?)),
+        ["frozen", leaver] => Ok(Kind::Frozen(player_in(leaver)?)),
+        ["cut", leaver] => Ok(Kind::Cut(player_in(leaver)?)),
+        _ => Err(unreadable()),
     }
 }
 
-/// Makes a call of a peer that needs no other player. Returns whether the words spell one.
+/// Makes a call of a peer that needs no other player.
 pub(crate) fn call(
     peer: &mut Peer<'_, MemDisk>,
     verb: &str,
     words: &[&str],
     out: &mut Answers,
-) -> io::Result<bool> {
+) -> io::Result<()> {
     match (verb, words) {
-        ("tick", [keys]) => match Keys::from_hex(keys.as_bytes()) {
-            Some(keys) => tick(peer, keys, out),
-            None => Ok(false),
-        },
-        ("leave", [leaver]) => match player_in(leaver) {
-            Some(leaver) => leave(peer, leaver, out),
-            None => Ok(false),
-        },
-        ("decide", [leaver]) => match player_in(leaver) {
-            Some(leaver) => decide(peer, leaver, out),
-            None => Ok(false),
-        },
+        ("look", readers) => look(peer, readers, out),
+        ("tick", [keys]) => tick(peer, keys_in(keys)?, out),
+        ("leave", [leaver]) => leave(peer, player_in(leaver)?, out),
+        ("decide", [leaver]) => decide(peer, player_in(leaver)?, out),
         ("checkpoint", []) => checkpoint(peer, out),
-        _ => Ok(false),
+        _ => Err(unreadable()),
     }
 }
 
-fn tick(peer: &mut Peer<'_, MemDisk>, keys: Keys, out: &mut Answers) -> io::Result<bool> {
+fn tick(peer: &mut Peer<'_, MemDisk>, keys: Keys, out: &mut Answers) -> io::Result<()> {
     match peer.tick(keys) {
-        Ok(()) => out.tell("ok")?,
-        Err(error) => out.refuse("tick", error.number(), error.name(), error)?,
+        Ok(()) => out.tell("ok"),
+        Err(error) => out.refuse("tick", error.number(), error.name(), error),
     }
-    Ok(true)
 }
 
-fn leave(peer: &mut Peer<'_, MemDisk>, leaver: Player, out: &mut Answers) -> io::Result<bool> {
+fn leave(peer: &mut Peer<'_, MemDisk>, leaver: Player, out: &mut Answers) -> io::Result<()> {
     match peer.leave(leaver) {
-        Ok(()) => out.tell("ok")?,
-        Err(error) => out.refuse("leave", error.number(), error.name(), error)?,
+        Ok(()) => out.tell("ok"),
+        Err(error) => out.refuse("leave", error.number(), error.name(), error),
     }
-    Ok(true)
 }
 
-fn decide(peer: &mut Peer<'_, MemDisk>, leaver: Player, out: &mut Answers) -> io::Result<bool> {
+fn decide(peer: &mut Peer<'_, MemDisk>, leaver: Player, out: &mut Answers) -> io::Result<()> {
     match peer.decide(leaver) {
-        Ok(length) => out.tell(format_args!("cut {length}"))?,
-        Err(error) => out.refuse("decide", error.number(), error.name(), error)?,
+        Ok(length) => out.tell(format_args!("cut {length}")),
+        Err(error) => out.refuse("decide", error.number(), error.name(), error),
     }
-    Ok(true)
 }
 
-fn checkpoint(peer: &mut Peer<'_, MemDisk>, out: &mut Answers) -> io::Result<bool> {
+fn checkpoint(peer: &mut Peer<'_, MemDisk>, out: &mut Answers) -> io::Result<()> {
     match peer.checkpoint() {
-        Ok(Check::Piece(piece)) => out.tell(format_args!("piece {piece}"))?,
-        Ok(Check::Done(frames)) => out.tell(format_args!("done {frames}"))?,
-        Err(error) => out.refuse("check", error.number(), error.name(), error)?,
+        Ok(Check::Piece(piece)) => out.tell(format_args!("piece {piece}")),
+        Ok(Check::Done(frames)) => out.tell(format_args!("done {frames}")),
+        Err(error) => out.refuse("check", error.number(), error.name(), error),
     }
-    Ok(true)
 }
 
 /// What a peer says to another player. None if it is refused, which is printed.

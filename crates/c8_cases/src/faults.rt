@@ -33,15 +33,11 @@ impl<'a, 'g, 't> Trial<'a, 'g, 't> {
         Ok(stage)
     }
 
-    /// What the command prints where no call fails; none if it cannot be read.
-    fn answer(self) -> io::Result<Option<Vec<u8>>> {
-        let mut stage = self.stage()?;
+    /// What the command prints where no call fails.
+    fn answer(self) -> io::Result<Vec<u8>> {
         let mut out = Answers::new(self.case.alloc);
-        if stage.perform(self.words, self.block, &mut out)? {
-            Ok(Some(out.text))
-        } else {
-            Ok(None)
-        }
+        self.stage()?.perform(self.words, self.block, &mut out)?;
+        Ok(out.text)
     }
 
     /// What the command prints where a call of the disk fails, `answered` if that changes nothing; and what the next
@@ -70,7 +66,7 @@ impl<'a, 'g, 't> Trial<'a, 'g, 't> {
 
     /// The player whose disk fails. None is the disk of a log that no peer has.
     fn player(self) -> Option<Player> {
-        player_in(self.words.get(1)?)
+        player_in(self.words.get(1)?).ok()
     }
 
     /// The outcomes after a number of served calls: of one failure, and of a stop and a crash with each pick.
@@ -84,12 +80,9 @@ impl<'a, 'g, 't> Trial<'a, 'g, 't> {
     }
 }
 
-/// Prints what each failure inside a command leaves, and the letters of the different outcomes. Returns whether the
-/// command can be read.
-pub(crate) fn write_outcomes(trial: Trial<'_, '_, '_>, out: &mut Answers) -> io::Result<bool> {
-    let Some(answer) = trial.answer()? else {
-        return Ok(false);
-    };
+/// Prints what each failure inside a command leaves, and the letters of the different outcomes.
+pub(crate) fn write_outcomes(trial: Trial<'_, '_, '_>, out: &mut Answers) -> io::Result<()> {
+    let answer = trial.answer()?;
     let alloc = trial.case.alloc;
     let mut seen: Vec<Vec<u8>> = Vec::new(alloc);
     let (mut last, mut first) = (Vec::new(alloc), 0u64);
@@ -111,8 +104,7 @@ pub(crate) fn write_outcomes(trial: Trial<'_, '_, '_>, out: &mut Answers) -> io:
             break;
         }
     }
-    write_letters(&mut out.text, first, first.saturating_add(1), &last)?;
-    Ok(true)
+    write_letters(&mut out.text, first, first.saturating_add(1), &last)
 }
 
 /// The letter of an outcome. A new one gets the next letter, and is printed.

@@ -2,52 +2,43 @@
 use c8_digest::mark;
 use c8_disk::MemDisk;
 use c8_game::{Player, Row};
-use c8_part_cases::{Answers, count_in, player_in, write_bytes};
+use c8_part_cases::{Answers, count_in, player_in, unreadable, write_bytes};
 use c8_peer::Peer;
 use std::fmt::Display;
 use std::io;
 use std::io::Write;
 
-/// Prints what a peer's readers return, by name. Returns whether all words name readers.
-pub(crate) fn look(
-    peer: &Peer<'_, MemDisk>,
-    words: &[&str],
-    out: &mut Answers,
-) -> io::Result<bool> {
+/// Prints what a peer's readers return, by name.
+pub(crate) fn look(peer: &Peer<'_, MemDisk>, words: &[&str], out: &mut Answers) -> io::Result<()> {
     let mut left = words;
     for _ in 0..words.len() {
         if left.is_empty() {
             break;
         }
         let taken = read(peer, left, &mut out.text)?;
-        match left.get(taken..) {
-            Some(more) if taken > 0 => left = more,
-            _ => return Ok(false),
-        }
+        left = left.get(taken..).unwrap_or(&[]);
         let end = if left.is_empty() { "\n" } else { " " };
         write!(out.text, "{end}")?;
     }
-    Ok(!words.is_empty())
+    Ok(())
 }
 
-/// Prints what the first reader returns. Returns how many words name it, 0 if they name none.
+/// Prints what the first reader returns. Returns how many words name it.
 fn read(peer: &Peer<'_, MemDisk>, words: &[&str], text: &mut Vec<u8>) -> io::Result<usize> {
     match words {
-        [name @ ("row" | "best"), frame, ..] => match count_in(frame) {
-            Some(frame) => Ok(2 * usize::from(read_frame(peer, name, frame, text)?)),
-            None => Ok(0),
-        },
-        [name, at, ..] if is_of_player(name) => match player_in(at) {
-            Some(player) => Ok(2 * usize::from(read_player(peer, name, player, text)?)),
-            None => Ok(0),
-        },
-        [name, ..] => {
-            let is_read = read_count(peer, name, text)?
-                || read_flag(peer, name, text)?
-                || read_machine(peer, name, text)?;
-            Ok(usize::from(is_read))
+        [name @ ("row" | "best"), frame, ..] => {
+            read_frame(peer, name, count_in(frame)?, text)?;
+            Ok(2)
         }
-        [] => Ok(0),
+        [name, at, ..] if is_of_player(name) => {
+            read_player(peer, name, player_in(at)?, text)?;
+            Ok(2)
+        }
+        [name, ..] => {
+            read_one(peer, name, text)?;
+            Ok(1)
+        }
+        [] => Err(unreadable()),
     }
 }
 
@@ -59,16 +50,21 @@ fn is_of_player(name: &str) -> bool {
 }
 
 /// Prints a name and a value.
-fn named<T: Display + Drop>(text: &mut Vec<u8>, name: &str, value: T) -> io::Result<bool> {
-    write!(text, "{name} {value}")?;
-    Ok(true)
+fn named<T: Display + Drop>(text: &mut Vec<u8>, name: &str, value: T) -> io::Result<()> {
+    write!(text, "{name} {value}")
+}
+
+/// Prints a name and bytes.
+fn spelled(text: &mut Vec<u8>, name: &str, bytes: &[u8], size: usize) -> io::Result<()> {
+    write!(text, "{name}")?;
+    write_bytes(text, bytes, &[], size, size == 1)
 }
 
 fn yes(is_so: bool) -> &'static str {
     if is_so { "yes" } else { "no" }
 }
 
-fn read_count(peer: &Peer<'_, MemDisk>, name: &str, text: &mut Vec<u8>) -> io::Result<bool> {
+fn read_one(peer: &Peer<'_, MemDisk>, name: &str, text: &mut Vec<u8>) -> io::Result<()> {
     match name {
         "epoch" => named(text, name, peer.epoch()),
         "now" => named(text, name, peer.now()),
@@ -76,44 +72,26 @@ fn read_count(peer: &Peer<'_, MemDisk>, name: &str, text: &mut Vec<u8>) -> io::R
         "last_run" => named(text, name, peer.last_run()),
         "last_checkpoint" => named(text, name, peer.last_checkpoint()),
         "base" => named(text, name, peer.base().0),
-        "counter" => {
-            let counter = peer.shown().counter();
-            write!(text, "{name} {counter:03x}")?;
-            Ok(true)
-        }
-        _ => Ok(false),
-    }
-}
-
-fn read_flag(peer: &Peer<'_, MemDisk>, name: &str, text: &mut Vec<u8>) -> io::Result<bool> {
-    match name {
         "down" => named(text, name, yes(peer.is_down())),
         "dropped" => named(text, name, yes(peer.dropped())),
         "alarm" => named(text, name, yes(peer.alarm())),
-        _ => Ok(false),
+        _ => read_machine(peer, name, text),
     }
 }
 
-/// Prints the registers or the mark of the shown machine, the mark of the confirmed one, or what the journal has of
-/// all players.
-fn read_machine(peer: &Peer<'_, MemDisk>, name: &str, text: &mut Vec<u8>) -> io::Result<bool> {
+/// Prints parts of the shown machine, the mark of the confirmed one, or what the journal has of all players.
+fn read_machine(peer: &Peer<'_, MemDisk>, name: &str, text: &mut Vec<u8>) -> io::Result<()> {
     match name {
-        "registers" => {
-            write!(text, "{name}")?;
-            write_bytes(text, peer.shown().registers(), &[], 1, true)?;
+        "counter" => {
+            let counter = peer.shown().counter();
+            write!(text, "{name} {counter:03x}")
         }
-        "mark" => {
-            write!(text, "{name}")?;
-            write_bytes(text, &mark(peer.shown()), &[], 8, false)?;
-        }
-        "base_mark" => {
-            write!(text, "{name}")?;
-            write_bytes(text, &mark(peer.base().1), &[], 8, false)?;
-        }
-        "players" => write_players(peer, text)?,
-        _ => return Ok(false),
+        "registers" => spelled(text, name, peer.shown().registers(), 1),
+        "mark" => spelled(text, name, &mark(peer.shown()), 8),
+        "base_mark" => spelled(text, name, &mark(peer.base().1), 8),
+        "players" => write_players(peer, text),
+        _ => Err(unreadable()),
     }
-    Ok(true)
 }
 
 fn read_player(
@@ -121,18 +99,17 @@ fn read_player(
     name: &str,
     player: Player,
     text: &mut Vec<u8>,
-) -> io::Result<bool> {
+) -> io::Result<()> {
     match name {
         "count" => named(text, name, peer.count(player)),
         "acked" => named(text, name, peer.acked(player)),
         "linked" => named(text, name, yes(peer.is_linked(player))),
         "frozen" => named(text, name, yes(peer.frozen(player))),
         "leaving" => named(text, name, yes(peer.leaving(player))),
-        "cut" => match peer.cut_of(player) {
+        _ => match peer.cut_of(player) {
             Some(length) => named(text, name, length),
             None => named(text, name, "none"),
         },
-        _ => Ok(false),
     }
 }
 
@@ -142,7 +119,7 @@ fn read_frame(
     name: &str,
     frame: u32,
     text: &mut Vec<u8>,
-) -> io::Result<bool> {
+) -> io::Result<()> {
     if name == "best" {
         return write_row(text, name, &peer.best_row(frame));
     }
@@ -153,10 +130,9 @@ fn read_frame(
     write_row(text, name, &rows.row(frame))
 }
 
-fn write_row(text: &mut Vec<u8>, name: &str, row: &Row) -> io::Result<bool> {
+fn write_row(text: &mut Vec<u8>, name: &str, row: &Row) -> io::Result<()> {
     let [one, two, three, four] = row.sets;
-    write!(text, "{name} {one} {two} {three} {four}")?;
-    Ok(true)
+    write!(text, "{name} {one} {two} {three} {four}")
 }
 
 /// Prints how many inputs the journal has of each player, whether they are frozen, whether the player leaves, and where

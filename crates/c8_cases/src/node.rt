@@ -1,11 +1,15 @@
 //! One player's peer, or its disk.
-use crate::slots::add_slot;
 use c8_disk::{Arm, Disk, MemDisk};
 use c8_game::{Game, Player};
-use c8_part_cases::{Answers, write_at};
+use c8_part_cases::{Answers, unreadable};
 use c8_peer::Peer;
 use std::alloc::Global;
 use std::io;
+
+/// How many bytes and calls an empty disk has room for, unless a command says otherwise.
+pub(crate) const CAPACITY: u32 = 20000;
+
+pub(crate) const CALLS: u32 = 1000;
 
 /// A player's open peer, or its disk.
 #[derive(Drop)]
@@ -23,30 +27,30 @@ impl<'g> Node<'g> {
         }
     }
 
-    /// Opens the peer on its disk; an open one is closed first.
+    /// Opens the peer on its disk, an empty one if it has none; an open peer is closed first.
     pub(crate) fn open(
         &mut self,
         alloc: Global,
         game: &'g Game,
         (me, room): (Player, u64),
         out: &mut Answers,
-    ) -> io::Result<bool> {
+    ) -> io::Result<()> {
         self.close();
-        let Some(disk) = self.disk.take() else {
-            return Ok(false);
+        let disk = match self.disk.take() {
+            Some(disk) => disk,
+            None => MemDisk::new(alloc, CAPACITY, CALLS)?,
         };
         match Peer::open(alloc, disk, game, me, room) {
             Ok(peer) => {
                 let epoch = peer.epoch();
                 self.peer = Some(peer);
-                out.tell(format_args!("epoch {epoch}"))?;
+                out.tell(format_args!("epoch {epoch}"))
             }
             Err((error, disk)) => {
                 self.disk = Some(disk);
-                out.refuse("open", error.number(), error.name(), error)?;
+                out.refuse("open", error.number(), error.name(), error)
             }
         }
-        Ok(true)
     }
 
     /// Closes the peer if there is one.
@@ -89,26 +93,12 @@ impl<'g> Node<'g> {
         }
     }
 
-    /// Closes the peer, and writes bytes to the disk. Returns whether the command can be read.
-    pub(crate) fn write(
-        &mut self,
-        place: u32,
-        bytes: &[u8],
-        out: &mut Answers,
-    ) -> io::Result<bool> {
+    /// Closes the peer, and lends its disk.
+    pub(crate) fn bare(&mut self) -> io::Result<&mut MemDisk> {
         self.close();
         match &mut self.disk {
-            Some(disk) => write_at(disk, place, bytes, out),
-            None => Ok(false),
-        }
-    }
-
-    /// Closes the peer, and adds a slot and a closed gate to the disk.
-    pub(crate) fn add(&mut self, bytes: &[u8], out: &mut Answers) -> io::Result<bool> {
-        self.close();
-        match &mut self.disk {
-            Some(disk) => add_slot(disk, bytes, out),
-            None => Ok(false),
+            Some(disk) => Ok(disk),
+            None => Err(unreadable()),
         }
     }
 }

@@ -2,9 +2,10 @@
 use crate::faults::{Trial, write_outcomes};
 use crate::stage::Stage;
 use c8_game::Game;
-use c8_part_cases::{Answers, Command, Script, add, number_in, size_in, words_in};
+use c8_part_cases::{Answers, Command, Script, add, words_in};
 use std::alloc::Global;
 use std::io;
+use std::io::ErrorKind;
 
 /// The commands of a file from a place on, and the games that they name.
 #[derive(Clone, Copy)]
@@ -34,8 +35,10 @@ impl<'g, 't> Case<'g, 't> {
         let (mut last, mut count) = (Vec::new(self.alloc), 0usize);
         for turn in 0..many {
             out.text.clear();
-            if !self.perform_once(place, turn, words, block, stage, out)? {
-                return Ok(false);
+            match self.perform_once((place, turn), words, block, stage, out) {
+                Ok(()) => {}
+                Err(error) if error.kind() == ErrorKind::InvalidInput => return Ok(false),
+                Err(error) => return Err(error),
             }
             if count > 0 && last == out.text {
                 count = count.saturating_add(1);
@@ -50,16 +53,15 @@ impl<'g, 't> Case<'g, 't> {
         Ok(many > 0)
     }
 
-    /// Does once what a command says, after `turn` times.
+    /// Does once what the command at a place says, after `turn` times.
     fn perform_once(
         self,
-        place: usize,
-        turn: usize,
+        (place, turn): (usize, usize),
         words: &[&str],
         block: &[&[u8]],
         stage: &mut Stage<'g>,
         out: &mut Answers,
-    ) -> io::Result<bool> {
+    ) -> io::Result<()> {
         let (inner, picks) = without_stops(words);
         if inner.len() == words.len() {
             return stage.perform(words, block, out);
@@ -72,9 +74,8 @@ impl<'g, 't> Case<'g, 't> {
             block,
             picks,
         };
-        let is_read = write_outcomes(trial, out)?;
-        let mut unseen = Answers::new(self.alloc);
-        Ok(is_read && stage.perform(inner, block, &mut unseen)?)
+        write_outcomes(trial, out)?;
+        stage.perform(inner, block, &mut Answers::new(self.alloc))
     }
 
     /// A stage after the commands up to a place.
@@ -105,7 +106,7 @@ impl<'g, 't> Case<'g, 't> {
 /// The words of a command without `times N`, and N. Where N is no number it is 0.
 fn without_times<'a, 't>(words: &'a [&'t str]) -> (&'a [&'t str], usize) {
     match words {
-        [words @ .., "times", many] => (words, size_in(many).unwrap_or(0)),
+        [words @ .., "times", many] => (words, many.parse::<usize>().unwrap_or(0)),
         _ => (words, 1),
     }
 }
@@ -116,7 +117,7 @@ const PICKS: u64 = 6;
 /// The words of a command without `stops` in front, and how many picks are tried.
 fn without_stops<'a, 't>(words: &'a [&'t str]) -> (&'a [&'t str], u64) {
     match words {
-        ["stops", "picks", many, words @ ..] => (words, number_in(many).unwrap_or(PICKS)),
+        ["stops", "picks", many, words @ ..] => (words, many.parse::<u64>().unwrap_or(PICKS)),
         ["stops", words @ ..] => (words, PICKS),
         _ => (words, PICKS),
     }

@@ -1,23 +1,21 @@
 //! All players' peers.
 use crate::calls::{Letter, call, deliver, kind_in, say, show};
 use crate::look::look;
-use crate::node::Node;
-use crate::slots::{journal, place_in};
+use crate::node::{CALLS, CAPACITY, Node};
+use crate::slots::{add_slot, journal, place_in};
 use c8_disk::{Arm, MemDisk};
 use c8_game::{Game, Player};
 use c8_log::SLOT_LENGTH;
-use c8_part_cases::{Answers, Desk, arm_in, bytes_in, count_in, number_in, player_in, size_in};
+use c8_part_cases::{
+    Answers, Desk, arm_in, bytes_in, count_in, needed, number_in, player_in, size_in, unreadable,
+    write_at,
+};
 use c8_peer::Kind;
 use std::alloc::{AllocError, Global};
 use std::io;
 
 /// The room of a match, unless a command names another.
 const ROOM: u64 = 0x0102030405060708;
-
-/// How many bytes and calls an empty disk has room for, unless a command says otherwise.
-const CAPACITY: u32 = 20000;
-
-const CALLS: u32 = 1000;
 
 /// What is printed of a peer that is opened again.
 const FOUND: [&str; 4] = ["epoch", "now", "last_checkpoint", "players"];
@@ -54,28 +52,27 @@ impl<'g> Stage<'g> {
         })
     }
 
-    /// Does what a command says. Returns whether it can be read.
+    /// Does what a command says. The error is that it cannot be read, or that memory ran out.
     pub(crate) fn perform(
         &mut self,
         words: &[&str],
         block: &[&[u8]],
         out: &mut Answers,
-    ) -> io::Result<bool> {
-        if self.desk.perform(words, block, out)? {
-            return Ok(true);
-        }
+    ) -> io::Result<()> {
         match words {
             ["game"] | ["game", "other"] => self.judge_game(block, out),
-            ["why"] => {
-                out.explain()?;
-                Ok(true)
-            }
+            ["why"] => out.explain(),
             ["meet"] => self.meet(),
-            [verb, at, rest @ ..] => match player_in(at) {
-                Some(at) => self.perform_at(verb, at, rest, block, out),
-                None => Ok(false),
-            },
-            _ => Ok(false),
+            ["disk", at @ ("1" | "2" | "3" | "4"), capacity, calls] => {
+                self.put(player_in(at)?, count_in(capacity)?, count_in(calls)?)
+            }
+            [verb @ ("open" | "carry" | "say" | "deliver"), at, rest @ ..] => {
+                self.perform_at(verb, player_in(at)?, rest, block, out)
+            }
+            [verb, at, rest @ ..] if is_of_peers(verb) => {
+                self.perform_alone(verb, player_in(at)?, rest, block, out)
+            }
+            _ => self.desk.perform(words, block, out),
         }
     }
 
@@ -116,7 +113,7 @@ impl<'g> Stage<'g> {
         Ok(())
     }
 
-    /// Does what a command says of a player.
+    /// Does what a command says of a player, and perhaps of another one.
     fn perform_at(
         &mut self,
         verb: &str,
@@ -124,29 +121,21 @@ impl<'g> Stage<'g> {
         rest: &[&str],
         block: &[&[u8]],
         out: &mut Answers,
-    ) -> io::Result<bool> {
+    ) -> io::Result<()> {
         match (verb, rest) {
-            ("disk", [capacity, calls]) => match (count_in(capacity), count_in(calls)) {
-                (Some(capacity), Some(calls)) => self.put(at, capacity, calls),
-                _ => Ok(false),
-            },
-            ("open", rest) => self.open_as(at, rest, out),
-            ("carry", [to, kind @ ..]) => match (player_in(to), kind_in(kind)) {
-                (Some(to), Some(kind)) => self.carry(at, to, kind, out),
-                _ => Ok(false),
-            },
-            ("say", [to, kind @ ..]) => match (player_in(to), kind_in(kind)) {
-                (Some(to), Some(kind)) => self.say(at, to, kind, out),
-                _ => Ok(false),
-            },
+            ("open", []) => self.open(at, self.game, ROOM, out),
+            ("open", ["other"]) => self.open(at, self.other, ROOM, out),
+            ("open", ["room", room]) => self.open(at, self.game, number_in(room)?, out),
+            ("carry", [to, kind @ ..]) => self.carry(at, player_in(to)?, kind_in(kind)?, out),
+            ("say", [to, kind @ ..]) => self.say(at, player_in(to)?, kind_in(kind)?, out),
             ("deliver", ["said", number, change @ ..]) => {
-                self.deliver_said(at, number, change, out)
+                self.deliver_said(at, size_in(number)?, change, out)
             }
-            ("deliver", bytes) => match bytes_in(self.alloc, bytes, block, 0)? {
-                Some(bytes) => self.give(at, &bytes, out),
-                None => Ok(false),
-            },
-            _ => self.perform_alone(verb, at, rest, block, out),
+            ("deliver", bytes) => {
+                let bytes = bytes_in(self.alloc, bytes, block, 0)?;
+                self.give(at, &bytes, out)
+            }
+            _ => Err(unreadable()),
         }
     }
 
@@ -158,55 +147,47 @@ impl<'g> Stage<'g> {
         rest: &[&str],
         block: &[&[u8]],
         out: &mut Answers,
-    ) -> io::Result<bool> {
+    ) -> io::Result<()> {
         let alloc = self.alloc;
         let Some(node) = self.nodes.get_mut(at.place()) else {
-            return Ok(false);
+            return Err(unreadable());
         };
         match (verb, rest) {
             ("write", [place, bytes @ ..]) => {
-                match (place_in(place), bytes_in(alloc, bytes, block, 0)?) {
-                    (Some(place), Some(bytes)) => node.write(place, &bytes, out),
-                    _ => Ok(false),
-                }
+                let bytes = bytes_in(alloc, bytes, block, 0)?;
+                write_at(node.bare()?, place_in(place)?, &bytes, out)
             }
-            ("add", bytes) => match bytes_in(alloc, bytes, block, SLOT_LENGTH)? {
-                Some(bytes) => node.add(&bytes, out),
-                None => Ok(false),
-            },
+            ("add", bytes) => {
+                let bytes = bytes_in(alloc, bytes, block, SLOT_LENGTH)?;
+                add_slot(node.bare()?, &bytes, out)
+            }
             ("close", []) => {
                 node.close();
-                Ok(true)
+                Ok(())
             }
-            ("crash", [pick]) => match number_in(pick) {
-                Some(pick) => {
-                    node.crash(pick);
-                    Ok(true)
-                }
-                None => Ok(false),
-            },
-            ("arm", how) => match arm_in(how) {
-                Some(arm) => {
-                    node.arm(arm);
-                    Ok(true)
-                }
-                None => Ok(false),
-            },
-            ("length", []) => {
-                out.tell(node.image().len())?;
-                Ok(true)
+            ("crash", [pick]) => {
+                node.crash(number_in(pick)?);
+                Ok(())
             }
+            ("arm", how) => {
+                node.arm(arm_in(how)?);
+                Ok(())
+            }
+            ("length", []) => out.tell(node.image().len()),
             ("journal", which) => journal(node.image(), which, out),
-            _ => ask(node, verb, rest, out),
+            _ => match &mut node.peer {
+                Some(peer) => call(peer, verb, rest, out),
+                None => out.tell("no peer"),
+            },
         }
     }
 
     /// Prints why a text is no game.
-    fn judge_game(&self, block: &[&[u8]], out: &mut Answers) -> io::Result<bool> {
-        if let Err(error) = Game::read(self.alloc, &text_of(self.alloc, block)?) {
-            out.refuse("game", error.number(), error.name(), error)?;
+    fn judge_game(&self, block: &[&[u8]], out: &mut Answers) -> io::Result<()> {
+        match Game::read(self.alloc, &text_of(self.alloc, block)?) {
+            Ok(_) => Ok(()),
+            Err(error) => out.refuse("game", error.number(), error.name(), error),
         }
-        Ok(true)
     }
 
     pub(crate) fn node(&mut self, at: Player) -> Option<&mut Node<'g>> {
@@ -214,76 +195,54 @@ impl<'g> Stage<'g> {
     }
 
     /// Opens the peers of all players of the game on empty disks, and gives each a link to each other.
-    fn meet(&mut self) -> io::Result<bool> {
-        let Some(game) = self.game else {
-            return Ok(false);
-        };
+    fn meet(&mut self) -> io::Result<()> {
+        let game = needed(self.game)?;
         let mut out = Answers::new(self.alloc);
-        let players = game.players();
-        for number in 1..players.saturating_add(1) {
-            if let Some(at) = Player::new(number) {
-                self.put(at, CAPACITY, CALLS)?;
-                self.open(at, Some(game), ROOM, &mut out)?;
-            }
+        for number in 1..game.players().saturating_add(1) {
+            let at = needed(Player::new(number))?;
+            self.put(at, CAPACITY, CALLS)?;
+            self.open(at, Some(game), ROOM, &mut out)?;
         }
-        for one in 1..players.saturating_add(1) {
-            if let Some(one) = Player::new(one) {
-                self.link_to_all(one, players, &mut out)?;
-            }
-        }
-        Ok(true)
-    }
-
-    fn link_to_all(&mut self, one: Player, players: u8, out: &mut Answers) -> io::Result<()> {
-        for other in 1..players.saturating_add(1) {
-            if let Some(other) = Player::new(other) {
-                self.carry(one, other, Kind::Hello, out)?;
-                self.carry(other, one, Kind::Welcome, out)?;
-            }
+        for number in 1..game.players().saturating_add(1) {
+            let one = needed(Player::new(number))?;
+            self.link_to_all(one, game.players(), &mut out)?;
         }
         Ok(())
     }
 
-    fn put(&mut self, at: Player, capacity: u32, calls: u32) -> io::Result<bool> {
+    fn link_to_all(&mut self, one: Player, players: u8, out: &mut Answers) -> io::Result<()> {
+        for number in 1..players.saturating_add(1) {
+            let other = needed(Player::new(number))?;
+            self.carry(one, other, Kind::Hello, out)?;
+            self.carry(other, one, Kind::Welcome, out)?;
+        }
+        Ok(())
+    }
+
+    fn put(&mut self, at: Player, capacity: u32, calls: u32) -> io::Result<()> {
         let disk = MemDisk::new(self.alloc, capacity, calls)?;
         match self.node(at) {
             Some(node) => {
                 node.put(disk);
-                Ok(true)
+                Ok(())
             }
-            None => Ok(false),
+            None => Err(unreadable()),
         }
     }
 
-    /// Opens a player's peer: in the game or in the other one, in the usual room or another one.
-    fn open_as(&mut self, at: Player, words: &[&str], out: &mut Answers) -> io::Result<bool> {
-        match words {
-            [] => self.open(at, self.game, ROOM, out),
-            ["other"] => self.open(at, self.other, ROOM, out),
-            ["room", room] => match number_in(room) {
-                Some(room) => self.open(at, self.game, room, out),
-                None => Ok(false),
-            },
-            _ => Ok(false),
-        }
-    }
-
-    /// Opens a player's peer, on an empty disk if it has none.
+    /// Opens a player's peer.
     fn open(
         &mut self,
         at: Player,
         game: Option<&'g Game>,
         room: u64,
         out: &mut Answers,
-    ) -> io::Result<bool> {
+    ) -> io::Result<()> {
         let alloc = self.alloc;
-        let (Some(game), Some(node)) = (game, self.node(at)) else {
-            return Ok(false);
-        };
-        if node.peer.is_none() && node.disk.is_none() {
-            node.put(MemDisk::new(alloc, CAPACITY, CALLS)?);
+        match (game, self.node(at)) {
+            (Some(game), Some(node)) => node.open(alloc, game, (at, room), out),
+            _ => Err(unreadable()),
         }
-        node.open(alloc, game, (at, room), out)
     }
 
     /// What a player says to another. None where that is refused, or the player has no peer.
@@ -308,25 +267,19 @@ impl<'g> Stage<'g> {
         }
     }
 
-    fn say(&mut self, from: Player, to: Player, kind: Kind, out: &mut Answers) -> io::Result<bool> {
+    fn say(&mut self, from: Player, to: Player, kind: Kind, out: &mut Answers) -> io::Result<()> {
         if let Some(letter) = self.letter(from, to, kind, out)? {
             self.letters.push(letter)?;
             show(&letter, self.letters.len(), out)?;
         }
-        Ok(true)
+        Ok(())
     }
 
     /// Delivers what a player says to another at once.
-    fn carry(
-        &mut self,
-        from: Player,
-        to: Player,
-        kind: Kind,
-        out: &mut Answers,
-    ) -> io::Result<bool> {
+    fn carry(&mut self, from: Player, to: Player, kind: Kind, out: &mut Answers) -> io::Result<()> {
         match self.letter(from, to, kind, out)? {
             Some(letter) => self.give(to, letter.bytes(), out),
-            None => Ok(true),
+            None => Ok(()),
         }
     }
 
@@ -334,52 +287,42 @@ impl<'g> Stage<'g> {
     fn deliver_said(
         &mut self,
         to: Player,
-        number: &str,
+        number: usize,
         change: &[&str],
         out: &mut Answers,
-    ) -> io::Result<bool> {
-        let number = size_in(number).and_then(|number| number.checked_sub(1));
-        let Some(letter) = number.and_then(|number| self.letters.get(number).copied()) else {
-            return Ok(false);
+    ) -> io::Result<()> {
+        let Some(letter) = self.letters.get(number.wrapping_sub(1)).copied() else {
+            return Err(unreadable());
         };
         match change {
             [] => self.give(to, letter.bytes(), out),
             ["with", place, bytes @ ..] => {
-                match (size_in(place), bytes_in(self.alloc, bytes, &[], 0)?) {
-                    (Some(place), Some(bytes)) => {
-                        self.give(to, letter.with(place, &bytes).bytes(), out)
-                    }
-                    _ => Ok(false),
-                }
+                let bytes = bytes_in(self.alloc, bytes, &[], 0)?;
+                self.give(to, letter.with(size_in(place)?, &bytes).bytes(), out)
             }
-            _ => Ok(false),
+            _ => Err(unreadable()),
         }
     }
 
-    fn give(&mut self, to: Player, bytes: &[u8], out: &mut Answers) -> io::Result<bool> {
+    fn give(&mut self, to: Player, bytes: &[u8], out: &mut Answers) -> io::Result<()> {
         match self.node(to) {
             Some(
                 Node {
                     peer: Some(peer),
                     ..
                 },
-            ) => deliver(peer, bytes, out)?,
-            _ => out.tell("no peer")?,
+            ) => deliver(peer, bytes, out),
+            _ => out.tell("no peer"),
         }
-        Ok(true)
     }
 }
 
-/// Asks a player's peer.
-fn ask(node: &mut Node<'_>, verb: &str, rest: &[&str], out: &mut Answers) -> io::Result<bool> {
-    let Some(peer) = &mut node.peer else {
-        out.tell("no peer")?;
-        return Ok(true);
-    };
-    if verb == "look" {
-        look(peer, rest, out)
-    } else {
-        call(peer, verb, rest, out)
+/// Whether a verb is of a player's disk or peer alone.
+fn is_of_peers(verb: &str) -> bool {
+    match verb {
+        "write" | "add" | "close" | "crash" | "arm" | "length" | "journal" => true,
+        "look" | "tick" | "leave" | "decide" | "checkpoint" => true,
+        _ => false,
     }
 }
 

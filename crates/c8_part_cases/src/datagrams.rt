@@ -1,7 +1,7 @@
 //! Datagrams, and the links that admit them.
 use crate::answers::Answers;
 use crate::bytes::write_datagram;
-use crate::words::{count_in, player_in};
+use crate::words::{count_in, player_in, unreadable};
 use c8_game::{Game, Player, WireVersion};
 use c8_hand::{HandError, Links};
 use c8_wire::{Body, DatagramKind, Head, LONGEST_DATAGRAM, Said, Seat, fits, view, write};
@@ -48,11 +48,11 @@ fn tell_lengths(first: usize, next: usize, name: &str, out: &mut Answers) -> io:
 }
 
 /// The version that a word names.
-pub(crate) fn version_in(word: &str) -> Option<WireVersion> {
+pub(crate) fn version_in(word: &str) -> io::Result<WireVersion> {
     match word {
-        "1" => Some(WireVersion::One),
-        "2" => Some(WireVersion::Two),
-        _ => None,
+        "1" => Ok(WireVersion::One),
+        "2" => Ok(WireVersion::Two),
+        _ => Err(unreadable()),
     }
 }
 
@@ -98,43 +98,49 @@ fn write_data(version: WireVersion, words: &[u16], out: &mut [u8; LONGEST_DATAGR
     write(&Said { head, body }, out)
 }
 
-/// The links of a player in an epoch, in the room 0: `P epoch N`.
-pub(crate) fn links_in(game: &Game, words: &[&str]) -> Option<Links> {
-    let [me, "epoch", epoch] = words else {
-        return None;
-    };
-    Some(Links::new(player_in(me)?, game, 0, count_in(epoch)?))
-}
-
-/// Hears a HELLO, WELCOME or DATA with a body of zeros: `FROM KIND THEIRS MINE`, with the epochs of both. Returns
-/// whether the words spell one.
-pub(crate) fn hear(
+/// Makes a call of links: hears a datagram, or shows the link to a player.
+pub(crate) fn call_links(
     game: &Game,
     links: &mut Links,
-    words: &[&str],
+    (verb, words): (&str, &[&str]),
     out: &mut Answers,
-) -> io::Result<bool> {
-    let [from, kind, theirs, mine] = words else {
-        return Ok(false);
-    };
-    let (Some(from), Some(theirs), Some(mine)) = (player_in(from), count_in(theirs), count_in(mine))
-    else {
-        return Ok(false);
-    };
-    let (kind, size) = match *kind {
-        "hello" => (1, 0),
-        "welcome" => (2, 4),
-        "data" => (3, 22),
-        _ => return Ok(false),
-    };
-    let bytes = bytes_of(game, (kind, size), (from, links.me()), (theirs, mine));
-    let front = bytes.get(..usize::from(size).saturating_add(24));
-    match give(links, front.unwrap_or(&[])) {
-        Some(Ok(())) => out.tell("ok")?,
-        Some(Err(error)) => out.refuse("hand", error.number(), error.name(), error)?,
-        None => return Ok(false),
+) -> io::Result<()> {
+    match (verb, words) {
+        ("hear", [from, kind, theirs, mine]) => {
+            let epochs = (count_in(theirs)?, count_in(mine)?);
+            hear(game, links, player_in(from)?, kind_in(kind)?, epochs, out)
+        }
+        ("link", [player]) => show_link(links, player_in(player)?, out),
+        _ => Err(unreadable()),
     }
-    Ok(true)
+}
+
+/// The number of a kind, and the size of its body.
+fn kind_in(word: &str) -> io::Result<(u8, u8)> {
+    match word {
+        "hello" => Ok((1, 0)),
+        "welcome" => Ok((2, 4)),
+        "data" => Ok((3, 22)),
+        _ => Err(unreadable()),
+    }
+}
+
+/// Hears a HELLO, WELCOME or DATA with a body of zeros, and the epochs of both.
+fn hear(
+    game: &Game,
+    links: &mut Links,
+    from: Player,
+    kind: (u8, u8),
+    epochs: (u32, u32),
+    out: &mut Answers,
+) -> io::Result<()> {
+    let bytes = bytes_of(game, kind, (from, links.me()), epochs);
+    let front = bytes.get(..usize::from(kind.1).saturating_add(24));
+    match give(links, front.unwrap_or(&[])) {
+        Some(Ok(())) => out.tell("ok"),
+        Some(Err(error)) => out.refuse("hand", error.number(), error.name(), error),
+        None => Err(unreadable()),
+    }
 }
 
 /// A header with a kind, players and epochs, and zeros behind it.
@@ -166,7 +172,7 @@ fn give(links: &mut Links, bytes: &[u8]) -> Option<Result<(), HandError>> {
 }
 
 /// Prints the known epoch of a player, and the one with which the link to it is open.
-pub(crate) fn show_link(links: &Links, player: Player, out: &mut Answers) -> io::Result<()> {
+fn show_link(links: &Links, player: Player, out: &mut Answers) -> io::Result<()> {
     let known = links.known(player);
     match links.open(player) {
         Some(open) => out.tell(format_args!("known {known} open {open}")),

@@ -1,11 +1,11 @@
 //! The parts in hand, and the commands that use them.
 use crate::answers::Answers;
-use crate::datagrams::{hear, links_in, show, show_data, show_fronts, show_link, version_in};
+use crate::datagrams::{call_links, show, show_data, show_fronts, version_in};
 use crate::disks::Hand;
 use crate::inputs::Inputs;
 use crate::machines::{call_machine, show_game};
 use crate::records::{body_in, replay_in};
-use crate::words::{bytes_in, player_in};
+use crate::words::{bytes_in, count_in, needed, player_in, unreadable};
 use c8_game::Game;
 use c8_hand::Links;
 use c8_machine::Machine;
@@ -36,78 +36,61 @@ impl<'g> Desk<'g> {
         }
     }
 
-    /// Does what a command says. Returns whether it is one of a part, and can be read.
+    /// Does what a command says. The error is that it cannot be read, or that memory ran out.
     pub fn perform(
         &mut self,
         words: &[&str],
         block: &[&[u8]],
         out: &mut Answers,
-    ) -> io::Result<bool> {
+    ) -> io::Result<()> {
+        let alloc = self.alloc;
         match words {
-            ["disk", verb, rest @ ..] => self.hand.disk(self.alloc, (verb, rest), block, out),
-            ["log", verb, rest @ ..] => self.hand.log(self.alloc, (verb, rest), block, out),
+            ["disk", verb, rest @ ..] => self.hand.disk(alloc, (verb, rest), block, out),
+            ["log", verb, rest @ ..] => self.hand.log(alloc, (verb, rest), block, out),
             ["body", record @ ..] => body_in(record, out),
-            ["replay", rest @ ..] => match self.game {
-                Some(game) => replay_in(self.alloc, game, rest, block, &mut self.hand, out),
-                None => Ok(false),
-            },
-            ["view" | "fronts" | "data", ..] => self.datagram(words, block, out),
-            ["wire" | "id" | "session", ..] => match self.game {
-                Some(game) => show_game(game, words, out),
-                None => Ok(false),
-            },
-            ["machine", "start"] => {
-                self.machine = self.game.map(Machine::start);
-                Ok(self.machine.is_some())
+            ["view", bytes @ ..] => show(&bytes_in(alloc, bytes, block, 0)?, out),
+            ["fronts", bytes @ ..] => show_fronts(&bytes_in(alloc, bytes, block, 0)?, out),
+            ["data", version, bytes @ ..] => {
+                let bytes = bytes_in(alloc, bytes, block, 0)?;
+                show_data(alloc, version_in(version)?, &bytes, out)
             }
-            ["machine", rest @ ..] => match (self.game, &mut self.machine) {
-                (Some(game), Some(machine)) => call_machine(game, machine, rest, out),
-                _ => Ok(false),
-            },
-            ["known", rest @ ..] => match self.game {
-                Some(game) => self.inputs.known(self.alloc, game, rest, out),
-                None => Ok(false),
-            },
-            ["roll", rest @ ..] => match self.game {
-                Some(game) => self.inputs.roll(self.alloc, game, rest, out),
-                None => Ok(false),
-            },
-            ["links", rest @ ..] => {
-                self.links = self.game.and_then(|game| links_in(game, rest));
-                Ok(self.links.is_some())
-            }
-            ["hear", rest @ ..] => match (self.game, &mut self.links) {
-                (Some(game), Some(links)) => hear(game, links, rest, out),
-                _ => Ok(false),
-            },
-            ["link", player] => match (&self.links, player_in(player)) {
-                (Some(links), Some(player)) => {
-                    show_link(links, player, out)?;
-                    Ok(true)
-                }
-                _ => Ok(false),
-            },
-            _ => Ok(false),
+            _ => self.perform_in(needed(self.game)?, words, block, out),
         }
     }
 
-    /// Does what a command says of a datagram.
-    fn datagram(&mut self, words: &[&str], block: &[&[u8]], out: &mut Answers) -> io::Result<bool> {
-        let (version, spelled) = match words {
-            ["data", version, spelled @ ..] => (version_in(version), spelled),
-            [_, spelled @ ..] => (None, spelled),
-            [] => (None, words),
-        };
-        let Some(bytes) = bytes_in(self.alloc, spelled, block, 0)? else {
-            return Ok(false);
-        };
-        match (words, version) {
-            (["view", ..], _) => show(&bytes, out)?,
-            (["fronts", ..], _) => show_fronts(&bytes, out)?,
-            (_, Some(version)) => show_data(self.alloc, version, &bytes, out)?,
-            _ => return Ok(false),
+    /// Does what a command says that needs a game.
+    fn perform_in(
+        &mut self,
+        game: &'g Game,
+        words: &[&str],
+        block: &[&[u8]],
+        out: &mut Answers,
+    ) -> io::Result<()> {
+        let alloc = self.alloc;
+        match words {
+            ["wire" | "id" | "session", ..] => show_game(game, words, out),
+            ["replay", rest @ ..] => replay_in(alloc, game, rest, block, &mut self.hand, out),
+            ["known", rest @ ..] => self.inputs.known(alloc, game, rest, out),
+            ["roll", rest @ ..] => self.inputs.roll(alloc, game, rest, out),
+            ["machine", "start"] => {
+                self.machine = Some(Machine::start(game));
+                Ok(())
+            }
+            ["machine", rest @ ..] => match &mut self.machine {
+                Some(machine) => call_machine(game, machine, rest, out),
+                None => Err(unreadable()),
+            },
+            ["links", me, "epoch", epoch] => {
+                let links = Links::new(player_in(me)?, game, 0, count_in(epoch)?);
+                self.links = Some(links);
+                Ok(())
+            }
+            [verb @ ("hear" | "link"), rest @ ..] => match &mut self.links {
+                Some(links) => call_links(game, links, (verb, rest), out),
+                None => Err(unreadable()),
+            },
+            _ => Err(unreadable()),
         }
-        Ok(true)
     }
 
     /// The disk or the log in hand.

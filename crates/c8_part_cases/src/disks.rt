@@ -1,8 +1,8 @@
 //! A disk in memory, and a log on it.
 use crate::answers::Answers;
 use crate::bytes::write_bytes;
-use crate::words::{arm_in, bytes_in, count_in, number_in, size_in};
-use c8_disk::{Arm, Disk, LONGEST_WRITE, MemDisk};
+use crate::words::{arm_in, bytes_in, count_in, number_in, size_in, unreadable};
+use c8_disk::{Arm, Disk, DiskError, LONGEST_WRITE, MemDisk};
 use c8_log::{BODY_LENGTH, Block, Log, LogError, kept_len};
 use std::alloc::Global;
 use std::io;
@@ -23,42 +23,28 @@ impl Hand {
         }
     }
 
-    /// Does what a command says of the disk. Returns whether it can be read.
+    /// Does what a command says of the disk.
     pub(crate) fn disk(
         &mut self,
         alloc: Global,
         (verb, rest): (&str, &[&str]),
         block: &[&[u8]],
         out: &mut Answers,
-    ) -> io::Result<bool> {
+    ) -> io::Result<()> {
         match (verb, rest) {
-            ("new", [capacity, calls]) => match (count_in(capacity), count_in(calls)) {
-                (Some(capacity), Some(calls)) => {
-                    self.log = None;
-                    self.disk = Some(MemDisk::new(alloc, capacity, calls)?);
-                    Ok(true)
-                }
-                _ => Ok(false),
-            },
-            ("arm", how) => match arm_in(how) {
-                Some(arm) => {
-                    self.arm(arm);
-                    Ok(true)
-                }
-                None => Ok(false),
-            },
-            ("crash", [pick]) => match number_in(pick) {
-                Some(pick) => {
-                    self.crash(pick);
-                    Ok(true)
-                }
-                None => Ok(false),
-            },
+            ("new", [capacity, calls]) => {
+                let disk = MemDisk::new(alloc, count_in(capacity)?, count_in(calls)?)?;
+                self.log = None;
+                self.disk = Some(disk);
+            }
+            ("arm", how) => self.arm(arm_in(how)?),
+            ("crash", [pick]) => self.crash(number_in(pick)?),
             _ => match &mut self.disk {
-                Some(disk) => call_disk(alloc, disk, (verb, rest), block, out),
-                None => Ok(false),
+                Some(disk) => call_disk(alloc, disk, (verb, rest), block, out)?,
+                None => return Err(unreadable()),
             },
         }
+        Ok(())
     }
 
     /// Sets which calls of the disk fail.
@@ -85,87 +71,58 @@ impl Hand {
     }
 
     /// Opens a log on the disk; an open one is closed first.
-    pub fn open(&mut self, out: &mut Answers) -> io::Result<bool> {
+    pub fn open(&mut self, out: &mut Answers) -> io::Result<()> {
         self.close();
         let Some(disk) = self.disk.take() else {
-            return Ok(false);
+            return Err(unreadable());
         };
         match Log::open(disk) {
             Ok(log) => {
-                out.tell(format_args!("bodies {}", log.len()))?;
+                let many = log.len();
                 self.log = Some(log);
+                out.tell(format_args!("bodies {many}"))
             }
             Err((error, disk)) => {
                 self.disk = Some(disk);
-                out.refuse("log", error.number(), error.name(), error)?;
+                refuse(error, out)
             }
         }
-        Ok(true)
     }
 
-    /// Does what a command says of the log. Returns whether it can be read.
+    /// Does what a command says of the log.
     pub(crate) fn log(
         &mut self,
         alloc: Global,
         (verb, rest): (&str, &[&str]),
         block: &[&[u8]],
         out: &mut Answers,
-    ) -> io::Result<bool> {
+    ) -> io::Result<()> {
         match (verb, rest) {
-            ("open", []) => self.open(out),
+            ("open", []) => return self.open(out),
             ("close", []) => {
                 self.close();
-                Ok(true)
+                return Ok(());
             }
-            ("append", bytes) => match bytes_in(alloc, bytes, block, BODY_LENGTH)? {
-                Some(body) => self.append(&body, out),
-                None => Ok(false),
-            },
-            ("read", [number]) => match count_in(number) {
-                Some(number) => self.read(number, out),
-                None => Ok(false),
-            },
-            ("bodies", []) => self.bodies(out),
-            ("debug", []) => match &self.log {
-                Some(log) => {
-                    out.tell(format_args!("{log:?}"))?;
-                    Ok(true)
-                }
-                None => Ok(false),
-            },
-            _ => Ok(false),
+            _ => {}
         }
-    }
-
-    fn append(&mut self, body: &[u8], out: &mut Answers) -> io::Result<bool> {
-        let (Some(log), Some(body)) = (&mut self.log, body.first_chunk::<BODY_LENGTH>()) else {
-            return Ok(false);
-        };
-        match log.append(body) {
-            Ok(slot) => out.tell(slot)?,
-            Err(error) => refuse(error, out)?,
-        }
-        Ok(true)
-    }
-
-    /// Prints the body with a number.
-    fn read(&mut self, number: u32, out: &mut Answers) -> io::Result<bool> {
         let Some(log) = &mut self.log else {
-            return Ok(false);
+            return Err(unreadable());
         };
-        if number >= log.len() {
-            return Ok(false);
+        match (verb, rest) {
+            ("append", bytes) => append(log, &bytes_in(alloc, bytes, block, BODY_LENGTH)?, out),
+            ("read", [number]) => read(log, count_in(number)?, out),
+            ("bodies", []) => read_all(log, out),
+            ("debug", []) => out.tell(format_args!("{log:?}")),
+            _ => Err(unreadable()),
         }
-        let mut block = Block::new();
-        match log.read(number, &mut block) {
-            Ok(slot) => {
-                write!(out.text, "{number}")?;
-                write_bytes(&mut out.text, slot.body, &[], 16, true)?;
-                writeln!(out.text)?;
-            }
-            Err(error) => refuse(error, out)?,
+    }
+
+    /// Prints each body that the log counts.
+    pub fn bodies(&mut self, out: &mut Answers) -> io::Result<()> {
+        match &mut self.log {
+            Some(log) => read_all(log, out),
+            None => Ok(()),
         }
-        Ok(true)
     }
 
     /// What the disk holds; nothing while a log is open on it.
@@ -180,102 +137,103 @@ impl Hand {
     pub(crate) fn open_log(&mut self) -> Option<&mut Log<MemDisk>> {
         self.log.as_mut()
     }
-
-    /// Prints each body that the log counts.
-    pub fn bodies(&mut self, out: &mut Answers) -> io::Result<bool> {
-        let many = match &self.log {
-            Some(log) => log.len(),
-            None => return Ok(false),
-        };
-        for number in 0..many {
-            self.read(number, out)?;
-        }
-        Ok(true)
-    }
 }
 
 fn refuse(error: LogError, out: &mut Answers) -> io::Result<()> {
     out.refuse("log", error.number(), error.name(), error)
 }
 
-/// Makes a call of a disk. Returns whether the words spell one.
+fn append(log: &mut Log<MemDisk>, body: &[u8], out: &mut Answers) -> io::Result<()> {
+    let Some(body) = body.first_chunk::<BODY_LENGTH>() else {
+        return Err(unreadable());
+    };
+    match log.append(body) {
+        Ok(slot) => out.tell(slot),
+        Err(error) => refuse(error, out),
+    }
+}
+
+/// Prints the body with a number.
+fn read(log: &mut Log<MemDisk>, number: u32, out: &mut Answers) -> io::Result<()> {
+    if number >= log.len() {
+        return Err(unreadable());
+    }
+    let mut block = Block::new();
+    match log.read(number, &mut block) {
+        Ok(slot) => {
+            write!(out.text, "{number}")?;
+            write_bytes(&mut out.text, slot.body, &[], 16, true)?;
+            writeln!(out.text)
+        }
+        Err(error) => refuse(error, out),
+    }
+}
+
+fn read_all(log: &mut Log<MemDisk>, out: &mut Answers) -> io::Result<()> {
+    for number in 0..log.len() {
+        read(log, number, out)?;
+    }
+    Ok(())
+}
+
+/// Makes a call of a disk.
 fn call_disk(
     alloc: Global,
     disk: &mut MemDisk,
     (verb, rest): (&str, &[&str]),
     block: &[&[u8]],
     out: &mut Answers,
-) -> io::Result<bool> {
+) -> io::Result<()> {
     match (verb, rest) {
         ("write", [place, bytes @ ..]) => {
-            match (count_in(place), bytes_in(alloc, bytes, block, 0)?) {
-                (Some(place), Some(bytes)) => write_at(disk, place, &bytes, out),
-                _ => Ok(false),
-            }
+            let bytes = bytes_in(alloc, bytes, block, 0)?;
+            write_at(disk, count_in(place)?, &bytes, out)
         }
-        ("read", [place, many]) => match (count_in(place), size_in(many)) {
-            (Some(place), Some(many)) => read_at(disk, place, many, out),
-            _ => Ok(false),
-        },
-        ("sync", []) => {
-            match disk.sync() {
-                Ok(()) => out.tell("ok")?,
-                Err(error) => out.refuse("disk", error.number(), error.name(), error)?,
-            }
-            Ok(true)
-        }
+        ("read", [place, many]) => read_at(disk, count_in(place)?, size_in(many)?, out),
+        ("sync", []) => tell(disk.sync(), out),
         ("held", []) => {
             write!(out.text, "{}", disk.len())?;
             write_bytes(&mut out.text, disk.bytes(), &[], 16, true)?;
-            writeln!(out.text)?;
-            Ok(true)
+            writeln!(out.text)
         }
-        ("kept", []) => {
-            out.tell(kept_len(disk.bytes()))?;
-            Ok(true)
-        }
-        ("debug", []) => {
-            out.tell(format_args!("{disk:?}"))?;
-            Ok(true)
-        }
-        _ => Ok(false),
+        ("kept", []) => out.tell(kept_len(disk.bytes())),
+        ("debug", []) => out.tell(format_args!("{disk:?}")),
+        _ => Err(unreadable()),
     }
 }
 
-/// Writes bytes to a disk. Returns whether they are short enough, and begin within what it holds.
-pub fn write_at(
-    disk: &mut MemDisk,
-    place: u32,
-    bytes: &[u8],
-    out: &mut Answers,
-) -> io::Result<bool> {
+/// Prints the answer of a call of a disk.
+fn tell(answer: Result<(), DiskError>, out: &mut Answers) -> io::Result<()> {
+    match answer {
+        Ok(()) => out.tell("ok"),
+        Err(error) => out.refuse("disk", error.number(), error.name(), error),
+    }
+}
+
+/// Writes bytes to a disk, if they are short enough and begin within what it holds.
+pub fn write_at(disk: &mut MemDisk, place: u32, bytes: &[u8], out: &mut Answers) -> io::Result<()> {
     if place > disk.len() || bytes.len() > LONGEST_WRITE {
-        return Ok(false);
+        return Err(unreadable());
     }
-    match disk.write_at(place, bytes) {
-        Ok(()) => out.tell("ok")?,
-        Err(error) => out.refuse("disk", error.number(), error.name(), error)?,
-    }
-    Ok(true)
+    tell(disk.write_at(place, bytes), out)
 }
 
 /// The most bytes that one command reads.
 const MOST: usize = 144;
 
-/// Prints what a read gives. Returns whether the bytes are within what the disk holds.
-fn read_at(disk: &mut MemDisk, place: u32, many: usize, out: &mut Answers) -> io::Result<bool> {
+/// Prints what a read gives, if the bytes are within what the disk holds.
+fn read_at(disk: &mut MemDisk, place: u32, many: usize, out: &mut Answers) -> io::Result<()> {
     let mut room = [0; MOST];
     let (length, at) = (disk.len() as usize, place as usize);
     if many > MOST || at > length || many > length - at {
-        return Ok(false);
+        return Err(unreadable());
     }
     match disk.read_at(place, &mut room[..many]) {
         Ok(()) => {
             write!(out.text, "read")?;
             write_bytes(&mut out.text, &room[..many], &[], 16, true)?;
-            writeln!(out.text)?;
+            writeln!(out.text)
         }
-        Err(error) => out.refuse("disk", error.number(), error.name(), error)?,
+        Err(error) => tell(Err(error), out),
     }
-    Ok(true)
 }

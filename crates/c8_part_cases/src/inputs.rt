@@ -1,7 +1,7 @@
 //! Known inputs, and a roll on them.
 use crate::answers::Answers;
 use crate::bytes::write_bytes;
-use crate::words::{bytes_in, count_in, player_in};
+use crate::words::{bytes_in, count_in, keys_in, player_in, unreadable};
 use c8_digest::mark;
 use c8_game::{Game, Keys, Player};
 use c8_known::{Known, KnownError};
@@ -26,106 +26,82 @@ impl<'g> Inputs<'g> {
         }
     }
 
-    /// Does what a command says of known inputs. Returns whether it can be read.
+    /// Does what a command says of known inputs.
     pub(crate) fn known(
         &mut self,
         alloc: Global,
         game: &'g Game,
         words: &[&str],
         out: &mut Answers,
-    ) -> io::Result<bool> {
+    ) -> io::Result<()> {
         if let ["new", me] = words {
-            self.known = match player_in(me) {
-                Some(me) => known_of(alloc, game, me)?,
-                None => None,
-            };
-            return Ok(self.known.is_some());
+            self.known = Some(known_of(alloc, game, player_in(me)?)?);
+            return Ok(());
         }
         let Some(known) = &mut self.known else {
-            return Ok(false);
+            return Err(unreadable());
         };
         match words {
             ["take", player, start, spelled @ ..] => {
                 let bytes = bytes_in(alloc, spelled, &[], 0)?;
-                match (player_in(player), count_in(start), bytes) {
-                    (Some(player), Some(start), Some(bytes)) => {
-                        take(known, player, start, &bytes, out)
-                    }
-                    _ => Ok(false),
-                }
+                take(known, player_in(player)?, count_in(start)?, &bytes, out)
             }
             ["take_data", player, spelled @ ..] => {
-                match (player_in(player), bytes_in(alloc, spelled, &[], 0)?) {
-                    (Some(player), Some(bytes)) => take_data(known, player, &bytes, out),
-                    _ => Ok(false),
-                }
+                let bytes = bytes_in(alloc, spelled, &[], 0)?;
+                take_data(known, player_in(player)?, &bytes, out)
             }
-            ["count", player] => match player_in(player) {
-                Some(player) if player.number <= known.players() => {
-                    out.tell(known.count(player))?;
-                    Ok(true)
+            ["count", player] => {
+                let player = player_in(player)?;
+                if player.number > known.players() {
+                    return Err(unreadable());
                 }
-                _ => Ok(false),
-            },
-            ["debug"] => {
-                out.tell(format_args!("{known:?}"))?;
-                Ok(true)
+                out.tell(known.count(player))
             }
-            _ => Ok(false),
+            ["debug"] => out.tell(format_args!("{known:?}")),
+            _ => Err(unreadable()),
         }
     }
 
-    /// Does what a command says of the roll. Returns whether it can be read.
+    /// Does what a command says of the roll.
     pub(crate) fn roll(
         &mut self,
         alloc: Global,
         game: &'g Game,
         words: &[&str],
         out: &mut Answers,
-    ) -> io::Result<bool> {
+    ) -> io::Result<()> {
         let Some(known) = &mut self.known else {
-            return Ok(false);
+            return Err(unreadable());
         };
         match (words, &mut self.roll) {
             (["open"], _) => {
                 self.roll = Some(Roll::open(alloc, game, known)?);
-                Ok(true)
+                Ok(())
             }
             (["buffers"], _) => {
                 let buffers = Buffers::new(alloc, game)?;
-                out.tell(format_args!("{buffers:?}"))?;
-                Ok(true)
+                out.tell(format_args!("{buffers:?}"))
             }
-            (["tick", keys], Some(roll)) => match Keys::from_hex(keys.as_bytes()) {
-                Some(keys) => tick(known, roll, keys, out),
-                None => Ok(false),
-            },
+            (["tick", keys], Some(roll)) => tick(known, roll, keys_in(keys)?, out),
             (["settle"], Some(roll)) => settle(known, roll, out),
-            (["look"], Some(roll)) => {
-                look(roll, out)?;
-                Ok(true)
-            }
-            (["debug"], Some(roll)) => {
-                out.tell(format_args!("{roll:?}"))?;
-                Ok(true)
-            }
-            _ => Ok(false),
+            (["look"], Some(roll)) => look(roll, out),
+            (["debug"], Some(roll)) => out.tell(format_args!("{roll:?}")),
+            _ => Err(unreadable()),
         }
     }
 }
 
-/// What a player knows at the start. None if the game has no such player.
-fn known_of(alloc: Global, game: &Game, me: Player) -> io::Result<Option<Known>> {
+/// What a player of the game knows at the start.
+fn known_of(alloc: Global, game: &Game, me: Player) -> io::Result<Known> {
     game.in_range();
     if me.number > game.players() {
-        return Ok(None);
+        return Err(unreadable());
     }
-    Ok(Some(Known::new(alloc, game, me)?))
+    Ok(Known::new(alloc, game, me)?)
 }
 
-fn refuse(error: KnownError, out: &mut Answers) -> io::Result<bool> {
-    out.refuse("known", error.number(), error.name(), error)?;
-    Ok(true)
+fn refuse(error: KnownError, out: &mut Answers) -> io::Result<()> {
+    out.refuse("known", error.number(), error.name(), error)
 }
 
 /// Takes inputs that a player sent itself, and prints how many of them were new.
@@ -135,78 +111,70 @@ fn take(
     start: u32,
     bytes: &[u8],
     out: &mut Answers,
-) -> io::Result<bool> {
+) -> io::Result<()> {
     if player.number > known.players() || bytes.len() > 128 || bytes.len() % 2 != 0 {
-        return Ok(false);
+        return Err(unreadable());
     }
     let part = match known.fresh(player, player, start, Run::new(bytes)) {
         Ok(part) => part,
         Err(error) => return refuse(error, out),
     };
     if player.number == known.me().number || known.cut_of(player).is_some() {
-        return Ok(false);
+        return Err(unreadable());
     }
     let new = part.len();
     known.take(player, part);
-    out.tell(format_args!("new {new}"))?;
-    Ok(true)
+    out.tell(format_args!("new {new}"))
 }
 
 /// Takes the inputs of a DATA, and prints the part of them that was lent: how many, how many of its first pair come
 /// before them, and the bytes.
-fn take_data(
-    known: &mut Known,
-    player: Player,
-    bytes: &[u8],
-    out: &mut Answers,
-) -> io::Result<bool> {
+fn take_data(known: &mut Known, player: Player, bytes: &[u8], out: &mut Answers) -> io::Result<()> {
     let Ok(Datagram::Data(data)) = view(bytes) else {
-        return Ok(false);
+        return Err(unreadable());
     };
     if player.number > known.players() {
-        return Ok(false);
+        return Err(unreadable());
     }
     let part = match known.fresh(player, player, data.start(), data.run()) {
         Ok(part) => part,
         Err(error) => return refuse(error, out),
     };
     if player.number == known.me().number || known.cut_of(player).is_some() {
-        return Ok(false);
+        return Err(unreadable());
     }
     write!(out.text, "new {} skip {}", part.len(), part.skip())?;
     write_bytes(&mut out.text, part.bytes(), &[], 128, false)?;
     writeln!(out.text)?;
     known.take(player, part);
-    Ok(true)
+    Ok(())
 }
 
-/// Enters a key set of the own player, advances the roll, and prints how many frames that ran. Returns whether there is
-/// room for it, and the roll has seen the ticks before.
-fn tick(known: &mut Known, roll: &mut Roll<'_>, keys: Keys, out: &mut Answers) -> io::Result<bool> {
+/// Enters a key set of the own player, advances the roll, and prints how many frames that ran, if there is
+/// room for it and the roll has seen the ticks before.
+fn tick(known: &mut Known, roll: &mut Roll<'_>, keys: Keys, out: &mut Answers) -> io::Result<()> {
     let me = known.me();
     if known.count(me) >= known.limit() {
-        return Ok(false);
+        return Err(unreadable());
     }
     known.own(keys);
     if known.ticks() == 0 || known.ticks() - 1 != roll.ticks() {
-        return Ok(false);
+        return Err(unreadable());
     }
     roll.advance(known);
-    out.tell(format_args!("ran {}", roll.last_run()))?;
-    Ok(true)
+    out.tell(format_args!("ran {}", roll.last_run()))
 }
 
-/// Settles a roll with all that is known, and prints the oldest frame whose guess was wrong. Returns whether the roll has
+/// Settles a roll with all that is known, and prints the oldest frame whose guess was wrong, if the roll has
 /// seen the last tick.
-fn settle(known: &Known, roll: &mut Roll<'_>, out: &mut Answers) -> io::Result<bool> {
+fn settle(known: &Known, roll: &mut Roll<'_>, out: &mut Answers) -> io::Result<()> {
     if known.ticks() != roll.ticks() {
-        return Ok(false);
+        return Err(unreadable());
     }
     match roll.settle(known) {
-        Some(oldest) => out.tell(format_args!("oldest {oldest}"))?,
-        None => out.tell("none")?,
+        Some(oldest) => out.tell(format_args!("oldest {oldest}")),
+        None => out.tell("none"),
     }
-    Ok(true)
 }
 
 /// Prints how many frames are confirmed, how many the last call ran, and how many ticks there are; then of the shown

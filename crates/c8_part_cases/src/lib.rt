@@ -22,4 +22,7 @@ pub use bytes::{write_bytes, write_datagram, write_slot};
 pub use desk::Desk;
 pub use disks::write_at;
 pub use script::{Command, Script, Section};
-pub use words::{arm_in, bytes_in, count_in, number_in, player_in, size_in, words_in};
+pub use words::{
+    arm_in, bytes_in, count_in, keys_in, needed, number_in, player_in, size_in, unreadable,
+    words_in,
+};

@@ -1,57 +1,49 @@
 //! Games and machines.
 use crate::answers::Answers;
 use crate::bytes::write_bytes;
-use crate::words::number_in;
+use crate::words::{keys_in, number_in, unreadable};
 use c8_digest::{STATE_LENGTH, mark, read_state, state_bytes};
-use c8_game::{Game, Keys};
+use c8_game::Game;
 use c8_machine::Machine;
 use std::io;
 use std::io::Write;
 
-/// Prints the version of datagrams that a game names, its id, or its session in a room. Returns whether the words ask
-/// for one of these.
-pub(crate) fn show_game(game: &Game, words: &[&str], out: &mut Answers) -> io::Result<bool> {
+/// Prints the version of datagrams that a game names, its id, or its session in a room.
+pub(crate) fn show_game(game: &Game, words: &[&str], out: &mut Answers) -> io::Result<()> {
     match words {
-        ["wire"] => out.tell(game.wire().number())?,
+        ["wire"] => out.tell(game.wire().number()),
         ["id"] => {
-            out.text.extend_from_slice(b"id")?;
+            write!(out.text, "id")?;
             write_bytes(&mut out.text, &game.id(), &[], 32, false)?;
-            writeln!(out.text)?;
+            writeln!(out.text)
         }
-        ["session", room] => match number_in(room) {
-            Some(room) => out.tell(format_args!("session {:016x}", game.session(room)))?,
-            None => return Ok(false),
-        },
-        _ => return Ok(false),
+        ["session", room] => {
+            let session = game.session(number_in(room)?);
+            out.tell(format_args!("session {session:016x}"))
+        }
+        _ => Err(unreadable()),
     }
-    Ok(true)
 }
 
-/// Makes a call of a machine, and prints what it returns and what changed. Returns whether the words spell one.
+/// Makes a call of a machine, and prints what it returns and what changed.
 pub(crate) fn call_machine(
     game: &Game,
     machine: &mut Machine,
     words: &[&str],
     out: &mut Answers,
-) -> io::Result<bool> {
+) -> io::Result<()> {
     let before = *machine;
     match words {
-        ["step", keys] => match Keys::from_hex(keys.as_bytes()) {
-            Some(keys) => {
-                let step = machine.step(game, keys);
-                write!(out.text, "{step:?}")?;
-            }
-            None => return Ok(false),
-        },
-        ["frame", keys] => match Keys::from_hex(keys.as_bytes()) {
-            Some(keys) => {
-                machine.frame(game, keys);
-                write!(out.text, "frame")?;
-            }
-            None => return Ok(false),
-        },
+        ["step", keys] => {
+            let step = machine.step(game, keys_in(keys)?);
+            write!(out.text, "{step:?}")?;
+        }
+        ["frame", keys] => {
+            machine.frame(game, keys_in(keys)?);
+            write!(out.text, "frame")?;
+        }
         ["mark"] => {
-            out.text.extend_from_slice(b"mark")?;
+            write!(out.text, "mark")?;
             write_bytes(&mut out.text, &mark(machine), &[], 8, false)?;
         }
         ["read_state"] => {
@@ -62,10 +54,9 @@ pub(crate) fn call_machine(
             };
             write!(out.text, "{answer}")?;
         }
-        _ => return Ok(false),
+        _ => return Err(unreadable()),
     }
-    write_changes(&before, machine, &mut out.text)?;
-    Ok(true)
+    write_changes(&before, machine, &mut out.text)
 }
 
 /// Whether the state bytes of a machine are read as the same machine.
@@ -78,47 +69,55 @@ fn is_read_again(machine: &Machine) -> bool {
 /// Prints what changed of a state, and ends the line.
 fn write_changes(before: &Machine, after: &Machine, text: &mut Vec<u8>) -> io::Result<()> {
     write_cells("V", before.registers(), after.registers(), text)?;
-    write_change(
+    write_number(
         "I",
         u64::from(before.address()),
         u64::from(after.address()),
         text,
     )?;
-    write_change(
+    write_number(
         "counter",
         u64::from(before.counter()),
         u64::from(after.counter()),
         text,
     )?;
-    write_change(
+    write_number(
         "timer",
         u64::from(before.timer()),
         u64::from(after.timer()),
         text,
     )?;
-    write_change(
+    write_number(
         "tone",
         u64::from(before.tone()),
         u64::from(after.tone()),
         text,
     )?;
-    write_change(
+    write_number(
         "keys",
         u64::from(before.keys().0),
         u64::from(after.keys().0),
         text,
     )?;
-    write_change("draws", before.draws(), after.draws(), text)?;
-    if before.waits() != after.waits() {
-        match after.waits() {
-            Some(register) => write!(text, " waits {register:x}")?,
-            None => write!(text, " goes on")?,
-        }
-    }
+    write_number("draws", before.draws(), after.draws(), text)?;
     if before.stack() != after.stack() {
         write!(text, " stack")?;
         for place in after.stack() {
             write!(text, " {place:03x}")?;
+        }
+    }
+    write_halts(before, after, text)?;
+    write_cells("memory", before.memory(), after.memory(), text)?;
+    write_rows(before, after, text)?;
+    writeln!(text)
+}
+
+/// Prints whether the machine now waits for a key, goes on, or has stopped.
+fn write_halts(before: &Machine, after: &Machine, text: &mut Vec<u8>) -> io::Result<()> {
+    if before.waits() != after.waits() {
+        match after.waits() {
+            Some(register) => write!(text, " waits {register:x}")?,
+            None => write!(text, " goes on")?,
         }
     }
     if before.stopped() != after.stopped()
@@ -126,13 +125,11 @@ fn write_changes(before: &Machine, after: &Machine, text: &mut Vec<u8>) -> io::R
     {
         write!(text, " stopped {}", stop.number())?;
     }
-    write_cells("memory", before.memory(), after.memory(), text)?;
-    write_rows(before, after, text)?;
-    writeln!(text)
+    Ok(())
 }
 
 /// Prints a number in hexadecimal if it changed.
-fn write_change(name: &str, before: u64, after: u64, text: &mut Vec<u8>) -> io::Result<()> {
+fn write_number(name: &str, before: u64, after: u64, text: &mut Vec<u8>) -> io::Result<()> {
     if before != after {
         write!(text, " {name} {after:x}")?;
     }

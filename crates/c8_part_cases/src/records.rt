@@ -2,10 +2,10 @@
 use crate::answers::Answers;
 use crate::bytes::write_record;
 use crate::disks::Hand;
-use crate::words::{bytes_in, count_in, number_in, player_in, words_in};
+use crate::words::{bytes_in, count_in, keys_in, number_in, player_in, unreadable, words_in};
 use c8_check::Checks;
 use c8_disk::MemDisk;
-use c8_game::{Game, Keys, Player};
+use c8_game::{Game, Player};
 use c8_known::Known;
 use c8_log::{BODY_LENGTH, Log, OPEN_GATE};
 use c8_record::{Record, ReplayError, body_of, replay, replay_bytes};
@@ -16,8 +16,7 @@ use std::io::Write;
 /// The match id, unless a command names another.
 const ROOM: u64 = 0x0102030405060708;
 
-/// Replays a journal of a player: the records of a block, the bytes of the disk in hand, or the log in hand. Returns
-/// whether the command can be read.
+/// Replays a journal of a player: the records of a block, the bytes of the disk in hand, or the log in hand.
 pub(crate) fn replay_in(
     alloc: Global,
     game: &Game,
@@ -25,84 +24,75 @@ pub(crate) fn replay_in(
     block: &[&[u8]],
     hand: &mut Hand,
     out: &mut Answers,
-) -> io::Result<bool> {
-    let (me, room) = match words {
-        [me, "room", room] => (player_in(me), number_in(room)),
-        [me, ..] => (player_in(me), Some(ROOM)),
-        [] => (None, None),
-    };
-    let (Some(me), Some(room)) = (me, room) else {
-        return Ok(false);
-    };
+) -> io::Result<()> {
     match words {
-        [_, "log"] => match hand.open_log() {
-            Some(log) => replay_log(alloc, game, me, room, log, out),
-            None => Ok(false),
+        [me] => replay_image(
+            alloc,
+            game,
+            (player_in(me)?, ROOM),
+            &image_of(alloc, block)?,
+            out,
+        ),
+        [me, "room", room] => {
+            let image = image_of(alloc, block)?;
+            replay_image(alloc, game, (player_in(me)?, number_in(room)?), &image, out)
+        }
+        [me, "disk"] => replay_image(alloc, game, (player_in(me)?, ROOM), hand.image(), out),
+        [me, "log"] => match hand.open_log() {
+            Some(log) => replay_log(alloc, game, player_in(me)?, log, out),
+            None => Err(unreadable()),
         },
-        [_, "disk"] => replay_image(alloc, game, me, room, hand.image(), out),
-        [_] | [_, "room", _] => match image_of(alloc, block)? {
-            Some(image) => replay_image(alloc, game, me, room, &image, out),
-            None => Ok(false),
-        },
-        _ => Ok(false),
+        _ => Err(unreadable()),
     }
 }
 
-/// The bytes of a disk with an open slot for each record of a block. None if a line spells none.
-fn image_of(alloc: Global, block: &[&[u8]]) -> io::Result<Option<Vec<u8>>> {
+/// The bytes of a disk with an open slot for each record of a block.
+fn image_of(alloc: Global, block: &[&[u8]]) -> io::Result<Vec<u8>> {
     let mut image = Vec::new(alloc);
     for line in block {
         let words = words_in(alloc, line.trim_ascii())?;
+        let body = bytes_in(alloc, &words, &[], 0)?;
         image.push(OPEN_GATE)?;
-        match bytes_in(alloc, &words, &[], 0)? {
-            Some(body) if body.len() <= BODY_LENGTH => {
-                image.extend_from_slice(&body)?;
-                for _ in body.len()..BODY_LENGTH {
-                    image.push(0)?;
-                }
-            }
-            _ => return Ok(None),
+        image.extend_from_slice(&body)?;
+        for _ in body.len()..BODY_LENGTH {
+            image.push(0)?;
         }
     }
-    Ok(Some(image))
+    Ok(image)
 }
 
-/// Prints the answer of a replay of the bytes of a disk. Returns whether the game has the player.
+/// Prints the answer of a replay of the bytes of a disk, if the game has the player.
 fn replay_image(
     alloc: Global,
     game: &Game,
-    me: Player,
-    room: u64,
+    (me, room): (Player, u64),
     image: &[u8],
     out: &mut Answers,
-) -> io::Result<bool> {
+) -> io::Result<()> {
     game.in_range();
     if me.number > game.players() {
-        return Ok(false);
+        return Err(unreadable());
     }
     let mut known = Known::new(alloc, game, me)?;
     let answer = replay_bytes(image, game, room, &mut known, &mut Checks::new());
-    tell(answer, &known, out)?;
-    Ok(true)
+    tell(answer, &known, out)
 }
 
-/// Prints the answer of a replay of a log. Returns whether the log is up, and the game has the player.
+/// Prints the answer of a replay of a log, if it is up and the game has the player.
 fn replay_log(
     alloc: Global,
     game: &Game,
     me: Player,
-    room: u64,
     log: &mut Log<MemDisk>,
     out: &mut Answers,
-) -> io::Result<bool> {
+) -> io::Result<()> {
     game.in_range();
     if me.number > game.players() || log.is_down() {
-        return Ok(false);
+        return Err(unreadable());
     }
     let mut known = Known::new(alloc, game, me)?;
-    let answer = replay(log, game, room, &mut known, &mut Checks::new());
-    tell(answer, &known, out)?;
-    Ok(true)
+    let answer = replay(log, game, ROOM, &mut known, &mut Checks::new());
+    tell(answer, &known, out)
 }
 
 /// Prints the answer of a replay; and what is then known: the ticks, the confirmed frames, and the last of their rows.
@@ -120,22 +110,16 @@ fn tell(answer: Result<u32, ReplayError>, known: &Known, out: &mut Answers) -> i
     writeln!(out.text)
 }
 
-/// Prints the body of a record: of an own input. Returns whether the command can be read.
-pub(crate) fn body_in(words: &[&str], out: &mut Answers) -> io::Result<bool> {
+/// Prints the body of a record: `own P START KEYS` is an own input.
+pub(crate) fn body_in(words: &[&str], out: &mut Answers) -> io::Result<()> {
     let ["own", player, start, keys] = words else {
-        return Ok(false);
-    };
-    let (player, start) = (player_in(player), count_in(start));
-    let (Some(player), Some(start), Some(keys)) = (player, start, Keys::from_hex(keys.as_bytes()))
-    else {
-        return Ok(false);
+        return Err(unreadable());
     };
     let own = Record::Own {
-        player,
-        start,
-        keys,
+        player: player_in(player)?,
+        start: count_in(start)?,
+        keys: keys_in(keys)?,
     };
-    out.text.extend_from_slice(b"body")?;
-    write_record(&mut out.text, &body_of(&own))?;
-    Ok(true)
+    write!(out.text, "body")?;
+    write_record(&mut out.text, &body_of(&own))
 }

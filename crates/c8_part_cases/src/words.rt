@@ -1,6 +1,6 @@
 //! How numbers, players and bytes are spelled.
 use c8_disk::Arm;
-use c8_game::Player;
+use c8_game::{Keys, Player};
 use hex::FromHexError;
 use std::alloc::Global;
 use std::io;
@@ -14,33 +14,50 @@ pub fn words_in(alloc: Global, line: &[u8]) -> io::Result<Vec<&str>> {
     }
 }
 
-/// The player of a number from 1 to 4.
-pub fn player_in(word: &str) -> Option<Player> {
-    match word.parse::<u8>() {
-        Ok(number) => Player::new(number),
-        Err(_) => None,
+/// The error of a command that cannot be read.
+pub fn unreadable() -> io::Error {
+    ErrorKind::InvalidInput.into()
+}
+
+/// What a command cannot do without. The error is that it cannot be read.
+pub fn needed<T>(found: Option<T>) -> io::Result<T> {
+    match found {
+        Some(found) => Ok(found),
+        None => Err(unreadable()),
     }
 }
 
-pub fn number_in(word: &str) -> Option<u64> {
-    word.parse::<u64>().ok()
+/// The player of a number from 1 to 4.
+pub fn player_in(word: &str) -> io::Result<Player> {
+    match word.parse::<u8>() {
+        Ok(number) => needed(Player::new(number)),
+        Err(_) => Err(unreadable()),
+    }
 }
 
-pub fn count_in(word: &str) -> Option<u32> {
-    word.parse::<u32>().ok()
+pub fn number_in(word: &str) -> io::Result<u64> {
+    needed(word.parse::<u64>().ok())
 }
 
-pub fn size_in(word: &str) -> Option<usize> {
-    word.parse::<usize>().ok()
+pub fn count_in(word: &str) -> io::Result<u32> {
+    needed(word.parse::<u32>().ok())
+}
+
+pub fn size_in(word: &str) -> io::Result<usize> {
+    needed(word.parse::<usize>().ok())
+}
+
+pub fn keys_in(word: &str) -> io::Result<Keys> {
+    needed(Keys::from_hex(word.as_bytes()))
 }
 
 /// Which calls of a disk fail: `off`, `stop N` or `once N`.
-pub fn arm_in(words: &[&str]) -> Option<Arm> {
+pub fn arm_in(words: &[&str]) -> io::Result<Arm> {
     match words {
-        ["off"] => Some(Arm::Off),
-        ["stop", calls] => number_in(calls).map(Arm::Stop),
-        ["once", calls] => number_in(calls).map(Arm::Once),
-        _ => None,
+        ["off"] => Ok(Arm::Off),
+        ["stop", calls] => Ok(Arm::Stop(number_in(calls)?)),
+        ["once", calls] => Ok(Arm::Once(number_in(calls)?)),
+        _ => Err(unreadable()),
     }
 }
 
@@ -51,64 +68,46 @@ pub fn bytes_in(
     words: &[&str],
     block: &[&[u8]],
     whole: usize,
-) -> io::Result<Option<Vec<u8>>> {
+) -> io::Result<Vec<u8>> {
     let mut bytes = Vec::new(alloc);
-    if !add_words(&mut bytes, words, whole)? {
-        return Ok(None);
-    }
+    add_words(&mut bytes, words, whole)?;
     for line in block {
         let words = words_in(alloc, line.trim_ascii())?;
-        if !add_words(&mut bytes, &words, whole)? {
-            return Ok(None);
-        }
+        add_words(&mut bytes, &words, whole)?;
     }
-    Ok(Some(bytes))
+    Ok(bytes)
 }
 
-fn add_words(bytes: &mut Vec<u8>, words: &[&str], whole: usize) -> io::Result<bool> {
+fn add_words(bytes: &mut Vec<u8>, words: &[&str], whole: usize) -> io::Result<()> {
     for word in words {
-        if !add_word(bytes, word, whole)? {
-            return Ok(false);
-        }
+        add_word(bytes, word, whole)?;
     }
-    Ok(true)
+    Ok(())
 }
 
-/// Adds the bytes of a word. Returns whether it spells some.
-fn add_word(bytes: &mut Vec<u8>, word: &str, whole: usize) -> io::Result<bool> {
+fn add_word(bytes: &mut Vec<u8>, word: &str, whole: usize) -> io::Result<()> {
     if word == ".." {
-        for _ in bytes.len()..whole {
-            bytes.push(0)?;
-        }
-        return Ok(true);
+        return add_many(bytes, 0, whole.saturating_sub(bytes.len()));
     }
     if let Some(rest) = word.strip_prefix('"') {
-        let letters = rest.strip_suffix('"');
-        bytes.extend_from_slice(letters.unwrap_or("").as_bytes())?;
-        return Ok(letters.is_some());
+        let letters = needed(rest.strip_suffix('"'))?;
+        return Ok(bytes.extend_from_slice(letters.as_bytes())?);
     }
     if let Some((byte, many)) = word.split_once('*') {
-        return add_many(bytes, byte, many);
+        let byte = needed(u8::from_str_radix(byte, 16).ok())?;
+        return add_many(bytes, byte, size_in(many)?);
     }
     match hex::decode(*bytes.allocator(), word) {
-        Ok(spelled) => {
-            bytes.extend_from_slice(&spelled)?;
-            Ok(true)
-        }
+        Ok(spelled) => Ok(bytes.extend_from_slice(&spelled)?),
         Err(FromHexError::OutOfMemory) => Err(ErrorKind::OutOfMemory.into()),
-        Err(_) => Ok(false),
+        Err(_) => Err(unreadable()),
     }
 }
 
-/// Adds a byte many times, at most 5000. Returns whether the words spell both.
-fn add_many(bytes: &mut Vec<u8>, byte: &str, many: &str) -> io::Result<bool> {
-    match (u8::from_str_radix(byte, 16), many.parse::<u16>()) {
-        (Ok(byte), Ok(many)) => {
-            for _ in 0..many.min(5000) {
-                bytes.push(byte)?;
-            }
-            Ok(true)
-        }
-        _ => Ok(false),
+/// Adds a byte many times, at most 5000.
+fn add_many(bytes: &mut Vec<u8>, byte: u8, many: usize) -> io::Result<()> {
+    for _ in 0..many.min(5000) {
+        bytes.push(byte)?;
     }
+    Ok(())
 }
