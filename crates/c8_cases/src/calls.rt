@@ -15,6 +15,10 @@ pub(crate) struct Letter {
 }
 
 impl Letter {
+    pub(crate) fn new(bytes: [u8; LONGEST_DATAGRAM], size: usize) -> Letter {
+        Letter { bytes, size }
+    }
+
     pub(crate) fn bytes(&self) -> &[u8] {
         match self.bytes.get(..self.size) {
             Some(bytes) => bytes,
@@ -100,7 +104,7 @@ pub(crate) fn say(
 ) -> io::Result<Option<Letter>> {
     let mut bytes = [0; LONGEST_DATAGRAM];
     match peer.say(to, kind, &mut bytes) {
-        Ok(size) => Ok(Some(Letter { bytes, size })),
+        Ok(size) => Ok(Some(Letter::new(bytes, size))),
         Err(error) => {
             out.refuse("say", error.number(), error.name(), error)?;
             Ok(None)

@@ -14,5 +14,6 @@ mod perform;
 mod run;
 mod slots;
 mod stage;
+mod watchers;
 
 pub use run::{Ran, run};

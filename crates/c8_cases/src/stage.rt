@@ -3,6 +3,7 @@ use crate::calls::{Letter, call, deliver, kind_in, say, show};
 use crate::look::look;
 use crate::node::{CALLS, CAPACITY, Node};
 use crate::slots::{add_slot, journal, place_in};
+use crate::watchers::{Watchers, say_show, watcher_in};
 use c8_disk::{Arm, MemDisk};
 use c8_game::{Game, Player};
 use c8_log::SLOT_LENGTH;
@@ -29,6 +30,7 @@ pub(crate) struct Stage<'g> {
     nodes: Vec<Node<'g>>,
     letters: Vec<Letter>,
     desk: Desk<'g>,
+    watchers: Watchers<'g>,
 }
 
 impl<'g> Stage<'g> {
@@ -49,6 +51,7 @@ impl<'g> Stage<'g> {
             nodes,
             letters: Vec::new(alloc),
             desk: Desk::new(alloc, game),
+            watchers: Watchers::empty(),
         })
     }
 
@@ -66,6 +69,16 @@ impl<'g> Stage<'g> {
             ["disk", at @ ("1" | "2" | "3" | "4"), capacity, calls] => {
                 self.put(player_in(at)?, count_in(capacity)?, count_in(calls)?)
             }
+            ["watch" | "show" | "seen", ..] => self.watch(words, out),
+            ["deliver", seat @ ("5" | "6"), "said", number, change @ ..] => {
+                let letter = self.said(size_in(number)?, change)?;
+                self.watchers.hear(watcher_in(seat)?, letter.bytes(), out)
+            }
+            [
+                verb @ ("look" | "begin_again"),
+                seat @ ("5" | "6"),
+                rest @ ..,
+            ] => { self.watchers.call(verb, watcher_in(seat)?, rest, out) }
             [verb @ ("open" | "carry" | "say" | "deliver"), at, rest @ ..] => {
                 self.perform_at(verb, player_in(at)?, rest, block, out)
             }
@@ -74,6 +87,40 @@ impl<'g> Stage<'g> {
             }
             _ => self.desk.perform(words, block, out),
         }
+    }
+
+    /// Opens a watcher, or keeps what player 1 shows it or what it acknowledges.
+    fn watch(&mut self, words: &[&str], out: &mut Answers) -> io::Result<()> {
+        let letter = match words {
+            ["watch", seat] => {
+                let (alloc, game) = (self.alloc, needed(self.game)?);
+                return self.watchers.open(alloc, game, ROOM, watcher_in(seat)?);
+            }
+            ["show", at, seat] => {
+                let seat = watcher_in(seat)?;
+                match self.node(player_in(at)?) {
+                    Some(
+                        Node {
+                            peer: Some(peer),
+                            ..
+                        },
+                    ) => say_show(peer, seat, out)?,
+                    _ => return out.tell("no peer"),
+                }
+            }
+            ["seen", seat] => self.watchers.seen(watcher_in(seat)?, out)?,
+            _ => return Err(unreadable()),
+        };
+        self.keep(letter, out)
+    }
+
+    /// Keeps a datagram and prints it, if there is one.
+    fn keep(&mut self, letter: Option<Letter>, out: &mut Answers) -> io::Result<()> {
+        if let Some(letter) = letter {
+            self.letters.push(letter)?;
+            show(&letter, self.letters.len(), out)?;
+        }
+        Ok(())
     }
 
     /// Sets which calls fail: of a player's disk, or of the one on the desk.
@@ -129,7 +176,8 @@ impl<'g> Stage<'g> {
             ("carry", [to, kind @ ..]) => self.carry(at, player_in(to)?, kind_in(kind)?, out),
             ("say", [to, kind @ ..]) => self.say(at, player_in(to)?, kind_in(kind)?, out),
             ("deliver", ["said", number, change @ ..]) => {
-                self.deliver_said(at, size_in(number)?, change, out)
+                let letter = self.said(size_in(number)?, change)?;
+                self.give(at, letter.bytes(), out)
             }
             ("deliver", bytes) => {
                 let bytes = bytes_in(self.alloc, bytes, block, 0)?;
@@ -268,11 +316,8 @@ impl<'g> Stage<'g> {
     }
 
     fn say(&mut self, from: Player, to: Player, kind: Kind, out: &mut Answers) -> io::Result<()> {
-        if let Some(letter) = self.letter(from, to, kind, out)? {
-            self.letters.push(letter)?;
-            show(&letter, self.letters.len(), out)?;
-        }
-        Ok(())
+        let letter = self.letter(from, to, kind, out)?;
+        self.keep(letter, out)
     }
 
     /// Delivers what a player says to another at once.
@@ -283,22 +328,16 @@ impl<'g> Stage<'g> {
         }
     }
 
-    /// Delivers the datagram with a number, as it was said or with other bytes at a place.
-    fn deliver_said(
-        &mut self,
-        to: Player,
-        number: usize,
-        change: &[&str],
-        out: &mut Answers,
-    ) -> io::Result<()> {
+    /// The datagram with a number, as it was said or with other bytes at a place.
+    fn said(&self, number: usize, change: &[&str]) -> io::Result<Letter> {
         let Some(letter) = self.letters.get(number.wrapping_sub(1)).copied() else {
             return Err(unreadable());
         };
         match change {
-            [] => self.give(to, letter.bytes(), out),
+            [] => Ok(letter),
             ["with", place, bytes @ ..] => {
                 let bytes = bytes_in(self.alloc, bytes, &[], 0)?;
-                self.give(to, letter.with(size_in(place)?, &bytes).bytes(), out)
+                Ok(letter.with(size_in(place)?, &bytes))
             }
             _ => Err(unreadable()),
         }

@@ -71,6 +71,7 @@ impl<'g> Desk<'g> {
             ["wire" | "id" | "session", ..] => show_game(game, words, out),
             ["replay", rest @ ..] => replay_in(alloc, game, rest, block, &mut self.hand, out),
             ["known", rest @ ..] => self.inputs.known(alloc, game, rest, out),
+            ["window", rest @ ..] => self.inputs.window(game, rest, out),
             ["roll", rest @ ..] => self.inputs.roll(alloc, game, rest, out),
             ["machine", "start"] => {
                 self.machine = Some(Machine::start(game));

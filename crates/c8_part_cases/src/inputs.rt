@@ -6,6 +6,7 @@ use c8_digest::mark;
 use c8_game::{Game, Keys, Player};
 use c8_known::{Known, KnownError};
 use c8_roll::{Buffers, Roll};
+use c8_window::Window;
 use c8_wire::{Datagram, Run, view};
 use std::alloc::Global;
 use std::io;
@@ -16,6 +17,7 @@ use std::io::Write;
 pub struct Inputs<'g> {
     known: Option<Known>,
     roll: Option<Roll<'g>>,
+    window: Option<Window>,
 }
 
 impl<'g> Inputs<'g> {
@@ -23,6 +25,7 @@ impl<'g> Inputs<'g> {
         Inputs {
             known: None,
             roll: None,
+            window: None,
         }
     }
 
@@ -58,6 +61,36 @@ impl<'g> Inputs<'g> {
                 out.tell(known.count(player))
             }
             ["debug"] => out.tell(format_args!("{known:?}")),
+            _ => Err(unreadable()),
+        }
+    }
+
+    /// Does what a command says of the window: what others have acknowledged of the own inputs.
+    pub(crate) fn window(
+        &mut self,
+        game: &'g Game,
+        words: &[&str],
+        out: &mut Answers,
+    ) -> io::Result<()> {
+        match (words, &mut self.window, &self.known) {
+            (["new"], place, _) => {
+                *place = Some(Window::new(game));
+                Ok(())
+            }
+            (["ack", player, count], Some(window), Some(known)) => {
+                match window.ack(player_in(player)?, count_in(count)?, known) {
+                    Ok(()) => out.tell("ok"),
+                    Err(error) => out.refuse("window", 1, "BadAck", error),
+                }
+            }
+            (["acked", player], Some(window), _) => out.tell(window.acked(player_in(player)?)),
+            (["pending", player], Some(window), Some(known)) => {
+                write!(out.text, "pending")?;
+                for keys in window.pending(player_in(player)?, known) {
+                    write!(out.text, " {keys:04x}")?;
+                }
+                writeln!(out.text)
+            }
             _ => Err(unreadable()),
         }
     }
