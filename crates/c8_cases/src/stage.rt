@@ -11,7 +11,7 @@ use c8_part_cases::{
     Answers, Desk, arm_in, bytes_in, count_in, needed, number_in, player_in, size_in, unreadable,
     write_at,
 };
-use c8_peer::Kind;
+use c8_peer::{Kind, Peer};
 use std::alloc::{AllocError, Global};
 use std::io;
 
@@ -98,14 +98,9 @@ impl<'g> Stage<'g> {
             }
             ["show", at, seat] => {
                 let seat = watcher_in(seat)?;
-                match self.node(player_in(at)?) {
-                    Some(
-                        Node {
-                            peer: Some(peer),
-                            ..
-                        },
-                    ) => say_show(peer, seat, out)?,
-                    _ => return out.tell("no peer"),
+                match self.peer(player_in(at)?) {
+                    Some(peer) => say_show(peer, seat, out)?,
+                    None => return out.tell("no peer"),
                 }
             }
             ["seen", seat] => self.watchers.seen(watcher_in(seat)?, out)?,
@@ -147,13 +142,7 @@ impl<'g> Stage<'g> {
             return Ok(());
         };
         self.open(at, self.game, ROOM, out)?;
-        if let Some(
-            Node {
-                peer: Some(peer),
-                ..
-            },
-        ) = self.node(at)
-        {
+        if let Some(peer) = self.peer(at) {
             out.text.clear();
             look(peer, &FOUND, out)?;
         }
@@ -238,7 +227,15 @@ impl<'g> Stage<'g> {
         }
     }
 
-    pub(crate) fn node(&mut self, at: Player) -> Option<&mut Node<'g>> {
+    /// The open peer of a player.
+    fn peer(&mut self, at: Player) -> Option<&mut Peer<'g, MemDisk>> {
+        match self.nodes.get_mut(at.place()) {
+            Some(node) => node.peer.as_mut(),
+            None => None,
+        }
+    }
+
+    fn node(&mut self, at: Player) -> Option<&mut Node<'g>> {
         self.nodes.get_mut(at.place())
     }
 
@@ -301,14 +298,9 @@ impl<'g> Stage<'g> {
         kind: Kind,
         out: &mut Answers,
     ) -> io::Result<Option<Letter>> {
-        match self.node(from) {
-            Some(
-                Node {
-                    peer: Some(peer),
-                    ..
-                },
-            ) => say(peer, to, kind, out),
-            _ => {
+        match self.peer(from) {
+            Some(peer) => say(peer, to, kind, out),
+            None => {
                 out.tell("no peer")?;
                 Ok(None)
             }
@@ -344,14 +336,9 @@ impl<'g> Stage<'g> {
     }
 
     fn give(&mut self, to: Player, bytes: &[u8], out: &mut Answers) -> io::Result<()> {
-        match self.node(to) {
-            Some(
-                Node {
-                    peer: Some(peer),
-                    ..
-                },
-            ) => deliver(peer, bytes, out),
-            _ => out.tell("no peer"),
+        match self.peer(to) {
+            Some(peer) => deliver(peer, bytes, out),
+            None => out.tell("no peer"),
         }
     }
 }
