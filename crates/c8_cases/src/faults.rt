@@ -12,8 +12,8 @@ const MOST_CALLS: u64 = 20;
 
 /// A command of a player, after the commands of a case up to a place and `turn` times the same.
 #[derive(Clone, Copy)]
-pub(crate) struct Trial<'a, 'g, 't> {
-    pub(crate) case: Case<'g, 't>,
+pub(crate) struct Trial<'a, 'g, 's, 't> {
+    pub(crate) case: Case<'g, 's, 't>,
     pub(crate) place: usize,
     pub(crate) turn: usize,
     pub(crate) words: &'a [&'a str],
@@ -22,7 +22,7 @@ pub(crate) struct Trial<'a, 'g, 't> {
     pub(crate) picks: u64,
 }
 
-impl<'a, 'g, 't> Trial<'a, 'g, 't> {
+impl<'a, 'g, 's, 't> Trial<'a, 'g, 's, 't> {
     /// The stage before the command.
     fn stage(self) -> io::Result<Stage<'g>> {
         let mut stage = self.case.replayed(self.place)?;
@@ -81,7 +81,7 @@ impl<'a, 'g, 't> Trial<'a, 'g, 't> {
 }
 
 /// Prints what each failure inside a command leaves, and the letters of the different outcomes.
-pub(crate) fn write_outcomes(trial: Trial<'_, '_, '_>, out: &mut Answers) -> io::Result<()> {
+pub(crate) fn write_outcomes(trial: Trial<'_, '_, '_, '_>, out: &mut Answers) -> io::Result<()> {
     let answer = trial.answer()?;
     let alloc = trial.case.alloc;
     let mut seen: Vec<Vec<u8>> = Vec::new(alloc);
@@ -111,7 +111,7 @@ pub(crate) fn write_outcomes(trial: Trial<'_, '_, '_>, out: &mut Answers) -> io:
 fn letter_of(seen: &mut Vec<Vec<u8>>, outcome: Vec<u8>, text: &mut Vec<u8>) -> io::Result<u8> {
     let known = seen.iter().position(|one| *one == outcome);
     let place = known.unwrap_or(seen.len());
-    let letter = b'A'.saturating_add(place.min(25) as u8);
+    let letter = b'A' + (place % 26) as u8;
     if known.is_none() {
         write!(text, "{}: ", char::from(letter))?;
         text.extend_from_slice(&outcome)?;

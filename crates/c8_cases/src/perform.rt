@@ -9,15 +9,15 @@ use std::io::ErrorKind;
 
 /// The commands of a file from a place on, and the games that they name.
 #[derive(Clone, Copy)]
-pub(crate) struct Case<'g, 't> {
+pub(crate) struct Case<'g, 's, 't> {
     pub(crate) alloc: Global,
-    pub(crate) script: &'g Script<'t>,
+    pub(crate) script: &'s Script<'t>,
     pub(crate) first: usize,
     pub(crate) game: Option<&'g Game>,
     pub(crate) other: Option<&'g Game>,
 }
 
-impl<'g, 't> Case<'g, 't> {
+impl<'g, 's, 't> Case<'g, 's, 't> {
     /// Does what the command at a place says, and adds what it prints. Returns whether it can be read.
     pub(crate) fn perform(
         self,

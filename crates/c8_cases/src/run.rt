@@ -98,7 +98,7 @@ fn run_case(
     for place in begin..end {
         if let Some(section) = script.sections.get(place).copied() {
             copy(script, copied, section.rule.saturating_add(1), ran)?;
-            run_section(name, case, section, (&mut stage, &mut out), ran)?;
+            run_section(name, case, section, &mut stage, &mut out, ran)?;
             copied = section.end;
         }
     }
@@ -108,9 +108,10 @@ fn run_case(
 /// Runs the commands of a section, and compares what they print.
 fn run_section<'g>(
     name: &str,
-    case: Case<'g, '_>,
+    case: Case<'g, '_, '_>,
     section: Section,
-    (stage, out): (&mut Stage<'g>, &mut Answers),
+    stage: &mut Stage<'g>,
+    out: &mut Answers,
     ran: &mut Ran,
 ) -> io::Result<()> {
     let script = case.script;

@@ -120,16 +120,24 @@ impl<'g> Stage<'g> {
 
     /// Sets which calls fail: of a player's disk, or of the one on the desk.
     pub(crate) fn arm(&mut self, at: Option<Player>, arm: Arm) {
-        match at.and_then(|at| self.node(at)) {
-            Some(node) => node.arm(arm),
+        match at {
+            Some(at) => {
+                if let Some(node) = self.node(at) {
+                    node.arm(arm);
+                }
+            }
             None => self.desk.hand().arm(arm),
         }
     }
 
     /// Crashes: a player's disk, or the one on the desk.
     pub(crate) fn crash(&mut self, at: Option<Player>, pick: u64) {
-        match at.and_then(|at| self.node(at)) {
-            Some(node) => node.crash(pick),
+        match at {
+            Some(at) => {
+                if let Some(node) = self.node(at) {
+                    node.crash(pick);
+                }
+            }
             None => self.desk.hand().crash(pick),
         }
     }
@@ -192,31 +200,23 @@ impl<'g> Stage<'g> {
         match (verb, rest) {
             ("write", [place, bytes @ ..]) => {
                 let bytes = bytes_in(alloc, bytes, block, 0)?;
-                write_at(node.bare()?, place_in(place)?, &bytes, out)
+                write_at(node.bare()?, place_in(place)?, &bytes, out)?;
             }
             ("add", bytes) => {
                 let bytes = bytes_in(alloc, bytes, block, SLOT_LENGTH)?;
-                add_slot(node.bare()?, &bytes, out)
+                add_slot(node.bare()?, &bytes, out)?;
             }
-            ("close", []) => {
-                node.close();
-                Ok(())
-            }
-            ("crash", [pick]) => {
-                node.crash(number_in(pick)?);
-                Ok(())
-            }
-            ("arm", how) => {
-                node.arm(arm_in(how)?);
-                Ok(())
-            }
-            ("length", []) => out.tell(node.image().len()),
-            ("journal", which) => journal(node.image(), which, out),
+            ("close", []) => node.close(),
+            ("crash", [pick]) => node.crash(number_in(pick)?),
+            ("arm", how) => node.arm(arm_in(how)?),
+            ("length", []) => out.tell(node.image().len())?,
+            ("journal", which) => journal(node.image(), which, out)?,
             _ => match &mut node.peer {
-                Some(peer) => call(peer, verb, rest, out),
-                None => out.tell("no peer"),
+                Some(peer) => call(peer, verb, rest, out)?,
+                None => out.tell("no peer")?,
             },
         }
+        Ok(())
     }
 
     /// Prints why a text is no game.
