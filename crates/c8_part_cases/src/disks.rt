@@ -161,8 +161,9 @@ fn read(log: &mut Log<MemDisk>, number: u32, out: &mut Answers) -> io::Result<()
     let mut block = Block::new();
     match log.read(number, &mut block) {
         Ok(slot) => {
+            let body = slot.body;
             write!(out.text, "{number}")?;
-            write_bytes(&mut out.text, slot.body, &[], 16, true)?;
+            write_bytes(&mut out.text, body, &[], 16, true)?;
             writeln!(out.text)
         }
         Err(error) => refuse(error, out),

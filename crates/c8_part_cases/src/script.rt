@@ -119,10 +119,9 @@ impl<'t> Script<'t> {
 
     /// The lines from one place up to another.
     pub fn between(&self, from: usize, to: usize) -> &[&'t [u8]] {
-        match self.lines.get(from..to) {
-            Some(lines) => lines,
-            None => &[],
-        }
+        let to = to.min(self.lines.len());
+        let from = from.min(to);
+        &self.lines[from..to]
     }
 
     /// The block of a command.
