@@ -66,7 +66,8 @@ impl<'a, 'g, 's, 't> Trial<'a, 'g, 's, 't> {
 
     /// The player whose disk fails. None is the disk of a log that no peer has.
     fn player(self) -> Option<Player> {
-        player_in(self.words.get(1)?).ok()
+        let words = self.words;
+        player_in(words.get(1)?).ok()
     }
 
     /// The outcomes after a number of served calls: of one failure, and of a stop and a crash with each pick.

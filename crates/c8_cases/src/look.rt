@@ -16,7 +16,10 @@ pub(crate) fn look(peer: &Peer<'_, MemDisk>, words: &[&str], out: &mut Answers) 
             break;
         }
         let taken = read(peer, left, &mut out.text)?;
-        left = left.get(taken..).unwrap_or(&[]);
+        let Some(more) = left.get(taken..) else {
+            return Err(unreadable());
+        };
+        left = more;
         let end = if left.is_empty() { "\n" } else { " " };
         write!(out.text, "{end}")?;
     }

@@ -26,11 +26,12 @@ impl<'g, 's, 't> Case<'g, 's, 't> {
         out: &mut Answers,
         text: &mut Vec<u8>,
     ) -> io::Result<bool> {
-        let Some(command) = self.script.commands.get(place).copied() else {
+        let script = self.script;
+        let Some(command) = script.commands.get(place).copied() else {
             return Ok(false);
         };
-        let all = words_in(self.alloc, self.script.line(command.line))?;
-        let block = self.script.block(command);
+        let all = words_in(self.alloc, script.line(command.line))?;
+        let block = script.block(command);
         let (words, many) = without_times(&all);
         let (mut last, mut count) = (Vec::new(self.alloc), 0usize);
         for turn in 0..many {
@@ -81,7 +82,8 @@ impl<'g, 's, 't> Case<'g, 's, 't> {
     /// A stage after the commands up to a place.
     pub(crate) fn replayed(self, place: usize) -> io::Result<Stage<'g>> {
         let mut stage = Stage::new(self.alloc, self.game, self.other)?;
-        for command in self.script.commands(self.first, place) {
+        let script = self.script;
+        for command in script.commands(self.first, place) {
             self.replay(*command, &mut stage)?;
         }
         Ok(stage)
@@ -89,15 +91,13 @@ impl<'g, 's, 't> Case<'g, 's, 't> {
 
     /// Does what a command says, and prints nothing.
     fn replay(self, command: Command, stage: &mut Stage<'g>) -> io::Result<()> {
-        let all = words_in(self.alloc, self.script.line(command.line))?;
+        let script = self.script;
+        let all = words_in(self.alloc, script.line(command.line))?;
         let (words, many) = without_times(&all);
+        let (words, _) = without_stops(words);
         let mut unseen = Answers::new(self.alloc);
         for _ in 0..many {
-            stage.perform(
-                without_stops(words).0,
-                self.script.block(command),
-                &mut unseen,
-            )?;
+            stage.perform(words, script.block(command), &mut unseen)?;
         }
         Ok(())
     }
