@@ -3,7 +3,8 @@
 //!
 //! `script` has the form of a file, `words` and `bytes` have how bytes, numbers and players are spelled. `file` compares,
 //! and `perform` finds the call of a command. The calls: `stage` and `node` have the peers of a match and their disks,
-//! `calls` and `look` what a peer is asked, `slots` its journal, and `faults` what each failure inside a call leaves.
+//! `calls` and `look` what a peer is asked, `slots` its journal, `watchers` the watchers, and `faults` what each failure
+//! inside a call leaves.
 #![tactic(auto)]
 
 mod calls;

@@ -10,17 +10,15 @@ use std::io::Write;
 
 /// Prints what a peer's readers return, by name.
 pub(crate) fn look(peer: &Peer<'_, MemDisk>, words: &[&str], out: &mut Answers) -> io::Result<()> {
-    let mut left = words;
+    let mut place = 0usize;
     for _ in 0..words.len() {
+        let from = place.min(words.len());
+        let left = &words[from..];
         if left.is_empty() {
             break;
         }
-        let taken = read(peer, left, &mut out.text)?;
-        let Some(more) = left.get(taken..) else {
-            return Err(unreadable());
-        };
-        left = more;
-        let end = if left.is_empty() { "\n" } else { " " };
+        place = from.saturating_add(read(peer, left, &mut out.text)?);
+        let end = if place < words.len() { " " } else { "\n" };
         write!(out.text, "{end}")?;
     }
     Ok(())
