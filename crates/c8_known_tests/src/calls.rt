@@ -2,9 +2,8 @@
 //! many calls is proved for any answers. Each returns `None` or false if the call does not apply.
 use c8_game::{Game, Keys, Player};
 use c8_known::{Known, KnownError};
-use c8_wire::{Datagram, Run, view};
+use c8_wire::Run;
 use std::alloc::Global;
-use std::fmt::{Debug, Display};
 use std::test::Fail;
 
 pub fn game_of(alloc: Global, text: &[u8]) -> Result<Game, Fail> {
@@ -55,33 +54,6 @@ pub fn hear(
     Some(Ok(new))
 }
 
-/// A lent part of a run: how many inputs, how many inputs of its first pair come before them, and the bytes.
-pub type Part<'a> = (usize, usize, &'a [u8]);
-
-/// Takes inputs of a player in a DATA of its own. Returns the part of them that was lent, or why they were refused.
-pub fn hear_data<'a>(
-    known: &mut Known,
-    player: Player,
-    bytes: &'a [u8],
-) -> Option<Result<Part<'a>, KnownError>> {
-    let Ok(Datagram::Data(data)) = view(bytes) else {
-        return None;
-    };
-    if player.number > known.players() {
-        return None;
-    }
-    let part = match known.fresh(player, player, data.start(), data.run()) {
-        Ok(part) => part,
-        Err(error) => return Some(Err(error)),
-    };
-    if player.number == known.me().number || known.cut_of(player).is_some() {
-        return None;
-    }
-    let lent = (part.len(), part.skip(), part.bytes());
-    known.take(player, part);
-    Some(Ok(lent))
-}
-
 /// Takes inputs of a player after those that are held. Returns whether they were taken.
 pub fn come(known: &mut Known, player: Player, bytes: &[u8]) -> bool {
     match count(known, player) {
@@ -109,20 +81,4 @@ pub fn count(known: &Known, player: Player) -> Option<u32> {
         return None;
     }
     Some(known.count(player))
-}
-
-/// Returns whether an error prints this text.
-pub fn prints<E: Display + Drop>(alloc: Global, error: E, text: &str) -> bool {
-    match format!(in alloc; "{error}") {
-        Ok(told) => told.as_str() == text,
-        Err(_) => false,
-    }
-}
-
-/// Returns whether a value's `Debug` text is this one.
-pub fn is_summed_up<T: Debug>(alloc: Global, value: &T, text: &str) -> bool {
-    match format!(in alloc; "{value:?}") {
-        Ok(told) => told.as_str() == text,
-        Err(_) => false,
-    }
 }

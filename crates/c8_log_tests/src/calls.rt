@@ -1,6 +1,12 @@
 //! The calls of a disk as data. Each call stands here once, in a function without a contract, so a
 //! test that makes many of them stays cheap to prove.
-use c8_disk::{Disk, DiskError, LONGEST_WRITE};
+use c8_disk::{Disk, DiskError, LONGEST_WRITE, MemDisk};
+use std::alloc::Global;
+
+/// An empty disk in memory.
+pub(crate) fn new_disk(alloc: Global, capacity: u32) -> Option<MemDisk> {
+    MemDisk::new(alloc, capacity, 100).ok()
+}
 
 /// A call of a disk, and its answer: the refusal, if any.
 #[derive(Clone, Copy)]

@@ -14,7 +14,7 @@ const LETTERS: &[u8] = b"abcdef";
 const CAPITALS: &[u8] = b"UVWXYZ";
 
 /// A disk that has the old bytes for good, and both writes without a sync.
-pub(crate) fn written(alloc: Global) -> Option<MemDisk> {
+fn written(alloc: Global) -> Option<MemDisk> {
     let mut disk = MemDisk::new(alloc, 16, 8).ok()?;
     let is_written = writes(&mut disk, 0, OLD, None)
         && syncs(&mut disk, None)

@@ -1,4 +1,5 @@
-//! The tests of c8_disk and c8_log.
+//! The tests of c8_disk and c8_log that no case can be: disks in files of a system that stands in, a disk that lends no
+//! bytes, and crashes beside the rule for them.
 #![tactic(auto)]
 
 #[cfg(test)]
@@ -7,8 +8,6 @@ mod calls;
 mod disk;
 #[cfg(test)]
 mod file;
-#[cfg(test)]
-mod log;
 #[cfg(test)]
 mod texts;
 #[cfg(test)]

@@ -1,8 +1,7 @@
-//! How disks, journals and refusals are printed.
-use crate::disk::written;
-use crate::log::new_disk;
-use c8_disk::{DiskError, FileError};
-use c8_log::{Journal, Log, LogError};
+//! How journals and refusals of files are printed.
+use crate::calls::new_disk;
+use c8_disk::FileError;
+use c8_log::{Journal, Log};
 use std::alloc::Global;
 use std::fmt::{Debug, Display};
 
@@ -22,18 +21,8 @@ pub(crate) fn shows<T: Debug + Drop>(alloc: Global, value: T, text: &str) -> boo
     }
 }
 
-/// Whether a disk's refusal has this number, this name and this text.
-fn disk_tells(alloc: Global, error: DiskError, number: u8, name: &str, text: &str) -> bool {
-    error.number() == number && error.name() == name && prints(alloc, error, text)
-}
-
 /// Whether a file's refusal has this number, this name and this text.
 fn file_tells(alloc: Global, error: FileError, number: u8, name: &str, text: &str) -> bool {
-    error.number() == number && error.name() == name && prints(alloc, error, text)
-}
-
-/// Whether a log's refusal has this number, this name and this text.
-fn log_tells(alloc: Global, error: LogError, number: u8, name: &str, text: &str) -> bool {
     error.number() == number && error.name() == name && prints(alloc, error, text)
 }
 
@@ -41,15 +30,9 @@ const UNUSABLE: &str = "the file cannot be used";
 
 const LONG: &str = "the file is longer than the disk's capacity";
 
-const DOWN: &str = "the log is down until it is opened again";
-
 #[test]
-fn each_refusal_has_its_number_name_and_text(rt: HostRuntime) {
+fn each_refusal_of_a_file_has_its_number_name_and_text(rt: HostRuntime) {
     let alloc = rt.alloc();
-    assert!(rt;
-        disk_tells(alloc, DiskError::Failed, 1, "Failed", "the disk failed")
-            && disk_tells(alloc, DiskError::Full, 2, "Full", "the disk is full")
-    );
     assert!(rt;
         file_tells(alloc, FileError::Failed, 1, "Failed", UNUSABLE)
             && file_tells(alloc, FileError::Full, 2, "Full", LONG)
@@ -62,18 +45,6 @@ fn each_refusal_has_its_number_name_and_text(rt: HostRuntime) {
                 "the file is open elsewhere"
             )
     );
-    assert!(rt;
-        log_tells(alloc, LogError::Failed, 1, "Failed", "the disk failed")
-            && log_tells(alloc, LogError::Full, 2, "Full", "the log is full")
-            && log_tells(alloc, LogError::Down, 3, "Down", DOWN)
-    );
-}
-
-fn disk_is_shown(alloc: Global) -> bool {
-    match written(alloc) {
-        Some(disk) => shows(alloc, disk, "MemDisk { length: 14, capacity: 16 }"),
-        None => false,
-    }
 }
 
 fn journal_is_shown(alloc: Global) -> bool {
@@ -91,6 +62,6 @@ fn journal_is_shown(alloc: Global) -> bool {
 }
 
 #[test]
-fn a_disk_and_a_journal_are_shown(rt: HostRuntime) {
-    assert!(rt; disk_is_shown(rt.alloc()) && journal_is_shown(rt.alloc()));
+fn a_journal_is_shown(rt: HostRuntime) {
+    assert!(rt; journal_is_shown(rt.alloc()));
 }

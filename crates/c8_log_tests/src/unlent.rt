@@ -3,8 +3,7 @@ ghost use Rattle.std.specs.Prelude.{◌≡◌, false};
 ghost use Rattle.c8_disk.specs.Memory.{bytes_of, images_of, moment_of, left_since, room_of, arms_of, failures_of, changes_of, value_of, IsMemoryCall, with_arm};
 ghost use Rattle.c8_disk.specs.checked.PastLaws.{reads_image, counts, only};
 
-use crate::calls::writes;
-use crate::log::new_disk;
+use crate::calls::{new_disk, writes};
 use c8_disk::{Arm, Disk, DiskError, MemDisk};
 use c8_log::{CLOSED_GATE, Log, LogError, OPEN_GATE, SLOT_LENGTH};
 use std::alloc::Global;

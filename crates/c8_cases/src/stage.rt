@@ -1,0 +1,363 @@
+//! All players' peers.
+use crate::calls::{Letter, call, deliver, kind_in, say, show};
+use crate::look::look;
+use crate::node::{CALLS, CAPACITY, Node};
+use crate::slots::{add_slot, journal, place_in};
+use crate::watchers::{Watchers, say_show, watcher_in};
+use c8_disk::{Arm, MemDisk};
+use c8_game::{Game, Player};
+use c8_log::SLOT_LENGTH;
+use c8_part_cases::{
+    Answers, Desk, arm_in, bytes_in, count_in, needed, number_in, player_in, size_in, unreadable,
+    write_at,
+};
+use c8_peer::{Kind, Peer};
+use std::alloc::{AllocError, Global};
+use std::io;
+
+/// The room of a match, unless a command names another.
+const ROOM: u64 = 0x0102030405060708;
+
+/// What is printed of a peer that is opened again.
+const FOUND: [&str; 4] = ["epoch", "now", "last_checkpoint", "players"];
+
+/// The nodes of all players, player 1's first, and what has been said.
+#[derive(Drop)]
+pub(crate) struct Stage<'g> {
+    alloc: Global,
+    game: Option<&'g Game>,
+    other: Option<&'g Game>,
+    nodes: Vec<Node<'g>>,
+    letters: Vec<Letter>,
+    desk: Desk<'g>,
+    watchers: Watchers<'g>,
+}
+
+impl<'g> Stage<'g> {
+    /// A stage without peers and disks.
+    pub(crate) fn new(
+        alloc: Global,
+        game: Option<&'g Game>,
+        other: Option<&'g Game>,
+    ) -> Result<Stage<'g>, AllocError> {
+        let mut nodes = Vec::new(alloc);
+        for _ in 0..4 {
+            nodes.push(Node::empty())?;
+        }
+        Ok(Stage {
+            alloc,
+            game,
+            other,
+            nodes,
+            letters: Vec::new(alloc),
+            desk: Desk::new(alloc, game),
+            watchers: Watchers::empty(),
+        })
+    }
+
+    /// Does what a command says. The error is that it cannot be read, or that memory ran out.
+    pub(crate) fn perform(
+        &mut self,
+        words: &[&str],
+        block: &[&[u8]],
+        out: &mut Answers,
+    ) -> io::Result<()> {
+        match words {
+            ["game"] | ["game", "other"] => self.judge_game(block, out),
+            ["why"] => out.explain(),
+            ["meet"] => self.meet(),
+            ["disk", at @ ("1" | "2" | "3" | "4"), capacity, calls] => {
+                self.put(player_in(at)?, count_in(capacity)?, count_in(calls)?)
+            }
+            ["watch" | "show" | "seen", ..] => self.watch(words, out),
+            ["deliver", seat @ ("5" | "6"), "said", number, change @ ..] => {
+                let letter = self.said(size_in(number)?, change)?;
+                self.watchers.hear(watcher_in(seat)?, letter.bytes(), out)
+            }
+            [
+                verb @ ("look" | "begin_again"),
+                seat @ ("5" | "6"),
+                rest @ ..,
+            ] => { self.watchers.call(verb, watcher_in(seat)?, rest, out) }
+            [verb @ ("open" | "carry" | "say" | "deliver"), at, rest @ ..] => {
+                self.perform_at(verb, player_in(at)?, rest, block, out)
+            }
+            [verb, at, rest @ ..] if is_of_peers(verb) => {
+                self.perform_alone(verb, player_in(at)?, rest, block, out)
+            }
+            _ => self.desk.perform(words, block, out),
+        }
+    }
+
+    /// Opens a watcher, or keeps what player 1 shows it or what it acknowledges.
+    fn watch(&mut self, words: &[&str], out: &mut Answers) -> io::Result<()> {
+        let letter = match words {
+            ["watch", seat] => {
+                let (alloc, game) = (self.alloc, needed(self.game)?);
+                return self.watchers.open(alloc, game, ROOM, watcher_in(seat)?);
+            }
+            ["show", at, seat] => {
+                let seat = watcher_in(seat)?;
+                match self.peer(player_in(at)?) {
+                    Some(peer) => say_show(peer, seat, out)?,
+                    None => return out.tell("no peer"),
+                }
+            }
+            ["seen", seat] => self.watchers.seen(watcher_in(seat)?, out)?,
+            _ => return Err(unreadable()),
+        };
+        self.keep(letter, out)
+    }
+
+    /// Keeps a datagram and prints it, if there is one.
+    fn keep(&mut self, letter: Option<Letter>, out: &mut Answers) -> io::Result<()> {
+        if let Some(letter) = letter {
+            self.letters.push(letter)?;
+            show(&letter, self.letters.len(), out)?;
+        }
+        Ok(())
+    }
+
+    /// Sets which calls fail: of a player's disk, or of the one on the desk.
+    pub(crate) fn arm(&mut self, at: Option<Player>, arm: Arm) {
+        match at {
+            Some(at) => {
+                if let Some(node) = self.node(at) {
+                    node.arm(arm);
+                }
+            }
+            None => self.desk.hand().arm(arm),
+        }
+    }
+
+    /// Crashes: a player's disk, or the one on the desk.
+    pub(crate) fn crash(&mut self, at: Option<Player>, pick: u64) {
+        match at {
+            Some(at) => {
+                if let Some(node) = self.node(at) {
+                    node.crash(pick);
+                }
+            }
+            None => self.desk.hand().crash(pick),
+        }
+    }
+
+    /// Prints what the next opening finds: of a player's peer, or of the log on the desk.
+    pub(crate) fn find(&mut self, at: Option<Player>, out: &mut Answers) -> io::Result<()> {
+        let Some(at) = at else {
+            self.desk.hand().open(out)?;
+            self.desk.hand().bodies(out)?;
+            return Ok(());
+        };
+        self.open(at, self.game, ROOM, out)?;
+        if let Some(peer) = self.peer(at) {
+            out.text.clear();
+            look(peer, &FOUND, out)?;
+        }
+        Ok(())
+    }
+
+    /// Does what a command says of a player, and perhaps of another one.
+    fn perform_at(
+        &mut self,
+        verb: &str,
+        at: Player,
+        rest: &[&str],
+        block: &[&[u8]],
+        out: &mut Answers,
+    ) -> io::Result<()> {
+        match (verb, rest) {
+            ("open", []) => self.open(at, self.game, ROOM, out),
+            ("open", ["other"]) => self.open(at, self.other, ROOM, out),
+            ("open", ["room", room]) => self.open(at, self.game, number_in(room)?, out),
+            ("carry", [to, kind @ ..]) => self.carry(at, player_in(to)?, kind_in(kind)?, out),
+            ("say", [to, kind @ ..]) => self.say(at, player_in(to)?, kind_in(kind)?, out),
+            ("deliver", ["said", number, change @ ..]) => {
+                let letter = self.said(size_in(number)?, change)?;
+                self.give(at, letter.bytes(), out)
+            }
+            ("deliver", bytes) => {
+                let bytes = bytes_in(self.alloc, bytes, block, 0)?;
+                self.give(at, &bytes, out)
+            }
+            _ => Err(unreadable()),
+        }
+    }
+
+    /// Does what a command says of a player's disk, or what its peer is asked.
+    fn perform_alone(
+        &mut self,
+        verb: &str,
+        at: Player,
+        rest: &[&str],
+        block: &[&[u8]],
+        out: &mut Answers,
+    ) -> io::Result<()> {
+        let alloc = self.alloc;
+        let Some(node) = self.nodes.get_mut(at.place()) else {
+            return Err(unreadable());
+        };
+        match (verb, rest) {
+            ("write", [place, bytes @ ..]) => {
+                let bytes = bytes_in(alloc, bytes, block, 0)?;
+                write_at(node.bare()?, place_in(place)?, &bytes, out)?;
+            }
+            ("add", bytes) => {
+                let bytes = bytes_in(alloc, bytes, block, SLOT_LENGTH)?;
+                add_slot(node.bare()?, &bytes, out)?;
+            }
+            ("close", []) => node.close(),
+            ("crash", [pick]) => node.crash(number_in(pick)?),
+            ("arm", how) => node.arm(arm_in(how)?),
+            ("length", []) => out.tell(node.image().len())?,
+            ("journal", which) => journal(node.image(), which, out)?,
+            _ => match &mut node.peer {
+                Some(peer) => call(peer, verb, rest, out)?,
+                None => out.tell("no peer")?,
+            },
+        }
+        Ok(())
+    }
+
+    /// Prints why a text is no game.
+    fn judge_game(&self, block: &[&[u8]], out: &mut Answers) -> io::Result<()> {
+        match Game::read(self.alloc, &text_of(self.alloc, block)?) {
+            Ok(_) => Ok(()),
+            Err(error) => out.refuse("game", error.number(), error.name(), error),
+        }
+    }
+
+    /// The open peer of a player.
+    fn peer(&mut self, at: Player) -> Option<&mut Peer<'g, MemDisk>> {
+        match self.nodes.get_mut(at.place()) {
+            Some(node) => node.peer.as_mut(),
+            None => None,
+        }
+    }
+
+    fn node(&mut self, at: Player) -> Option<&mut Node<'g>> {
+        self.nodes.get_mut(at.place())
+    }
+
+    /// Opens the peers of all players of the game on empty disks, and gives each a link to each other.
+    fn meet(&mut self) -> io::Result<()> {
+        let game = needed(self.game)?;
+        let mut out = Answers::new(self.alloc);
+        for number in 1..game.players().saturating_add(1) {
+            let at = needed(Player::new(number))?;
+            self.put(at, CAPACITY, CALLS)?;
+            self.open(at, Some(game), ROOM, &mut out)?;
+        }
+        for number in 1..game.players().saturating_add(1) {
+            let one = needed(Player::new(number))?;
+            self.link_to_all(one, game.players(), &mut out)?;
+        }
+        Ok(())
+    }
+
+    fn link_to_all(&mut self, one: Player, players: u8, out: &mut Answers) -> io::Result<()> {
+        for number in 1..players.saturating_add(1) {
+            let other = needed(Player::new(number))?;
+            self.carry(one, other, Kind::Hello, out)?;
+            self.carry(other, one, Kind::Welcome, out)?;
+        }
+        Ok(())
+    }
+
+    fn put(&mut self, at: Player, capacity: u32, calls: u32) -> io::Result<()> {
+        let disk = MemDisk::new(self.alloc, capacity, calls)?;
+        match self.node(at) {
+            Some(node) => {
+                node.put(disk);
+                Ok(())
+            }
+            None => Err(unreadable()),
+        }
+    }
+
+    /// Opens a player's peer.
+    fn open(
+        &mut self,
+        at: Player,
+        game: Option<&'g Game>,
+        room: u64,
+        out: &mut Answers,
+    ) -> io::Result<()> {
+        let alloc = self.alloc;
+        match (game, self.node(at)) {
+            (Some(game), Some(node)) => node.open(alloc, game, (at, room), out),
+            _ => Err(unreadable()),
+        }
+    }
+
+    /// What a player says to another. None where that is refused, or the player has no peer.
+    fn letter(
+        &mut self,
+        from: Player,
+        to: Player,
+        kind: Kind,
+        out: &mut Answers,
+    ) -> io::Result<Option<Letter>> {
+        match self.peer(from) {
+            Some(peer) => say(peer, to, kind, out),
+            None => {
+                out.tell("no peer")?;
+                Ok(None)
+            }
+        }
+    }
+
+    fn say(&mut self, from: Player, to: Player, kind: Kind, out: &mut Answers) -> io::Result<()> {
+        let letter = self.letter(from, to, kind, out)?;
+        self.keep(letter, out)
+    }
+
+    /// Delivers what a player says to another at once.
+    fn carry(&mut self, from: Player, to: Player, kind: Kind, out: &mut Answers) -> io::Result<()> {
+        match self.letter(from, to, kind, out)? {
+            Some(letter) => self.give(to, letter.bytes(), out),
+            None => Ok(()),
+        }
+    }
+
+    /// The datagram with a number, as it was said or with other bytes at a place.
+    fn said(&self, number: usize, change: &[&str]) -> io::Result<Letter> {
+        let Some(letter) = self.letters.get(number.wrapping_sub(1)).copied() else {
+            return Err(unreadable());
+        };
+        match change {
+            [] => Ok(letter),
+            ["with", place, bytes @ ..] => {
+                let bytes = bytes_in(self.alloc, bytes, &[], 0)?;
+                Ok(letter.with(size_in(place)?, &bytes))
+            }
+            _ => Err(unreadable()),
+        }
+    }
+
+    fn give(&mut self, to: Player, bytes: &[u8], out: &mut Answers) -> io::Result<()> {
+        match self.peer(to) {
+            Some(peer) => deliver(peer, bytes, out),
+            None => out.tell("no peer"),
+        }
+    }
+}
+
+/// Whether a verb is of a player's disk or peer alone.
+fn is_of_peers(verb: &str) -> bool {
+    match verb {
+        "write" | "add" | "close" | "crash" | "arm" | "length" | "journal" => true,
+        "look" | "tick" | "leave" | "decide" | "checkpoint" => true,
+        _ => false,
+    }
+}
+
+/// The text of a block, without what its lines are indented by.
+pub(crate) fn text_of(alloc: Global, block: &[&[u8]]) -> Result<Vec<u8>, AllocError> {
+    let mut text = Vec::new(alloc);
+    for line in block {
+        text.extend_from_slice(line.strip_prefix(b"  ".as_slice()).unwrap_or(*line))?;
+        text.push(b'\n')?;
+    }
+    Ok(text)
+}

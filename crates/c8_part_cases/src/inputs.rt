@@ -1,0 +1,227 @@
+//! Known inputs, and a roll on them.
+use crate::answers::Answers;
+use crate::bytes::write_bytes;
+use crate::words::{bytes_in, count_in, keys_in, player_in, unreadable};
+use c8_digest::mark;
+use c8_game::{Game, Keys, Player};
+use c8_known::{Known, KnownError};
+use c8_roll::{Buffers, Roll};
+use c8_window::Window;
+use c8_wire::{Datagram, Run, view};
+use std::alloc::Global;
+use std::io;
+use std::io::Write;
+
+/// What a player knows, and the roll that runs on it.
+#[derive(Drop)]
+pub struct Inputs<'g> {
+    known: Option<Known>,
+    roll: Option<Roll<'g>>,
+    window: Option<Window>,
+}
+
+impl<'g> Inputs<'g> {
+    pub(crate) fn empty() -> Inputs<'g> {
+        Inputs {
+            known: None,
+            roll: None,
+            window: None,
+        }
+    }
+
+    /// Does what a command says of known inputs.
+    pub(crate) fn known(
+        &mut self,
+        alloc: Global,
+        game: &'g Game,
+        words: &[&str],
+        out: &mut Answers,
+    ) -> io::Result<()> {
+        if let ["new", me] = words {
+            self.known = Some(known_of(alloc, game, player_in(me)?)?);
+            return Ok(());
+        }
+        let Some(known) = &mut self.known else {
+            return Err(unreadable());
+        };
+        match words {
+            ["take", player, start, spelled @ ..] => {
+                let bytes = bytes_in(alloc, spelled, &[], 0)?;
+                take(known, player_in(player)?, count_in(start)?, &bytes, out)
+            }
+            ["take_data", player, spelled @ ..] => {
+                let bytes = bytes_in(alloc, spelled, &[], 0)?;
+                take_data(known, player_in(player)?, &bytes, out)
+            }
+            ["count", player] => {
+                let player = player_in(player)?;
+                if player.number > known.players() {
+                    return Err(unreadable());
+                }
+                out.tell(known.count(player))
+            }
+            ["debug"] => out.tell(format_args!("{known:?}")),
+            _ => Err(unreadable()),
+        }
+    }
+
+    /// Does what a command says of the window: what others have acknowledged of the own inputs.
+    pub(crate) fn window(
+        &mut self,
+        game: &'g Game,
+        words: &[&str],
+        out: &mut Answers,
+    ) -> io::Result<()> {
+        match (words, &mut self.window, &self.known) {
+            (["new"], place, _) => {
+                *place = Some(Window::new(game));
+                Ok(())
+            }
+            (["ack", player, count], Some(window), Some(known)) => {
+                match window.ack(player_in(player)?, count_in(count)?, known) {
+                    Ok(()) => out.tell("ok"),
+                    Err(error) => out.refuse("window", 1, "BadAck", error),
+                }
+            }
+            (["acked", player], Some(window), _) => out.tell(window.acked(player_in(player)?)),
+            (["pending", player], Some(window), Some(known)) => {
+                write!(out.text, "pending")?;
+                for keys in window.pending(player_in(player)?, known) {
+                    write!(out.text, " {keys:04x}")?;
+                }
+                writeln!(out.text)
+            }
+            _ => Err(unreadable()),
+        }
+    }
+
+    /// Does what a command says of the roll.
+    pub(crate) fn roll(
+        &mut self,
+        alloc: Global,
+        game: &'g Game,
+        words: &[&str],
+        out: &mut Answers,
+    ) -> io::Result<()> {
+        let Some(known) = &mut self.known else {
+            return Err(unreadable());
+        };
+        match (words, &mut self.roll) {
+            (["open"], _) => {
+                self.roll = Some(Roll::open(alloc, game, known)?);
+                Ok(())
+            }
+            (["buffers"], _) => {
+                let buffers = Buffers::new(alloc, game)?;
+                out.tell(format_args!("{buffers:?}"))
+            }
+            (["tick", keys], Some(roll)) => tick(known, roll, keys_in(keys)?, out),
+            (["settle"], Some(roll)) => settle(known, roll, out),
+            (["look"], Some(roll)) => look(roll, out),
+            (["debug"], Some(roll)) => out.tell(format_args!("{roll:?}")),
+            _ => Err(unreadable()),
+        }
+    }
+}
+
+/// What a player of the game knows at the start.
+fn known_of(alloc: Global, game: &Game, me: Player) -> io::Result<Known> {
+    game.in_range();
+    if me.number > game.players() {
+        return Err(unreadable());
+    }
+    Ok(Known::new(alloc, game, me)?)
+}
+
+fn refuse(error: KnownError, out: &mut Answers) -> io::Result<()> {
+    out.refuse("known", error.number(), error.name(), error)
+}
+
+/// Takes inputs that a player sent itself, and prints how many of them were new.
+fn take(
+    known: &mut Known,
+    player: Player,
+    start: u32,
+    bytes: &[u8],
+    out: &mut Answers,
+) -> io::Result<()> {
+    if player.number > known.players() || bytes.len() > 128 || bytes.len() % 2 != 0 {
+        return Err(unreadable());
+    }
+    let part = match known.fresh(player, player, start, Run::new(bytes)) {
+        Ok(part) => part,
+        Err(error) => return refuse(error, out),
+    };
+    if player.number == known.me().number || known.cut_of(player).is_some() {
+        return Err(unreadable());
+    }
+    let new = part.len();
+    known.take(player, part);
+    out.tell(format_args!("new {new}"))
+}
+
+/// Takes the inputs of a DATA, and prints the part of them that was lent: how many, how many of its first pair come
+/// before them, and the bytes.
+fn take_data(known: &mut Known, player: Player, bytes: &[u8], out: &mut Answers) -> io::Result<()> {
+    let Ok(Datagram::Data(data)) = view(bytes) else {
+        return Err(unreadable());
+    };
+    if player.number > known.players() {
+        return Err(unreadable());
+    }
+    let part = match known.fresh(player, player, data.start(), data.run()) {
+        Ok(part) => part,
+        Err(error) => return refuse(error, out),
+    };
+    if player.number == known.me().number || known.cut_of(player).is_some() {
+        return Err(unreadable());
+    }
+    write!(out.text, "new {} skip {}", part.len(), part.skip())?;
+    write_bytes(&mut out.text, part.bytes(), &[], 128, false)?;
+    writeln!(out.text)?;
+    known.take(player, part);
+    Ok(())
+}
+
+/// Enters a key set of the own player, advances the roll, and prints how many frames that ran, if there is
+/// room for it and the roll has seen the ticks before.
+fn tick(known: &mut Known, roll: &mut Roll<'_>, keys: Keys, out: &mut Answers) -> io::Result<()> {
+    let me = known.me();
+    if known.count(me) >= known.limit() {
+        return Err(unreadable());
+    }
+    known.own(keys);
+    if known.ticks() == 0 || known.ticks() - 1 != roll.ticks() {
+        return Err(unreadable());
+    }
+    roll.advance(known);
+    out.tell(format_args!("ran {}", roll.last_run()))
+}
+
+/// Settles a roll with all that is known, and prints the oldest frame whose guess was wrong, if the roll has
+/// seen the last tick.
+fn settle(known: &Known, roll: &mut Roll<'_>, out: &mut Answers) -> io::Result<()> {
+    if known.ticks() != roll.ticks() {
+        return Err(unreadable());
+    }
+    match roll.settle(known) {
+        Some(oldest) => out.tell(format_args!("oldest {oldest}")),
+        None => out.tell("none"),
+    }
+}
+
+/// Prints how many frames are confirmed, how many the last call ran, and how many ticks there are; then of the shown
+/// machine the registers, the counter, how many random bytes were drawn, and the marks of both machines.
+fn look(roll: &Roll<'_>, out: &mut Answers) -> io::Result<()> {
+    let (base, confirmed) = roll.base();
+    let (last_run, ticks, shown) = (roll.last_run(), roll.ticks(), roll.shown());
+    out.tell(format_args!("base {base} last_run {last_run} ticks {ticks}"))?;
+    write!(out.text, "registers")?;
+    write_bytes(&mut out.text, shown.registers(), &[], 1, true)?;
+    let (counter, draws) = (shown.counter(), shown.draws());
+    write!(out.text, " counter {counter:03x} draws {draws} mark")?;
+    write_bytes(&mut out.text, &mark(shown), &[], 8, false)?;
+    write!(out.text, " base")?;
+    write_bytes(&mut out.text, &mark(confirmed), &[], 8, false)?;
+    writeln!(out.text)
+}

@@ -1,0 +1,158 @@
+//! Games and machines.
+use crate::answers::Answers;
+use crate::bytes::write_bytes;
+use crate::words::{keys_in, number_in, unreadable};
+use c8_digest::{STATE_LENGTH, mark, read_state, state_bytes};
+use c8_game::Game;
+use c8_machine::Machine;
+use std::io;
+use std::io::Write;
+
+/// Prints the version of datagrams that a game names, its id, or its session in a room.
+pub(crate) fn show_game(game: &Game, words: &[&str], out: &mut Answers) -> io::Result<()> {
+    match words {
+        ["wire"] => out.tell(game.wire().number()),
+        ["id"] => {
+            write!(out.text, "id")?;
+            write_bytes(&mut out.text, &game.id(), &[], 32, false)?;
+            writeln!(out.text)
+        }
+        ["session", room] => {
+            let session = game.session(number_in(room)?);
+            out.tell(format_args!("session {session:016x}"))
+        }
+        _ => Err(unreadable()),
+    }
+}
+
+/// Makes a call of a machine, and prints what it returns and what changed.
+pub(crate) fn call_machine(
+    game: &Game,
+    machine: &mut Machine,
+    words: &[&str],
+    out: &mut Answers,
+) -> io::Result<()> {
+    let before = *machine;
+    match words {
+        ["step", keys] => {
+            let step = machine.step(game, keys_in(keys)?);
+            write!(out.text, "{step:?}")?;
+        }
+        ["frame", keys] => {
+            machine.frame(game, keys_in(keys)?);
+            write!(out.text, "frame")?;
+        }
+        ["mark"] => {
+            write!(out.text, "mark")?;
+            write_bytes(&mut out.text, &mark(machine), &[], 8, false)?;
+        }
+        ["read_state"] => {
+            let answer = if is_read_again(machine) {
+                "same"
+            } else {
+                "another"
+            };
+            write!(out.text, "{answer}")?;
+        }
+        _ => return Err(unreadable()),
+    }
+    write_changes(&before, machine, &mut out.text)
+}
+
+/// Whether the state bytes of a machine are read as the same machine.
+fn is_read_again(machine: &Machine) -> bool {
+    let mut bytes = [0x55; STATE_LENGTH];
+    state_bytes(machine, &mut bytes);
+    read_state(&bytes) == Some(*machine)
+}
+
+/// Prints what changed of a state, and ends the line.
+fn write_changes(before: &Machine, after: &Machine, text: &mut Vec<u8>) -> io::Result<()> {
+    write_cells("V", before.registers(), after.registers(), text)?;
+    write_number(
+        "I",
+        u64::from(before.address()),
+        u64::from(after.address()),
+        text,
+    )?;
+    write_number(
+        "counter",
+        u64::from(before.counter()),
+        u64::from(after.counter()),
+        text,
+    )?;
+    write_number(
+        "timer",
+        u64::from(before.timer()),
+        u64::from(after.timer()),
+        text,
+    )?;
+    write_number(
+        "tone",
+        u64::from(before.tone()),
+        u64::from(after.tone()),
+        text,
+    )?;
+    write_number(
+        "keys",
+        u64::from(before.keys().0),
+        u64::from(after.keys().0),
+        text,
+    )?;
+    write_number("draws", before.draws(), after.draws(), text)?;
+    if before.stack() != after.stack() {
+        write!(text, " stack")?;
+        for place in after.stack() {
+            write!(text, " {place:03x}")?;
+        }
+    }
+    write_halts(before, after, text)?;
+    write_cells("memory", before.memory(), after.memory(), text)?;
+    write_rows(before, after, text)?;
+    writeln!(text)
+}
+
+/// Prints whether the machine now waits for a key, goes on, or has stopped.
+fn write_halts(before: &Machine, after: &Machine, text: &mut Vec<u8>) -> io::Result<()> {
+    if before.waits() != after.waits() {
+        match after.waits() {
+            Some(register) => write!(text, " waits {register:x}")?,
+            None => write!(text, " goes on")?,
+        }
+    }
+    if before.stopped() != after.stopped()
+        && let Some(stop) = after.stopped()
+    {
+        write!(text, " stopped {}", stop.number())?;
+    }
+    Ok(())
+}
+
+/// Prints a number in hexadecimal if it changed.
+fn write_number(name: &str, before: u64, after: u64, text: &mut Vec<u8>) -> io::Result<()> {
+    if before != after {
+        write!(text, " {name} {after:x}")?;
+    }
+    Ok(())
+}
+
+/// Prints each byte that changed, with its place.
+fn write_cells(name: &str, before: &[u8], after: &[u8], text: &mut Vec<u8>) -> io::Result<()> {
+    for (place, (old, new)) in before.iter().zip(after.iter()).enumerate() {
+        if old != new {
+            write!(text, " {name}{place:x} {new:02x}")?;
+        }
+    }
+    Ok(())
+}
+
+/// Prints each row of the screen that changed: 64 points, the left one first.
+fn write_rows(before: &Machine, after: &Machine, text: &mut Vec<u8>) -> io::Result<()> {
+    for y in 0..32u8 {
+        let row = *after.screen().row(y);
+        if *before.screen().row(y) != row {
+            write!(text, " row{y} {row:016x}")?;
+        }
+    }
+    Ok(())
+}
