@@ -41,7 +41,8 @@ pub fn join_command<'a>(alloc: Global) -> Result<Command<'a>, AllocError> {
     let command = command.arg(room)?;
     let port = "The own UDP port [default: any]";
     let command = command.arg(port_of(alloc, port))?;
-    let secret = "The file of the secret [default: its 64 digits are read from standard input]";
+    let secret =
+        "The file of the secret; asks for its digits if it is missing [default: GAME.secret]";
     with_play(alloc, command, secret)
 }
 

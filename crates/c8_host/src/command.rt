@@ -1,16 +1,16 @@
-//! Runs `host` and `join`.
+//! Runs `host` and `join`: each is a command line of `play` with its words filled in.
 
 use crate::addresses::{LIST, own_addresses};
-use crate::digits::digits_in;
-use crate::invitation::{Invitation, note};
-use c8_command::{Refusal, Site, Status};
-use c8_front::{Terminals, is_explained, word_of};
+use crate::digits::{digits_in, is_secret, keep};
+use crate::inviting::{invitation, note};
+use c8_command::{Part, Refusal, Site, Status};
+use c8_front::{Terminals, is_explained, tell, word_of};
 use c8_game::Player;
-use c8_net::{Asked, game_at, number_of, perform_given, refuse};
-use c8_play::{Live, Pace, Terminal};
+use c8_net::{Asked, asked_for, game_at, number_of, perform_given, refuse};
+use c8_play::{Live, Pace, Terminal, play_command};
 use c8_secret::{make_secret, random_bytes};
 use clap::ArgMatches;
-use std::alloc::Global;
+use std::alloc::{AllocError, Global};
 use std::fs::File;
 use std::io::{Read, Write};
 use std::net::Net;
@@ -23,6 +23,24 @@ const RATE: u8 = 60;
 
 /// The word for no journal, and for an address that is learnt.
 const NONE: &str = "-";
+
+/// The refusal of digits that are no secret.
+const BAD: Refusal = Refusal {
+    part: Part::Secret,
+    number: 1,
+    name: "Bad",
+};
+
+/// What a match takes beside what both commands ask for.
+#[derive(Drop)]
+struct Match {
+    player: Player,
+    local: String,
+    remote: String,
+    room: u64,
+    /// The path of the secret.
+    secret: String,
+}
 
 /// Runs `host` as the command line asks: makes the secret if it is missing, shows the invitation, and plays as player 1.
 /// The error is a writer's, or that memory ran out.
@@ -44,63 +62,31 @@ where
         writeln!(refused, "error: host wants a terminal")?;
         return Ok(Status::CommandLine);
     };
-    let game = word_of(given, "GAME");
-    let usual = format!(in rt.alloc(); "{game}.secret")?;
-    let secret = given.get_str("secret").unwrap_or(usual.as_str());
-    match made(rt, secret) {
-        Ok(drawn) => {
-            let room = number_of(given, "room").unwrap_or(drawn);
-            invite(rt, given, console, secret, room, out, refused)
-        }
+    let secret = secret_path(rt.alloc(), given)?;
+    let room = match made(rt, secret.as_str()) {
+        Ok(drawn) => number_of(given, "room").unwrap_or(drawn),
         Err(error) => {
-            let site = is_explained(given).then_some(Site::File(secret));
-            Refusal::DISK.tell_at(site, &error, refused)
+            let site = is_explained(given).then_some(Site::File(secret.as_str()));
+            return Refusal::DISK.tell_at(site, &error, refused);
         }
-    }
-}
-
-/// Shows the invitation to a match in this room, and plays it.
-fn invite<R, W, E>(
-    rt: &R,
-    given: &ArgMatches<'_>,
-    console: Terminal<'_, R>,
-    secret: &str,
-    room: u64,
-    out: &mut W,
-    refused: &mut E,
-) -> io::Result<Status>
-where
-    R: Files<File = File> + Net + Clock + AllocGlobal,
-    W: Write,
-    E: Write,
-{
-    let port = given.get_one::<u16>("port").unwrap_or(4001);
-    let list = list_of(rt)?;
-    let addresses = own_addresses(rt.alloc(), list.as_str())?;
-    let invitation = Invitation {
-        game: word_of(given, "GAME"),
-        secret,
-        addresses: &addresses,
-        port,
-        room,
     };
-    write!(refused, "{invitation}")?;
-    let note = note(rt.alloc(), &invitation)?;
-    let local = format!(in rt.alloc(); "0.0.0.0:{port}")?;
-    let asked = Asked {
+    let port = given.get_one::<u16>("port").unwrap_or(4001);
+    let lines = lines_of(rt, given, secret.as_str(), port, room)?;
+    refused.write_all(lines.as_bytes())?;
+    let note = note(rt.alloc(), lines.as_str())?;
+    let wanted = Match {
         player: Player::CHAIR,
-        local: local.as_str(),
-        remotes: Some(&[NONE]),
-        secret: Some(secret),
+        local: format!(in rt.alloc(); "0.0.0.0:{port}")?,
+        remote: format!(in rt.alloc(); "{NONE}")?,
         room,
-        ..usual_match(given)
+        secret,
     };
     let console = console.with_note(note.as_bytes());
-    play(rt, given, &asked, console, out, refused)
+    play(rt, given, &wanted, console, out, refused)
 }
 
-/// Runs `join` as the command line asks, and plays as player 2. Without `--secret` it reads the secret's digits from
-/// `input`. The error is a writer's, or that memory ran out.
+/// Runs `join` as the command line asks, and plays as player 2. If the secret's file is missing, it reads the digits from
+/// `input` and makes the file. The error is a writer's, or that memory ran out.
 pub fn join_given<R, I, W, E>(
     rt: &R,
     given: &ArgMatches<'_>,
@@ -122,35 +108,66 @@ where
         writeln!(refused, "error: join wants a terminal")?;
         return Ok(Status::CommandLine);
     };
-    let secret = given.get_str("secret");
-    let mut input = input;
-    let digits = match secret {
-        Some(_) => Vec::new(rt.alloc()),
-        None => asked_digits(rt.alloc(), &mut input, terminals, refused)?,
-    };
+    let secret = secret_path(rt.alloc(), given)?;
+    if let Some(status) = ask(rt, given, secret.as_str(), input, terminals, refused)? {
+        return Ok(status);
+    }
     let address = word_of(given, "ADDRESS");
     let port = given.get_one::<u16>("port").unwrap_or(0);
-    let local = format!(in rt.alloc(); "{}:{port}", all_for(address))?;
-    let asked = Asked {
+    let wanted = Match {
         player: Player { number: 2 },
-        local: local.as_str(),
-        remotes: Some(&[address]),
-        secret,
-        digits: match secret {
-            Some(_) => None,
-            None => Some(&digits),
-        },
+        local: format!(in rt.alloc(); "{}:{port}", all_for(address))?,
+        remote: format!(in rt.alloc(); "{address}")?,
         room: number_of(given, "ROOM").unwrap_or(0),
-        ..usual_match(given)
+        secret,
     };
-    play(rt, given, &asked, console, out, refused)
+    play(rt, given, &wanted, console, out, refused)
 }
 
-/// Plays the match, and says how a match with a journal is seen again.
+/// Asks for the digits of the secret if its file is missing, and makes the file. Returns the status if that is refused.
+fn ask<R, I, E>(
+    rt: &R,
+    given: &ArgMatches<'_>,
+    secret: &str,
+    input: I,
+    terminals: Terminals,
+    refused: &mut E,
+) -> io::Result<Option<Status>>
+where
+    R: Files<File = File> + AllocGlobal,
+    I: Read + Drop,
+    E: Write,
+{
+    if fs::metadata(rt, secret).is_ok() {
+        return Ok(None);
+    }
+    if terminals.input {
+        writeln!(
+            refused,
+            "the 64 digits of the secret (they are not shown), then Enter:"
+        )?;
+    }
+    let mut input = input;
+    let digits = digits_in(rt.alloc(), &mut input)?;
+    let is_told = is_explained(given);
+    if !is_secret(&digits) {
+        let site = is_told.then_some(Site::File("standard input"));
+        return Ok(Some(BAD.tell_at(site, &"not 64 hexadecimal digits", refused)?));
+    }
+    match keep(rt, secret, &digits) {
+        Ok(()) => Ok(None),
+        Err(error) => {
+            let site = is_told.then_some(Site::File(secret));
+            Ok(Some(Refusal::DISK.tell_at(site, &error, refused)?))
+        }
+    }
+}
+
+/// Plays the match as `play` does, and says how a match with a journal is seen again.
 fn play<R, W, E>(
     rt: &R,
     given: &ArgMatches<'_>,
-    asked: &Asked<'_, '_>,
+    wanted: &Match,
     console: Terminal<'_, R>,
     out: &mut W,
     refused: &mut E,
@@ -160,10 +177,21 @@ where
     W: Write,
     E: Write,
 {
+    let words = words_of(rt.alloc(), given, wanted)?;
+    let command = play_command(rt.alloc())?;
+    let matches = match command.try_get_matches_from(words.as_slice()) {
+        Ok(matches) => matches,
+        Err(error) => return tell(&error, out, refused),
+    };
+    let asked = Asked {
+        says_end: true,
+        is_muted: given.get_flag("mute"),
+        explain: is_explained(given),
+        ..asked_for(&matches, wanted.player)
+    };
     let hold = given.get_one::<u8>("hold").unwrap_or(9).max(1);
     let pace = Pace { rate: RATE, hold };
-    let live = Live { console, pace };
-    let status = perform_given(rt, asked, live, out, refused)?;
+    let status = perform_given(rt, &asked, Live { console, pace }, out, refused)?;
     if status == Status::Done && !asked.has_no_journal() {
         let (game, journal) = (asked.game, asked.journal);
         writeln!(
@@ -174,28 +202,37 @@ where
     Ok(status)
 }
 
-/// What both commands ask for: no end but the game's, and no journal if none is named.
-fn usual_match<'m, 'a>(given: &'m ArgMatches<'a>) -> Asked<'m, 'a> {
-    Asked {
-        game: word_of(given, "GAME"),
-        player: Player::CHAIR,
-        journal: given.get_str("journal").unwrap_or(NONE),
-        local: NONE,
-        remotes: None,
-        watchers: [None, None],
-        secret: None,
-        digits: None,
-        watch_secret: None,
-        room: 0,
-        has_room: true,
-        turns: u64::MAX,
-        patience: None,
-        stop: None,
-        checkpoint: 0,
-        progress: false,
-        says_end: true,
-        is_muted: given.get_flag("mute"),
-        explain: is_explained(given),
+/// The command line of `play` for a match.
+fn words_of(
+    alloc: Global,
+    given: &ArgMatches<'_>,
+    wanted: &Match,
+) -> Result<Vec<String>, AllocError> {
+    let Match {
+        player,
+        local,
+        remote,
+        room,
+        secret,
+    } = wanted;
+    let journal = given.get_str("journal").unwrap_or(NONE);
+    let mut words = Vec::new(alloc);
+    words.push(format!(in alloc; "play")?)?;
+    words.push(format!(in alloc; "--room={room}")?)?;
+    words.push(format!(in alloc; "--secret={secret}")?)?;
+    words.push(format!(in alloc; "{}", word_of(given, "GAME"))?)?;
+    words.push(format!(in alloc; "{}", player.number)?)?;
+    words.push(format!(in alloc; "{journal}")?)?;
+    words.push(format!(in alloc; "{local}")?)?;
+    words.push(format!(in alloc; "{remote}")?)?;
+    Ok(words)
+}
+
+/// The path of the secret: the one that is given, or that of the game with `.secret` behind it.
+fn secret_path(alloc: Global, given: &ArgMatches<'_>) -> Result<String, AllocError> {
+    match given.get_str("secret") {
+        Some(path) => format!(in alloc; "{path}"),
+        None => format!(in alloc; "{}.secret", word_of(given, "GAME")),
     }
 }
 
@@ -234,32 +271,25 @@ fn made<R: Files<File = File>>(rt: &R, secret: &str) -> io::Result<u64> {
     Ok(u64::from(u32::from_be_bytes([one, two, three, four])))
 }
 
-/// The system's list of addresses; empty if it has none.
-fn list_of<R>(rt: &R) -> io::Result<String>
+/// The lines of the invitation, with the addresses of this machine.
+fn lines_of<R>(
+    rt: &R,
+    given: &ArgMatches<'_>,
+    secret: &str,
+    port: u16,
+    room: u64,
+) -> io::Result<String>
 where
     R: Files<File = File> + AllocGlobal,
 {
-    match fs::read_to_string(rt, LIST) {
-        Ok(list) => Ok(list),
-        Err(error) if error.kind() == io::ErrorKind::OutOfMemory => Err(error),
-        Err(_) => Ok(String::new(rt.alloc())),
-    }
-}
-
-/// Reads the digits of the secret; at a terminal it asks for them.
-fn asked_digits<I: Read, E: Write>(
-    alloc: Global,
-    input: &mut I,
-    terminals: Terminals,
-    refused: &mut E,
-) -> io::Result<Vec<u8>> {
-    if terminals.input {
-        writeln!(
-            refused,
-            "the 64 digits of the secret (they are not shown), then Enter:"
-        )?;
-    }
-    digits_in(alloc, input)
+    let list = match fs::read_to_string(rt, LIST) {
+        Ok(list) => list,
+        Err(error) if error.kind() == io::ErrorKind::OutOfMemory => return Err(error),
+        Err(_) => String::new(rt.alloc()),
+    };
+    let addresses = own_addresses(rt.alloc(), list.as_str())?;
+    let game = word_of(given, "GAME");
+    Ok(invitation(rt.alloc(), game, secret, &addresses, port, room)?)
 }
 
 /// The word for all addresses of this machine, of the IP version of another address.

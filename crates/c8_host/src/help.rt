@@ -17,11 +17,11 @@ Refusals and exit statuses are those of the command peer; a secret that cannot b
 
 /// The end of the help of `join`.
 pub const JOIN_ENDING: &str =
-    "The friend's terminal shows the whole line. Without --secret the digits are read from standard input:
-typed, unseen, or from a file:
+    "The friend's terminal shows the whole line. If the secret's file is missing, the command reads the 64
+digits from standard input, unseen, and keeps them in that file:
 
   ./c8play join games/rally.game 192.0.2.7:4001 3735928559 --secret rally.game.secret
-  ./c8play join games/rally.game 192.0.2.7:4001 3735928559 <rally.game.secret
+  ./c8play join games/rally.game 192.0.2.7:4001 3735928559
 
 Keys, screen and the rest are as in the command play; both players have 60 frames a second.
 

@@ -1,7 +1,7 @@
 //! The commands `host` and `join`: two friends play at their keyboards, with a secret and without a journal.
 //!
 //! Both are the command `play` (c8_play) with its options filled in: `host` is player 1 and learns the friend's address,
-//! `join` is player 2. [`own_addresses`] finds the addresses that the friend may type, and `invitation` writes the line.
+//! `join` is player 2. [`own_addresses`] finds the addresses that the friend may type, and [`invitation`] writes the line.
 #![tactic(auto)]
 
 mod addresses;
@@ -9,10 +9,10 @@ mod arguments;
 mod command;
 mod digits;
 mod help;
-mod invitation;
+mod inviting;
 
 pub use addresses::own_addresses;
 pub use arguments::{host_command, join_command};
 pub use command::{host_given, join_given};
 pub use digits::digits_in;
-pub use invitation::{Invitation, note};
+pub use inviting::{invitation, note};

@@ -1,6 +1,6 @@
 //! What `host` shows to a friend, and what `join` reads.
 
-use c8_host::{Invitation, digits_in, note, own_addresses};
+use c8_host::{digits_in, invitation, note, own_addresses};
 use std::alloc::Global;
 
 /// A list of routes: each address of the machine stands in it twice.
@@ -58,14 +58,11 @@ fn one_line_of_digits_is_read(rt: HostRuntime) {
 }
 
 fn invites(alloc: Global, game: &str, addresses: &[&str], wanted: &str) -> bool {
-    let invitation = Invitation {
-        game,
-        secret: "games/rally.game.secret",
-        addresses,
-        port: 4002,
-        room: 77,
+    let secret = "games/rally.game.secret";
+    let Ok(lines) = invitation(alloc, game, secret, addresses, 4002, 77) else {
+        return false;
     };
-    match note(alloc, &invitation) {
+    match note(alloc, lines.as_str()) {
         Ok(note) => note.as_str() == wanted,
         Err(_) => false,
     }

@@ -1,0 +1,66 @@
+//! The line that a friend types.
+
+use std::alloc::{AllocError, Global};
+
+/// The first row of the terminal below the picture and its row of text, with a row between.
+const FIRST_ROW: usize = 19;
+
+/// The lines for the person who hosts: what a friend has to have and to type. `game` and `secret` are paths, `addresses`
+/// those of this machine.
+pub fn invitation(
+    alloc: Global,
+    game: &str,
+    secret: &str,
+    addresses: &[&str],
+    port: u16,
+    room: u64,
+) -> Result<String, AllocError> {
+    let (name, file) = (friends_path(game), last_part(secret));
+    let first = addresses.first().copied().unwrap_or("ADDRESS");
+    let here = shown(alloc, addresses)?;
+    // The line to type is on two rows, so that it fits a terminal of 80 columns.
+    format!(in alloc;
+        "Your friend needs the same game and the file {secret}, and types:\n  ./c8play join {name} {first}:{port} {room} \\\n    --secret {file}\nThis machine:{here}\nFrom another network: your router's address, UDP port {port} forwarded.\n"
+    )
+}
+
+/// The addresses behind one another, or that there is none.
+fn shown(alloc: Global, addresses: &[&str]) -> Result<String, AllocError> {
+    let mut shown = String::new(alloc);
+    for address in addresses {
+        shown.push_str(" ")?;
+        shown.push_str(address)?;
+    }
+    if addresses.is_empty() {
+        shown.push_str(" no address found; put it in the place of ADDRESS")?;
+    }
+    Ok(shown)
+}
+
+/// The bytes that write lines below the picture of a terminal.
+pub fn note(alloc: Global, lines: &str) -> Result<String, AllocError> {
+    let mut note = String::new(alloc);
+    for (place, line) in lines.lines().enumerate() {
+        let row = place.saturating_add(FIRST_ROW);
+        let written = format!(in alloc; "\x1b[{row};1H\x1b[K{line}")?;
+        note.push_str(written.as_str())?;
+    }
+    Ok(note)
+}
+
+/// The path at which a friend has the game: the same in the folder of the program, if it is in there.
+fn friends_path(path: &str) -> &str {
+    if path.starts_with('/') {
+        last_part(path)
+    } else {
+        path
+    }
+}
+
+/// The name of a file, without its folders.
+fn last_part(path: &str) -> &str {
+    match path.rsplit_once('/') {
+        Some((_, name)) => name,
+        None => path,
+    }
+}
