@@ -174,25 +174,29 @@ static OF_FOUR: [Look; 3] = [
     },
 ];
 
+/// Whether a row tells what it should.
+fn tells(status: &mut StatusRow, look: &Look) -> bool {
+    let standing = Standing {
+        ticked: look.ticked,
+        rollbacks: look.rollbacks,
+        longest: look.longest,
+        heard: look.heard,
+        is_alarmed: look.is_alarmed,
+        lost: 0,
+        foreign: 0,
+        unsealed: 0,
+    };
+    let now = Duration::from_millis(look.millis);
+    let waits = look.waits.and_then(Player::new);
+    status.row_of(now, look.confirmed, &standing, waits) == look.wanted
+}
+
 /// Whether these are the rows of a player of a game with this many players; the row begins at 100 milliseconds.
 fn are_told(number: u8, players: u8, looks: &[Look]) -> bool {
     let me = Player::new(number).unwrap_or(Player::CHAIR);
     let mut status = StatusRow::new(Duration::from_millis(100), me, players);
     for look in looks {
-        let standing = Standing {
-            ticked: look.ticked,
-            rollbacks: look.rollbacks,
-            longest: look.longest,
-            heard: look.heard,
-            is_alarmed: look.is_alarmed,
-            lost: 0,
-            foreign: 0,
-            unsealed: 0,
-        };
-        let now = Duration::from_millis(look.millis);
-        let waits = look.waits.and_then(Player::new);
-        let row = status.row_of(now, look.confirmed, &standing, waits);
-        if row != look.wanted {
+        if !tells(&mut status, look) {
             return false;
         }
     }
