@@ -174,8 +174,8 @@ static OF_FOUR: [Look; 3] = [
     },
 ];
 
-/// Whether a row tells what it should.
-fn tells(status: &mut StatusRow, look: &Look) -> bool {
+/// Whether exactly this is written at a look.
+fn tells(status: &mut StatusRow, look: &Look, wanted: &[u8]) -> bool {
     let standing = Standing {
         ticked: look.ticked,
         rollbacks: look.rollbacks,
@@ -188,7 +188,7 @@ fn tells(status: &mut StatusRow, look: &Look) -> bool {
     };
     let now = Duration::from_millis(look.millis);
     let waits = look.waits.and_then(Player::new);
-    status.row_of(now, look.confirmed, &standing, waits) == look.wanted
+    status.row_of(now, look.confirmed, &standing, waits) == wanted
 }
 
 /// Whether these are the rows of a player of a game with this many players; the row begins at 100 milliseconds.
@@ -196,7 +196,7 @@ fn are_told(number: u8, players: u8, looks: &[Look]) -> bool {
     let me = Player::new(number).unwrap_or(Player::CHAIR);
     let mut status = StatusRow::new(Duration::from_millis(100), me, players);
     for look in looks {
-        if !tells(&mut status, look) {
+        if !tells(&mut status, look, look.wanted) {
             return false;
         }
     }
