@@ -1,5 +1,5 @@
 //! Which disks are too slow for a match of two at sixty frames a second.
-use c8_net::slow_frame;
+use c8_journal::slow_frame;
 use std::time::Duration;
 
 /// Microseconds of a sync, and the milliseconds of a frame if they are too many.

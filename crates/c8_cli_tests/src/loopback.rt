@@ -84,7 +84,6 @@ where
         remotes: Some(&[remote]),
         watchers,
         secret: None,
-        digits: None,
         watch_secret: None,
         room: 9,
         has_room: true,

@@ -133,10 +133,11 @@ impl<'g, D: Disk> Engine<'g, D> {
         deliveries_are_calls();
         let _sound = self.peer.is_down();
         self.is_told = false;
-        let answer = self.peer.deliver(bytes);
-        if let Ok(datagram) = view(bytes) {
-            self.schedule.heard(datagram.header(), answer);
-        }
+        let Ok(datagram) = view(bytes) else {
+            return self.peer.deliver(bytes);
+        };
+        let answer = self.peer.deliver_datagram(&datagram);
+        self.schedule.heard(datagram.header(), answer);
         answer
     }
 

@@ -116,7 +116,7 @@ impl<'g, D: Disk> Engine<'g, D> {
         }
     }
 
-    /// Returns the player with this number, unless it is this peer's own.
+    /// Returns the other player with this number: `None` for this peer's own number and for one that nobody has.
     fn other(&self, number: u8) -> Option<Player>
         ensures { IfSome result (λ player. player.number ≡ number) }
     {

@@ -22,8 +22,6 @@ pub struct Asked<'m, 'a> {
     pub watchers: [Option<&'a str>; MOST_WATCHERS],
     /// The path of the players' secret, if the match has one.
     pub secret: Option<&'a str>,
-    /// The text of the players' secret, if it was not read from a file.
-    pub digits: Option<&'m [u8]>,
     /// The path of the watchers' secret, if the match has one; for player 1 only.
     pub watch_secret: Option<&'a str>,
     pub room: u64,
@@ -54,11 +52,6 @@ impl Asked<'_, '_> {
     /// Returns whether the journal is kept in memory, and lost at the end.
     pub fn has_no_journal(&self) -> bool {
         self.journal == NO_JOURNAL
-    }
-
-    /// Whether the match has a secret.
-    pub(crate) fn has_secret(&self) -> bool {
-        self.secret.is_some() || self.digits.is_some()
     }
 
     /// After how many confirmed frames the peer makes the next checkpoint; 0 for never, as without a journal.
@@ -190,7 +183,6 @@ pub fn asked_for<'m, 'a>(given: &'m ArgMatches<'a>, player: Player) -> Asked<'m,
         remotes: given.get_strs("REMOTE"),
         watchers: [given.get_str("watch5"), given.get_str("watch6")],
         secret: given.get_str("secret"),
-        digits: None,
         watch_secret: given.get_str("watch-secret"),
         room: number_of(given, "room").unwrap_or(0),
         has_room: given.contains_id("room"),

@@ -11,14 +11,15 @@ ghost use Rattle.c8_net.specs.declared.error.PeerError.{PeerError};
 use crate::arguments::{Asked, asked_of};
 use crate::error::PeerError;
 use crate::fault::{Fault, INPUT, Why, game_at};
-use crate::journal::{Journal, journal_at, warn_of_a_slow_disk};
-use crate::medium::Trouble;
 use crate::performance::Performance;
 use crate::play::{Prepared, Unprepared, perform_on, play_on, prepare};
 use crate::seals::{seal_at, warn_of_secrets};
 use c8_command::{Refusal, Status, TextError};
 use c8_front::Terminals;
+use c8_journal::{Journal, Trouble, warn_of_a_slow_disk};
 use c8_keys::{Played, write_report};
+use c8_disk::FileError;
+use c8_game::Game;
 use c8_peer::OpenError;
 use c8_udp::refused_address;
 use clap::ArgMatches;
@@ -193,7 +194,7 @@ fn tell_outcome<W: Write, E: Write>(
         }
         Err(fault) => {
             let remotes = asked.remotes.unwrap_or(&[]);
-            let may_learn = asked.has_secret();
+            let may_learn = asked.secret.is_some();
             let word = refused_address(asked.local, remotes, asked.watchers, may_learn);
             refuse(alloc, asked.explain, word, &fault, refused)
         }
@@ -258,6 +259,24 @@ where
     }
     let journal = journal_at(rt, asked, &it.game, trouble)?;
     Ok((it, journal))
+}
+
+/// Opens the journal of the command line: a file, or with `-` memory.
+fn journal_at<'a, 't, R>(
+    rt: &R,
+    asked: &Asked<'_, 'a>,
+    game: &Game,
+    trouble: &'t Trouble,
+) -> Result<Journal<'t>, Fault<'a>>
+where
+    R: Files<File = File> + AllocGlobal,
+{
+    let opened = if asked.has_no_journal() {
+        Journal::in_memory(rt.alloc(), game).map_err(FileError::from)
+    } else {
+        Journal::in_file(rt, asked.journal, trouble)
+    };
+    opened.map_err(|error| Fault::of_opening(rt.alloc(), error, asked.journal, trouble))
 }
 
 /// Turns the refusal of `prepare` into a fault with its file.

@@ -3,10 +3,10 @@
 ghost use Rattle.std.specs.Prelude.{◌≡◌};
 
 use crate::error::PeerError;
-use crate::medium::Trouble;
 use c8_command::{Site, Text, TextError, read_file};
-use c8_disk::DiskError;
+use c8_disk::{DiskError, FileError};
 use c8_game::{Game, GameError};
+use c8_journal::Trouble;
 use c8_keys::{KeysError, game_site, key_sets_site};
 use c8_peer::OpenError;
 use c8_program::{ProgramError, usual_game};
@@ -76,6 +76,28 @@ impl<'a> Fault<'a> {
             _ => None,
         };
         Fault::new(alloc, error, journal).because(why.map(Why::System))
+    }
+
+    /// A fault of a journal that was not opened.
+    pub(crate) fn of_opening(
+        alloc: Global,
+        error: FileError,
+        journal: &'a str,
+        trouble: &Trouble,
+    ) -> Self {
+        let error = match error {
+            FileError::Memory => PeerError::Open(OpenError::Memory),
+            FileError::Full => PeerError::Disk(DiskError::Full),
+            FileError::Failed => {
+                let failed = PeerError::Disk(DiskError::Failed);
+                return Fault::of_journal(alloc, failed, journal, trouble);
+            }
+            FileError::Locked => {
+                let failed = PeerError::Disk(DiskError::Failed);
+                return Fault::new(alloc, failed, journal).because(Some(Why::Locked));
+            }
+        };
+        Fault::new(alloc, error, journal)
     }
 
     /// The same fault, with what says more.

@@ -11,10 +11,8 @@ mod command;
 mod error;
 mod fault;
 mod help;
-mod journal;
 mod key_list;
 mod line;
-mod medium;
 mod pace;
 mod performance;
 mod play;
@@ -26,7 +24,6 @@ pub use arguments::{Asked, asked_for, number, number_of, peer_command, with_opti
 pub use command::{peer, peer_given, perform, perform_given, refuse};
 pub use error::{PeerError, Unopened};
 pub use fault::{Fault, game_at};
-pub use journal::slow_frame;
 pub use line::Line;
 pub use pace::Pace;
 pub use performance::{Ended, Performance};

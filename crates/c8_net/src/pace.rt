@@ -8,6 +8,9 @@ use std::time::{Clock, Duration};
 /// How many microseconds the game thread sleeps after a turn.
 const GAME_PAUSE: u64 = 1000;
 
+/// How many milliseconds a viewer's thread sleeps between two looks.
+pub(crate) const VIEWER_PAUSE: u64 = 5;
+
 /// The most checks of the game thread for the viewer's thread. As a rule that thread runs at once.
 const MOST_LOOKS: u16 = 5000;
 

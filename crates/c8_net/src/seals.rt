@@ -46,11 +46,10 @@ pub(crate) fn seal_at<'a, R>(
 where
     R: Files<File = File> + AllocGlobal,
 {
-    let players = match (asked.digits, asked.secret) {
-        (Some(digits), _) => digits_read(rt.alloc(), digits)?,
-        (None, Some(path)) => secret_at(rt, path)?,
-        (None, None) => return Ok(None),
+    let Some(path) = asked.secret else {
+        return Ok(None);
     };
+    let players = secret_at(rt, path)?;
     let secrets = match asked.watch_secret {
         None => Secrets {
             players: Some(players),
@@ -98,11 +97,6 @@ fn seal_of(secrets: &Secrets, seat: Seat, session: u64) -> Seal {
         seat,
         session,
     }
-}
-
-/// The secret that standard input gave.
-fn digits_read<'a>(alloc: Global, digits: &[u8]) -> Result<Secret, Fault<'a>> {
-    Secret::read(digits).map_err(|error| Fault::new(alloc, PeerError::Secret(error), INPUT))
 }
 
 /// Returns the secret in a file.

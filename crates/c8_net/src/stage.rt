@@ -5,7 +5,7 @@ ghost use Rattle.c8_net.specs.Match.{HasEnded};
 
 use crate::arguments::Asked;
 use crate::error::Unopened;
-use crate::pace::Pace;
+use crate::pace::{Pace, VIEWER_PAUSE};
 use crate::performance::Ended;
 use c8_board::{Board, Pen, Viewer};
 use c8_disk::Disk;
@@ -23,9 +23,6 @@ use std::sync::Wait;
 use std::thread;
 use std::thread::Threads;
 use std::time::{Clock, Duration};
-
-/// How many milliseconds the viewer sleeps between two looks.
-const VIEWER_PAUSE: u64 = 5;
 
 /// The parts for a session in threads: the ends of two inlets, and a board.
 #[derive(Drop)]

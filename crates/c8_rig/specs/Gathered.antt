@@ -24,7 +24,8 @@ AreParts log entries = (i : ℕ) (e : EntryValue) → slice_get entries i ≡ So
 abbrev pub HaveAgreedOrNot : {D : Type 0} → List (PeerValue D) → Bool → Type 0
 HaveAgreedOrNot {D} peers agree = (standings : List Standing) × (map known_at standings ≡ map known_by peers) × ((agree ≡ true) ↔ HaveAgreed standings)
 
--- The log is lawful, each entry's notes are its player's part of it, and `agree` says whether the peers agree.
+-- The log is lawful, each entry's notes are its player's part of it, the peers are these, and `agree` says whether they
+-- agree.
 abbrev pub IsGathering : ℕ → List EntryValue → List (PeerValue MemDisk) → Gathering → Type 0
 IsGathering players entries peers (Gathered log held agree) =
     IsLawful players log.items × AreParts log.items entries × (held.items ≡ peers) × HaveAgreedOrNot peers agree

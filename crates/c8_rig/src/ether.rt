@@ -35,7 +35,7 @@ impl Room for Brand {
     ghost ether = { no_ether };
 }
 
-/// The locked content: the log, and what was said in it; the first has the number 0.
+/// The locked content: the log, and the datagrams that were said in it. The first datagram has the number 0.
 #[derive(Drop)]
 struct Book<B: Room> {
     notes: Vec<Note>,
@@ -190,7 +190,8 @@ fn keep_said(said: &mut Vec<Packet>, act: Act, bytes: Packet)
     }
 }
 
-/// An ether with an empty log, before the caller's proof names it. Contracts see how many players it has.
+/// An ether with an empty log, before the caller's proof names it. Contracts see which ether it is, and how many
+/// players it has.
 #[derive(Drop)]
 pub struct Unnamed {
     players: u8,

@@ -7,10 +7,9 @@
 //! notes are its player's part of it, and they lead the peer to its state. So the log is a list of events of a world,
 //! and any two moments of it agree ([`laws`], `specs/Log.antt`; `specs/Rigged.antt` has the end of a match).
 //!
-//! A proof knows only the type of a locked value. So tokens without bytes know the length and order of the log
-//! (`tokens` over `atomic_table`, with the rule in `specs/checked/Rule.antt`): the keeper's lies under the lock and
-//! knows the log, and each entry has one that knows its player's part. A [`Room`] names an ether in the types; the
-//! caller's proof picks it.
+//! A proof knows only the type of a locked value. So tokens without bytes know the log (`tokens` over `atomic_table`,
+//! with the rule in `specs/checked/Rule.antt`): the keeper's lies under the lock and knows all of it, and each entry has
+//! one that knows its player's part. A [`Room`] names an ether in the types; the caller's proof picks it.
 #![tactic(auto)]
 
 mod ether;

@@ -76,7 +76,7 @@ impl Tokens {
         Ok((Tokens { table }, Keeper { seat }))
     }
 
-    /// The part of the next player, without notes.
+    /// Makes the part of the next player, without notes.
     pub(crate) fn enlist(&self, keeper: &mut Keeper) -> Part
         requires { keeper.old.ether ≡ self.now }
         ensures keeper { keeper.new
@@ -119,7 +119,8 @@ impl Tokens {
         }
     }
 
-    /// Joins both for a moment: the part is the player's part of the log, and the player has an entry.
+    /// Joins keeper and part for a moment, which shows that the part is its player's part of the log, and that the player
+    /// has an entry.
     pub(crate) fn compare(&self, keeper: &mut Keeper, part: Part) -> Part
         requires keeper { keeper.old.ether ≡ self.now }
         requires part { part.ether ≡ self.now }

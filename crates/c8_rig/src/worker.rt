@@ -193,8 +193,8 @@ impl<'a, 'g, B: Room, R: Wait, D: Disk> Seat<'a, 'g, B, R, D> {
     }
 }
 
-/// Plays one player's part of a match in its own thread. It notes the opening, opens the peer on the disk in room 0,
-/// and makes `turns` turns, which a generator draws from the seed and the player's number, unless the gate ends it
+/// Plays one player's part of a match in its own thread. It notes the opening, opens the player's peer of room 0 on the
+/// disk, and makes `turns` turns, which a generator draws from the seed and the player's number, unless the gate ends it
 /// earlier. It notes a call before it makes it, and a datagram after the peer has said it. If memory for a note runs
 /// out, or the opening is refused, it stops there. It returns the entry, and the peer if there is one.
 pub fn rig_worker<'g, B: Room, R: Wait, D: Disk + Drop, G: Watch>(

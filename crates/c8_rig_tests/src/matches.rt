@@ -55,3 +55,15 @@ fn a_gate_ends_its_workers_and_counts_their_notes(rt: HostRuntime) -> Result<(),
     }
     Ok(())
 }
+
+/// A gate that lets no worker make a turn counts the note of each opening.
+#[test]
+fn each_opening_is_counted(rt: HostRuntime) -> Result<(), Fail> {
+    let game = Game::read(rt.alloc(), GAMES[2].as_bytes())?;
+    let gate = Turns::new(0);
+    let _gathering = rig(&rt, rt.alloc(), &game, 7, TURNS, &gate)?;
+    for place in 0..4 {
+        assert!(rt; gate.notes(place) == 1);
+    }
+    Ok(())
+}

@@ -47,8 +47,8 @@ where
     }
 }
 
-/// Reads a game from a file, and plays a match of it as [`rig`] does. With `script` it first creates the script's file,
-/// if the text spells a game and the script is another file. The error is a writer's.
+/// Reads a game from a file, and plays a match of it as [`rig`] does. First it checks that the system starts enough
+/// threads, and with `script` creates the script's file, unless that is the game's file. The error is a writer's.
 pub fn rig_file<R, W, E>(
     rt: &R,
     asked: &Asked<'_>,

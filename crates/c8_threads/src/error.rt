@@ -10,10 +10,10 @@ use thiserror::Error;
 /// Why the command `rig` refuses, or comes to no verdict.
 #[derive(Clone, Copy, Debug, PartialEq, Eq, Error)]
 pub enum RigError {
-    /// The text of the game has a fault.
+    /// The text of the game has a fault, or memory ran out while it was read.
     #[error("{0}")]
     Game(GameError),
-    /// Memory ran out during the match.
+    /// Memory ran out for the match or for its script.
     #[error("out of memory")]
     Memory,
     /// The script cannot be written.

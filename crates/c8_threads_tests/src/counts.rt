@@ -49,7 +49,7 @@ const TURNS: u16 = 10_000;
 const MOST: u64 = 20_002;
 
 /// What is written while a match is played.
-fn told<R>(rt: &R) -> Vec<u8>
+fn told<R>(rt: &R, progress: bool) -> Vec<u8>
 where
     R: Clock + Threads + Wait + Sync + AllocGlobal,
 {
@@ -60,7 +60,7 @@ where
     let (mut out, mut refused) = (Vec::new(rt.alloc()), Vec::new(rt.alloc()));
     let asked = Asked {
         turns: TURNS,
-        progress: true,
+        progress,
         ..ASKED
     };
     let game = Text {
@@ -98,6 +98,11 @@ fn last_count(told: &[u8]) -> Option<u64> {
 
 #[test]
 fn the_notes_are_counted_while_the_log_grows(rt: HostRuntime) {
-    let last = last_count(&told(&rt)).unwrap_or(0);
+    let last = last_count(&told(&rt, true)).unwrap_or(0);
     assert!(rt; last > 0 && last <= MOST);
+}
+
+#[test]
+fn nothing_is_counted_unasked(rt: HostRuntime) {
+    assert!(rt; told(&rt, false).is_empty());
 }

@@ -4,6 +4,9 @@ use c8_game::GameError;
 use c8_threads::{Asked, RigError, rig};
 use std::io;
 use std::io::Write;
+use std::sync::Wait;
+use std::thread::Threads;
+use std::time::Clock;
 
 /// The command line, without `--explain`.
 pub(crate) const ASKED: Asked<'static> = Asked {
@@ -87,4 +90,22 @@ fn a_script_that_cannot_be_written_is_refused(rt: HostRuntime) {
         Err(_) => 255,
     };
     assert!(rt; code == 3 && out.is_empty() && refused.as_slice() == REFUSED.as_bytes());
+}
+
+/// Whether the command fails because the line of a refusal cannot be written.
+fn fails_at_a_full_writer<R>(rt: &R) -> bool
+where
+    R: Clock + Threads + Wait + Sync + AllocGlobal,
+{
+    let no_game = Text {
+        file: "a.game",
+        bytes: b"",
+    };
+    let mut out = Vec::new(rt.alloc());
+    rig(rt, &ASKED, no_game, None::<&mut Full>, &mut out, &mut Full).is_err()
+}
+
+#[test]
+fn a_refusal_that_cannot_be_written_is_the_writers_error(rt: HostRuntime) {
+    assert!(rt; fails_at_a_full_writer(&rt));
 }

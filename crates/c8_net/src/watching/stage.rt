@@ -5,7 +5,7 @@ ghost use Rattle.c8_watch.specs.Turns.{AreTurns};
 
 use super::arguments::WatchAsked;
 use super::drawing::Drawing;
-use crate::pace::Pace;
+use crate::pace::{Pace, VIEWER_PAUSE};
 use crate::stage::Onlooker;
 use c8_board::{Board, Pen, Viewer};
 use c8_spectator::Spectator;
@@ -17,9 +17,6 @@ use std::sync::Wait;
 use std::thread;
 use std::thread::Threads;
 use std::time::{Clock, Duration};
-
-/// How many milliseconds the viewer sleeps between two looks.
-const VIEWER_PAUSE: u64 = 5;
 
 /// A board that shows a spectator's rows, with its pen and one viewer.
 #[derive(Drop)]

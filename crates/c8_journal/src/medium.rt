@@ -10,18 +10,20 @@ use std::os::unix::fs::FileExt;
 /// The last error that the system answered at a journal's file. A disk makes no call after the one that took it down, so
 /// this is then the reason.
 #[derive(Drop)]
-pub(crate) struct Trouble {
+pub struct Trouble {
     last: Cell<Option<io::Error>>,
 }
 
 impl Trouble {
-    pub(crate) fn none() -> Trouble {
+    /// No error yet.
+    pub fn none() -> Trouble {
         Trouble {
             last: Cell::new(None),
         }
     }
 
-    pub(crate) fn last(&self) -> Option<io::Error> {
+    /// Returns the last error, if there was one.
+    pub fn last(&self) -> Option<io::Error> {
         self.last.get()
     }
 
@@ -38,7 +40,7 @@ impl Trouble {
 
 /// The file of a journal. It keeps each error of the system.
 #[derive(Drop)]
-pub(crate) struct Medium<'t> {
+pub struct Medium<'t> {
     pub(crate) file: OpenedFile,
     pub(crate) trouble: &'t Trouble,
 }

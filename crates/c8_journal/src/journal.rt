@@ -1,0 +1,61 @@
+//! The disk of a journal.
+
+use crate::medium::{Medium, Trouble};
+use c8_disk::{FileDisk, FileError, MemDisk, OpenedFile};
+use c8_game::Game;
+use c8_log::SLOT_LENGTH;
+use std::alloc::{AllocError, Global};
+use std::fs::File;
+use std::rt::Files;
+
+/// How many bytes a journal in a file may have.
+const CAPACITY: u32 = 1_073_741_824;
+
+/// How many records a journal in memory has room for besides one for each frame and player: openings, epochs, drop
+/// rounds.
+const SPARE_RECORDS: u32 = 1024;
+
+/// How many calls of the disk a record takes; below, how many an opening takes.
+const CALLS_OF_RECORD: u32 = 4;
+
+const CALLS_OF_OPENING: u32 = 16;
+
+/// The disk of a journal.
+#[derive(Drop)]
+pub enum Journal<'t> {
+    /// It is in a file, and survives a crash.
+    File(FileDisk<Medium<'t>>),
+    /// It is in memory, and is lost when the program ends.
+    Memory(MemDisk),
+}
+
+impl<'t> Journal<'t> {
+    /// Opens the journal in a file, which is created if it is missing, with room for 2^30 bytes. `trouble` keeps the
+    /// system's error if the file fails, now or later.
+    pub fn in_file<R>(rt: &R, path: &str, trouble: &'t Trouble) -> Result<Journal<'t>, FileError>
+    where
+        R: Files<File = File> + AllocGlobal,
+    {
+        let bytes = Vec::with_capacity(rt.alloc(), CAPACITY as usize)?;
+        match trouble.keep(OpenedFile::open(rt, path)) {
+            Ok(file) => {
+                let disk = FileDisk::over(Medium { file, trouble }, bytes, CAPACITY)?;
+                Ok(Journal::File(disk))
+            }
+            Err(_) => Err(FileError::Failed),
+        }
+    }
+
+    /// Makes a journal in memory with room for a game's whole length.
+    pub fn in_memory(alloc: Global, game: &Game) -> Result<Journal<'t>, AllocError> {
+        let records = game
+            .frames()
+            .saturating_mul(u32::from(game.players()))
+            .saturating_add(SPARE_RECORDS);
+        let bytes = records.saturating_mul(SLOT_LENGTH as u32).saturating_add(1);
+        let calls = records
+            .saturating_mul(CALLS_OF_RECORD)
+            .saturating_add(CALLS_OF_OPENING);
+        Ok(Journal::Memory(MemDisk::new(alloc, bytes, calls)?))
+    }
+}

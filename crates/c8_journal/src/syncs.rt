@@ -1,0 +1,56 @@
+//! How long a file takes to reach the disk.
+
+use std::fs::File;
+use std::io::Write;
+use std::rt::Files;
+use std::time::{Clock, Duration, SystemTime};
+use std::{fs, io};
+
+/// How many syncs are timed.
+const TIMED: u32 = 3;
+
+/// The most syncs of a frame in a match of two: two for each record, and one record for each player.
+const SYNCS_OF_FRAME: u32 = 4;
+
+/// How many frames a second has.
+const RATE: u32 = 60;
+
+/// Writes a line to `out` if the disk of a journal is too slow for a match of two at sixty frames a second. The error
+/// is the writer's.
+pub fn warn_of_a_slow_disk<R, E>(rt: &R, journal: &str, out: &mut E) -> io::Result<()>
+where
+    R: Files<File = File> + Clock,
+    E: Write,
+{
+    if let Some(took) = syncs_at(rt, journal)
+        && let Some(millis) = slow_frame(took / TIMED)
+    {
+        writeln!(
+            out,
+            "this disk needs {millis} ms a frame: frames will be late; '-' plays without a journal"
+        )?;
+    }
+    Ok(())
+}
+
+/// Measures how long `TIMED` syncs of a file take, each after a change of the file's time; `None` if that fails.
+fn syncs_at<R: Files<File = File> + Clock>(rt: &R, path: &str) -> Option<Duration> {
+    let file = fs::open(rt, path).ok()?;
+    let begun = rt.monotonic().ok()?;
+    for _ in 0..TIMED {
+        file.set_modified(SystemTime::now(rt).ok()?).ok()?;
+        file.sync_all().ok()?;
+    }
+    Some(rt.monotonic().ok()?.saturating_sub(begun))
+}
+
+/// Returns how many milliseconds the journal needs in each frame of a match of two, if a sync takes this long. `None`
+/// if that fits a frame.
+pub fn slow_frame(sync: Duration) -> Option<u128> {
+    let frame = sync.saturating_mul(SYNCS_OF_FRAME);
+    if frame > Duration::from_secs(1) / RATE {
+        Some(frame.as_millis())
+    } else {
+        None
+    }
+}
