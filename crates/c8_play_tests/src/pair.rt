@@ -56,7 +56,6 @@ where
         remotes: Some(&[remote]),
         watchers: [None, None],
         secret: None,
-        digits: None,
         watch_secret: None,
         room: 3,
         has_room: true,

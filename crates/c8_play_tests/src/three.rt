@@ -100,7 +100,6 @@ fn asked_for() -> Asked<'static, 'static> {
         remotes: None,
         watchers: [None, None],
         secret: None,
-        digits: None,
         watch_secret: None,
         room: 0,
         has_room: true,

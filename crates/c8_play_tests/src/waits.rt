@@ -107,7 +107,6 @@ fn asked_for(row: Row) -> Asked<'static, 'static> {
         remotes: None,
         watchers: [None, None],
         secret: None,
-        digits: None,
         watch_secret: None,
         room: 0,
         has_room: true,
