@@ -110,6 +110,22 @@ impl Wire for Shows {
     }
 }
 
+/// The options of that match, watched from seat 5 for this many turns, or until enough frames were seen.
+pub(crate) fn asked_for(turns: u64, stop: Option<u64>, screen: bool) -> WatchAsked<'static> {
+    WatchAsked {
+        game: "",
+        seat: Watcher { number: 5 },
+        local: "",
+        remote: "",
+        secret: None,
+        room: 3,
+        turns,
+        stop,
+        screen,
+        explain: false,
+    }
+}
+
 /// Keeps the written text, and where each write ends. One write fails, and is not kept.
 #[derive(Drop)]
 struct Pages {
@@ -210,18 +226,7 @@ where
     let Ok(game) = Game::read(rt.alloc(), GAME.as_bytes()) else {
         return false;
     };
-    let asked = WatchAsked {
-        game: "",
-        seat: Watcher { number: 5 },
-        local: "",
-        remote: "",
-        secret: None,
-        room: 3,
-        turns: row.turns,
-        stop: None,
-        screen: row.screen,
-        explain: false,
-    };
+    let asked = asked_for(row.turns, None, row.screen);
     let clock = Counted {
         rt,
         millis: AtomicU64::new(0),

@@ -1,9 +1,8 @@
 //! A watched match that ends after enough frames.
 
-use crate::drawing::{GAME, Shows};
+use crate::drawing::{GAME, Shows, asked_for};
 use c8_game::Game;
-use c8_net::{WatchAsked, watch_on};
-use c8_wire::Watcher;
+use c8_net::watch_on;
 use std::sync::Wait;
 use std::thread::Threads;
 use std::time::Clock;
@@ -22,18 +21,7 @@ where
     let Ok(game) = Game::read(rt.alloc(), GAME.as_bytes()) else {
         return 0;
     };
-    let asked = WatchAsked {
-        game: "",
-        seat: Watcher { number: 5 },
-        local: "",
-        remote: "",
-        secret: None,
-        room: 3,
-        turns: TURNS,
-        stop: Some(ENOUGH),
-        screen: false,
-        explain: false,
-    };
+    let asked = asked_for(TURNS, Some(ENOUGH), false);
     let mut out = Vec::new(rt.alloc());
     match watch_on(rt, &asked, &game, Shows::new(&game), &mut out) {
         Ok(played) => u64::from(played.frames),

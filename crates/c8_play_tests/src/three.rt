@@ -3,10 +3,10 @@
 ghost use Rattle.std.specs.Prelude.{[]};
 
 use crate::console::{Log, Still, Written};
+use crate::waits::asked_for;
 use c8_disk::MemDisk;
 use c8_game::{Game, Keys, Player};
 use c8_live::Session;
-use c8_net::Asked;
 use c8_peer::{Kind, Peer};
 use c8_play::{Desk, Pace, play_frames};
 use c8_transport::{Traffic, Wire, WireFailed};
@@ -90,30 +90,6 @@ fn way_to<'g>(alloc: Global, game: &'g Game, number: u8) -> Option<Way<'g>> {
     })
 }
 
-/// The options: twelve turns.
-fn asked_for() -> Asked<'static, 'static> {
-    Asked {
-        game: "",
-        player: Player::CHAIR,
-        journal: "",
-        local: "",
-        remotes: None,
-        watchers: [None, None],
-        secret: None,
-        watch_secret: None,
-        room: 0,
-        has_room: true,
-        turns: 12,
-        patience: None,
-        stop: None,
-        checkpoint: 0,
-        progress: false,
-        says_end: false,
-        is_muted: true,
-        explain: false,
-    }
-}
-
 /// Whether twelve turns with another player end with this row.
 fn ends_with(alloc: Global, number: u8, row: &[u8]) -> bool {
     let Ok(game) = Game::read(alloc, GAME) else {
@@ -135,7 +111,8 @@ fn ends_with(alloc: Global, number: u8, row: &[u8]) -> bool {
         hold: 9,
     };
     let mut desk = Desk::new(Written::new(&clock, &[], &mut log), pace);
-    let made = play_frames(&mut session, &mut way, &mut desk, &game, RATE, &asked_for());
+    let asked = asked_for(12, None, None);
+    let made = play_frames(&mut session, &mut way, &mut desk, &game, RATE, &asked);
     let _lateness = desk.end();
     made == Ok(12) && log.drawn.ends_with(row)
 }

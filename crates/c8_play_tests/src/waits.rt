@@ -97,8 +97,8 @@ struct Row {
     ticked: u32,
 }
 
-/// The options of a row.
-fn asked_for(row: Row) -> Asked<'static, 'static> {
+/// The options of a match without files: at most this many turns, and what else may end it.
+pub fn asked_for(turns: u64, stop: Option<u64>, patience: Option<u64>) -> Asked<'static, 'static> {
     Asked {
         game: "",
         player: Player::CHAIR,
@@ -110,9 +110,9 @@ fn asked_for(row: Row) -> Asked<'static, 'static> {
         watch_secret: None,
         room: 0,
         has_room: true,
-        turns: row.turns,
-        patience: row.patience,
-        stop: row.stop,
+        turns,
+        patience,
+        stop,
         checkpoint: 0,
         progress: false,
         says_end: false,
@@ -143,7 +143,7 @@ fn played(
     let mut console = Written::new(&clock, sent_of(row.typed), log);
     console.longest_rest = longest_rest;
     let mut desk = Desk::new(console, pace);
-    let asked = asked_for(row);
+    let asked = asked_for(row.turns, row.stop, row.patience);
     let made = play_frames(&mut session, &mut wire, &mut desk, game, RATE, &asked);
     let _lateness = desk.end();
     match made {

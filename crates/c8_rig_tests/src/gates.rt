@@ -6,22 +6,6 @@ use std::sync::atomic::{AtomicU64, Ordering};
 use std::thread::sleep;
 use std::time::{Clock, Duration};
 
-/// Lets each worker make all its turns.
-#[derive(Drop)]
-pub(crate) struct Open;
-
-impl Gate for Open {
-    fn before(&self, _: Worker, _: u64) -> bool {
-        true
-    }
-
-    fn after(&self, _: Worker, _: u64) {}
-}
-
-impl Watch for Open {
-    fn noted(&self, _: Player, _: usize) {}
-}
-
 /// Lets each worker make `most` turns, counts those of all, and keeps how many notes each player has.
 #[derive(Drop)]
 pub(crate) struct Turns {

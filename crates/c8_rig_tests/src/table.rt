@@ -1,7 +1,7 @@
 //! The turns of each player of a match in threads are those that the words of its generator name, in their order.
 //!
 //! Each player is played again alone, by its list: a new peer makes the calls of the table, and hears what the log has.
-use crate::gates::Open;
+use crate::gates::Turns;
 use crate::matches::games;
 use c8_disk::MemDisk;
 use c8_game::{Game, Keys, Player};
@@ -256,7 +256,8 @@ fn players_take_the_turns_of_their_generators(rt: HostRuntime) -> Result<(), Fai
     for text in games() {
         let game = Game::read(rt.alloc(), text.as_bytes())?;
         for seed in 1..SEEDS + 1 {
-            let gathering = rig(&rt, rt.alloc(), &game, seed, TURNS, &Open)?;
+            let gate = Turns::new(u64::MAX);
+            let gathering = rig(&rt, rt.alloc(), &game, seed, TURNS, &gate)?;
             let Gathering::Gathered { log, .. } = gathering else {
                 return Err(Fail::new("torn"));
             };

@@ -1,19 +1,12 @@
 //! A third socket that floods a player with datagrams: none of them is given.
-use c8_game::Player;
+use crate::sockets::any;
 use c8_transport::{LONGEST_PACKET, Wire};
 use c8_udp::{Addresses, Remote, Udp};
-use std::net::{Ipv4Addr, SocketAddr, UdpSocket};
+use std::net::{SocketAddr, UdpSocket};
 use std::test::Fail;
-
-const LOCALHOST: Ipv4Addr = Ipv4Addr::LOCALHOST;
 
 /// How many packets come from elsewhere before each of the match; the system keeps twice as many for a socket.
 const MANY: u64 = 60;
-
-/// Any free port.
-fn any() -> SocketAddr {
-    SocketAddr::from((LOCALHOST, 0))
-}
 
 /// A wire of player 1 at an address, to player 2, and to a watcher in seat 5.
 fn wire_at(

@@ -1,17 +1,11 @@
 //! A lost datagram that the system reports.
-use c8_game::Player;
+use crate::sockets::{TWO, any};
 use c8_transport::{LONGEST_PACKET, Wire};
 use c8_udp::{Addresses, Remote, Udp};
 use c8_wire::Seat;
 use mio::net::UdpSocket as OwnSocket;
-use std::net::{Ipv4Addr, SocketAddr, UdpSocket};
+use std::net::UdpSocket;
 use std::test::Fail;
-
-const TWO: Player = Player { number: 2 };
-
-fn any() -> SocketAddr {
-    SocketAddr::from((Ipv4Addr::LOCALHOST, 0))
-}
 
 /// A wire whose socket is connected to player 2, who has sent it a packet and is gone.
 fn connected(rt: &HostRuntime) -> Result<Udp, Fail> {

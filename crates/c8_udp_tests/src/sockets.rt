@@ -8,12 +8,12 @@ use std::test::Fail;
 use std::time::{Duration, Instant};
 use std::{io, thread};
 
-const TWO: Player = Player { number: 2 };
+pub(crate) const TWO: Player = Player { number: 2 };
 
 const THREE: Player = Player { number: 3 };
 
 /// Any free port.
-fn any() -> SocketAddr {
+pub(crate) fn any() -> SocketAddr {
     SocketAddr::from((Ipv4Addr::LOCALHOST, 0))
 }
 

@@ -70,15 +70,6 @@ impl Letter {
         letter
     }
 
-    /// Rows as a SHOW spells them.
-    pub(crate) fn rows(rows: &[Row]) -> Letter {
-        let mut letter = Letter::new();
-        for row in rows {
-            letter.add_row(row);
-        }
-        letter
-    }
-
     pub(crate) fn bytes(&self) -> &[u8] {
         match self.bytes.get(..self.size) {
             Some(bytes) => bytes,

@@ -1,23 +1,19 @@
 //! Tests of watching a match that neither a contract nor a script of `c8play sim` covers. The scripts are the cases in
 //! crates/c8play_cases/data whose names begin with `sim_watch`.
 //!
-//! c8_spectator: altered datagrams (`changed`), the longest game and printed texts (`longest`), memory refused
-//! (`memory`). c8_world: the bytes of one match (`script`), and random matches (`chance`). c8_watch: `turns`.
+//! c8_spectator: its printed text (`printed`), memory refused (`memory`). c8_world: random matches (`chance`).
+//! c8_watch: `turns`.
 #![tactic(auto)]
 
 #[cfg(test)]
 mod chance;
 #[cfg(test)]
-mod changed;
-#[cfg(test)]
 mod letter;
-#[cfg(test)]
-mod longest;
 #[cfg(test)]
 mod memory;
 #[cfg(test)]
 mod played;
 #[cfg(test)]
-mod script;
+mod printed;
 #[cfg(test)]
 mod turns;

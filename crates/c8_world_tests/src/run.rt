@@ -19,14 +19,6 @@ pub(crate) fn answers_to(
     }
 }
 
-/// Returns the answer to one event; `None` if memory is refused.
-pub(crate) fn answer_to(alloc: Global, world: &mut World<'_>, event: Event) -> Option<Answer> {
-    match answers_to(alloc, world, &[event]) {
-        Some(answers) => answers.first().copied(),
-        None => None,
-    }
-}
-
 /// Returns what the two players of a match have, if they agree.
 pub(crate) fn ends(alloc: Global, world: &World<'_>) -> Option<[Tally; 2]> {
     let ends = world.ends(alloc).ok()?;
