@@ -7,5 +7,5 @@ all_taken : (known : Option (List ℕ)) (n : ℕ) (items : List ℕ) → IfSome 
 all_taken None n items taken short = tt
 all_taken (Some bytes) n items taken short = taken ∙ take_all n bytes (omega (arith, ap length taken, length-take n bytes))
 
-pub returns-in-Ok-clause-whole : goal.returns-in-Ok-clause-whole
-returns-in-Ok-clause-whole g c = all_taken (g.R.Read.remaining c.args.reader) 1073741825 c.read_to_end.new.buf.items (rw (c.take.ensures.limit, c.take.ensures.inner, c.new-image.ensures.items) at c.in-Ok.ensures.bytes) (omega (arith, c.read_to_end.new.buf.ok))
+pub returns-in-Ok-read_to_end-clause-whole : goal.returns-in-Ok-read_to_end-clause-whole
+returns-in-Ok-read_to_end-clause-whole g c = all_taken (g.R.Read.remaining c.args.reader) 1073741825 c.read_to_end.new.buf.items (rw (c.take.ensures.limit, c.take.ensures.inner, c.in-Ok.ensures.items) at c.in-Ok-read_to_end.ensures.bytes) (omega (arith, c.read_to_end.new.buf.ok))
