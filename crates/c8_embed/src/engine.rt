@@ -17,7 +17,7 @@ use c8_peer::{
     Check, CheckError, DecideError, Heard, Kind, LeaveError, OpenError, Peer, Refused, TickError,
 };
 use c8_schedule::{MOST_DUE, Schedule};
-use c8_wire::{LONGEST_DATAGRAM, view};
+use c8_wire::{Header, LONGEST_DATAGRAM, view};
 use std::alloc::Global;
 use std::fmt;
 use std::marker::Model;
@@ -133,11 +133,10 @@ impl<'g, D: Disk> Engine<'g, D> {
         deliveries_are_calls();
         let _sound = self.peer.is_down();
         self.is_told = false;
-        let Ok(datagram) = view(bytes) else {
-            return self.peer.deliver(bytes);
-        };
-        let answer = self.peer.deliver_datagram(&datagram);
-        self.schedule.heard(datagram.header(), answer);
+        let (answer, header) = hear(&mut self.peer, bytes);
+        if let Some(header) = header {
+            self.schedule.heard(header, answer);
+        }
         answer
     }
 
@@ -217,5 +216,18 @@ impl<'g, D: Disk> Engine<'g, D> {
         ensures { result.now ≡ self.now.steps.given }
     {
         self.steps.given()
+    }
+}
+
+/// Delivers received bytes to a peer, and lends the header if they are a datagram.
+fn hear<'b, D: Disk>(
+    peer: &mut Peer<'_, D>,
+    bytes: &'b [u8],
+) -> (Result<Heard, Refused>, Option<Header<'b>>)
+    ensures { IsAnswered D.Disk peer.old (Deliver (read bytes.now)) (Delivered result.0) peer.new }
+{
+    match view(bytes) {
+        Ok(datagram) => (peer.deliver_datagram(&datagram), Some(datagram.header())),
+        Err(_) => (peer.deliver(bytes), None),
     }
 }
