@@ -37,7 +37,7 @@ impl Content {
 pub enum Fault {
     /// It fails, with this error of the system.
     Error(i32),
-    /// It reads or writes at most so many bytes.
+    /// It reads or writes at most this number of bytes.
     Moves(usize),
 }
 
@@ -110,7 +110,7 @@ impl FakeSystem {
     }
 }
 
-/// Copies what there is room for, at most so many bytes.
+/// Copies what there is room for, up to a number of bytes.
 fn copy_some(from: &[u8], to: &mut [u8], most: usize) -> usize
     ensures from { result ≤ length from.now }
     ensures to { result ≤ length to.new }
