@@ -83,7 +83,7 @@ all_open image k below full = λ m lt. elim (cases_lt m (32 * k)) [
       subst (λ (n : ℕ). is_open image n ≡ true) place (sym (same_open image k i here) ∙ (front_of (block image k)).below i (omega (arith, here, full)))
 ]
 
--- so many slots that are open are no more than those that are kept
+-- the first open slots are all kept
 pub few : (image : List ℕ) (n : ℕ) → AreOpen image n → n ≤ kept_count image
 few image n below = elim (cases_lt (kept_count image) n) [
   | inl less ↦ absurd (both (below (kept_count image) less) (front_of image).at)

@@ -1,4 +1,4 @@
--- A journal of which an append was refused.
+-- A journal after a refused append.
 use Rattle.std.proofs.Common.{◌≡◌, ◌≤◌, ℕ, true, false, List, [], ◌∷◌, length, take, Some, sym, ◌∙◌, ap, subst, ⊎_elim}
 use Rattle.std.proofs.Math.Seq.{take-length, take-append_seam}
 use Rattle.std.proofs.lemmas.Bool.{true≢false}

@@ -61,7 +61,7 @@ version_right : (version : WireVersion) (byte : ℕ) → byte ≡ version_number
 version_right versions.One byte is = rw is refl
 version_right versions.Two byte is = rw is refl
 
--- the bytes begin with this header, before a body of so many bytes
+-- the bytes begin with this header, before a body of this size
 pub record HasHead (bytes : List ℕ) (head : HeadValue) (size : ℕ) : Type 0 where
   pub magic : number_at 0 2 bytes ≡ 0x4338
   pub code : slice_index bytes 2 ≡ version_number head.version

@@ -85,7 +85,7 @@ paired kind bytes version words is count ended fits =
     (λ i. are_no_run (is i) (count i) (ended i)) ∙ are_paired version words fits in
     and_false (has_run kind) _ right
 
--- what the table says of a body that ends with a run of so many bytes
+-- what the table says of a body that ends with a run of this size
 pub run_shaped : (place size : ℕ) (bytes : List ℕ) → length bytes ≡ place + 6 + size → nat_lt 64 (number_at (place + 4) 2 bytes) || has_wrong_size (version_at bytes) (number_at (place + 4) 2 bytes) size ≡ false
     → are_no_run (version_at bytes) (number_at (place + 4) 2 bytes) (drop (place + 6) bytes) ≡ false → IsRunAt place bytes
 run_shaped place size bytes ends count pairs =

@@ -14,8 +14,7 @@ use Rattle.c8_world.specs.World.{World, start, Open, player_of, act_inside, Happ
 use Rattle.c8_world.specs.Events.{event_of}
 use Rattle.c8_world.specs.Table.{TableValue, Holds, reported, HadMemory, TakesMemory, IsLeftBy}
 
--- Events that lead from one world to another, each of which can happen with property P, with the reported answer of
--- each.
+-- Events that lead from one world to another. Each can happen with property P, and has this reported answer.
 abbrev pub RunsBy : (Happening → Type 0) → Rules → ℕ → World → List asked.Event → List codes.Answer → World → Type 0
 RunsBy P rules room w [] [] v = v ≡ w
 RunsBy P rules room w [] (answer ∷ answers) v = ⊥
