@@ -11,7 +11,7 @@ use Rattle.c8_known.specs.checked.BeginsLaws.{begins_same, begins_more, begins_a
 use Rattle.c8_record.specs.Allowed.{IsOpening}
 use Rattle.c8_peer.specs.State as states
 use Rattle.c8_peer.specs.State.{Mode, Down, Away, State, Call, Outcome}
-use Rattle.c8_peer.specs.Steps.{Luck, Works, Refuses, outcome, done, at_mode, step}
+use Rattle.c8_peer.specs.Steps.{DiskOutcome, Works, Refuses, outcome, done, at_mode, step}
 use Rattle.c8_peer.specs.Told.{told_of}
 use Rattle.c8_peer.specs.Opening.{Opening, NoPlayer, Stands, NotWritten, NoMemory, NotRead, Unfit, Spent, found, away, opened, opening_record}
 use Rattle.c8_audit.proofs.StepLemmas.{HoldsForSteps}
@@ -29,18 +29,18 @@ pub found_grows : (s : State) (finds : Bool) → Begins s.journal (found s finds
 found_grows s true = begins_append s.journal (option_to_list s.pending)
 found_grows s false = begins_same s.journal
 
-done_grows : (s : State) (call : Call) (o : Outcome) (keeps : Option Record) (luck : Luck) → Grows s (done s call o keeps luck).state
-done_grows s call o None luck = record { grown = begins_same s.journal; settled = λ was. was }
+done_grows : (s : State) (call : Call) (o : Outcome) (keeps : Option Record) (on_disk : DiskOutcome) → Grows s (done s call o keeps on_disk).state
+done_grows s call o None on_disk = record { grown = begins_same s.journal; settled = λ was. was }
 done_grows s call o (Some r) Works = record { grown = begins_append s.journal (r ∷ []); settled = λ was. was }
 done_grows s call o (Some r) (Refuses why) = record { grown = begins_same s.journal; settled = λ was up. absurd cc }
 
-mode_grows : (s : State) (call : Call) (o : Outcome) (mode : Mode) (luck : Luck) → Grows s (at_mode s call o mode luck).state
-mode_grows s call o states.Open luck = done_grows s call o o.keeps luck
-mode_grows s call o Down luck = record { grown = begins_same s.journal; settled = λ was. was }
-mode_grows s call o Away luck = record { grown = begins_same s.journal; settled = λ was. was }
+mode_grows : (s : State) (call : Call) (o : Outcome) (mode : Mode) (on_disk : DiskOutcome) → Grows s (at_mode s call o mode on_disk).state
+mode_grows s call o states.Open on_disk = done_grows s call o o.keeps on_disk
+mode_grows s call o Down on_disk = record { grown = begins_same s.journal; settled = λ was. was }
+mode_grows s call o Away on_disk = record { grown = begins_same s.journal; settled = λ was. was }
 
-step_grows : (rules : Rules) (me : ℕ) (s : State) (call : Call) (luck : Luck) → Grows s (step rules me s call luck).state
-step_grows rules me s call luck = mode_grows s call (outcome rules (told_of rules me s.journal) (known_of rules me s.journal) s.memory call) s.mode luck
+step_grows : (rules : Rules) (me : ℕ) (s : State) (call : Call) (on_disk : DiskOutcome) → Grows s (step rules me s call on_disk).state
+step_grows rules me s call on_disk = mode_grows s call (outcome rules (told_of rules me s.journal) (known_of rules me s.journal) s.memory call) s.mode on_disk
 
 away_grows : (s : State) (journal : List Record) (pending : Option Record) → Begins s.journal journal → Grows s (away s journal pending)
 away_grows s journal pending begins = record { grown = begins; settled = λ was up. absurd cc }
@@ -58,7 +58,7 @@ pub all_grow : (rules : Rules) (room p : ℕ) → HoldsForSteps rules room p Gro
 all_grow rules room p = record {
   same = λ s. record { grown = begins_same s.journal; settled = λ was. was };
   more = λ s u t one two. record { grown = begins_more s.journal u.journal t.journal one.grown two.grown; settled = λ was. two.settled (one.settled was) };
-  called = λ s call luck up. step_grows rules p s call luck;
+  called = λ s call on_disk up. step_grows rules p s call on_disk;
   opens = λ s finds o down. opened_grows rules room p s (found s finds) o (found_grows s finds);
   crashes = λ s finds. away_grows s (found s finds) None (found_grows s finds);
 }
@@ -196,18 +196,18 @@ pub record Fares (me : ℕ) (before : List Record) (x : Record) (s t : State) : 
   pub kept : Keeps before x s → Keeps before x t ⊎ Lacks me before t
   pub lost : Lacks me before s → Lacks me before t
 
-step_keeps : (rules : Rules) (me : ℕ) (before : List Record) (x : Record) (s : State) (call : Call) (luck : Luck) → s.mode ≡ states.Open → Keeps before x s
-    → Keeps before x (step rules me s call luck).state
-step_keeps rules me before x s call luck up (inl waits) = absurd (waits.mode up)
-step_keeps rules me before x s call luck up (inr begins) = inr (begins_more (before ++ x ∷ []) s.journal (step rules me s call luck).state.journal begins (step_grows rules me s call luck).grown)
+step_keeps : (rules : Rules) (me : ℕ) (before : List Record) (x : Record) (s : State) (call : Call) (on_disk : DiskOutcome) → s.mode ≡ states.Open → Keeps before x s
+    → Keeps before x (step rules me s call on_disk).state
+step_keeps rules me before x s call on_disk up (inl waits) = absurd (waits.mode up)
+step_keeps rules me before x s call on_disk up (inr begins) = inr (begins_more (before ++ x ∷ []) s.journal (step rules me s call on_disk).state.journal begins (step_grows rules me s call on_disk).grown)
 
-step_lacks : (rules : Rules) (me : ℕ) (before : List Record) (s : State) (call : Call) (luck : Luck) → s.mode ≡ states.Open → Lacks me before s → Lacks me before (step rules me s call luck).state
-step_lacks rules me before s call luck up (inl without) = absurd (without.mode up)
-step_lacks rules me before s call luck up (inr has) =
+step_lacks : (rules : Rules) (me : ℕ) (before : List Record) (s : State) (call : Call) (on_disk : DiskOutcome) → s.mode ≡ states.Open → Lacks me before s → Lacks me before (step rules me s call on_disk).state
+step_lacks rules me before s call on_disk up (inl without) = absurd (without.mode up)
+step_lacks rules me before s call on_disk up (inr has) =
     inr (record {
       record_is = has.record_is;
       opening = has.opening;
-      begins = begins_more (before ++ has.record_is ∷ []) s.journal (step rules me s call luck).state.journal has.begins (step_grows rules me s call luck).grown;
+      begins = begins_more (before ++ has.record_is ∷ []) s.journal (step rules me s call on_disk).state.journal has.begins (step_grows rules me s call on_disk).grown;
     })
 
 pub all_fare : (rules : Rules) (room p : ℕ) (before : List Record) (x : Record) → HoldsForSteps rules room p (Fares p before x)
@@ -217,7 +217,7 @@ all_fare rules room p before x = record {
     kept = λ keeps. ⊎_elim (λ still. two.kept still) (λ lacks. inr (two.lost lacks)) (one.kept keeps);
     lost = λ lacks. two.lost (one.lost lacks);
   };
-  called = λ s call luck up. record { kept = λ keeps. inl (step_keeps rules p before x s call luck up keeps); lost = λ lacks. step_lacks rules p before s call luck up lacks };
+  called = λ s call on_disk up. record { kept = λ keeps. inl (step_keeps rules p before x s call on_disk up keeps); lost = λ lacks. step_lacks rules p before s call on_disk up lacks };
   opens = λ s finds o down. record { kept = λ keeps. opened_keeps rules room p before x s finds o keeps; lost = λ lacks. opened_lacks rules room p before s finds o lacks };
   crashes = λ s finds. record {
     kept = λ keeps. crash_keeps p before x s (found s finds) (keeps_read before x s finds keeps);

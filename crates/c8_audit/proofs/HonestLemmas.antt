@@ -88,7 +88,7 @@ settled_at w p finds = with_peer w p (away (peer_of w p) (found (peer_of w p) fi
 crash_can : (rules : Rules) (room : ℕ) (w : World) (p : ℕ) (finds : Bool) → IsPlayer rules p → CanHappen rules room w (Stop (Give (length w.said) p) 0 0) Stopped (settled_at w p finds)
 unfolding acted
 crash_can rules room w p finds plays =
-    let h : Happening = record { finds = false; opening = NoMemory; luck = Works; leaves = finds } in
+    let h : Happening = record { finds = false; opening = NoMemory; on_disk = Works; leaves = finds } in
     let still : (acted rules room w (Give (length w.said) p) h).world ≡ w = ap (λ o. (give_to rules w p Works o).world) (none_past w.said) in
     let crash : crashed rules w p finds ≡ settled_at w p finds = ap (λ (b : Bool). if b then settled_at w p finds else w) (player_is rules p plays) in
     record {

@@ -1,7 +1,7 @@
 -- The records that two readings of a file keep.
 use Rattle.std.proofs.Common.{◌≡◌, ◌≢◌, ℕ, zero, suc, ◌+◌, ◌<◌, ◌≤◌, List, [], ◌∷◌, ◌++◌, length, map, true, Option, Some, None, refl, sym, ap, subst, ◌∙◌, arith, eq-eqb}
 use Rattle.std.specs.List.{slice_get}
-use Rattle.std.proofs.lemmas.List.{map-append}
+use Rattle.std.proofs.lemmas.List.{append-nil, map-append}
 use Rattle.std.proofs.lemmas.Option.{slice_get_within}
 use Rattle.c8_game.specs.Rules.{Rules, id_of}
 use Rattle.c8_known.specs.Growth.{Begins}
@@ -14,7 +14,9 @@ use Rattle.c8_check.specs.Checks.{ChecksValue}
 use Rattle.c8_known.specs.Known.{KnownValue, known_of, IsKnown, IsOfGame}
 use Rattle.c8_record.specs.Allowed.{IsJournal}
 use Rattle.c8_image.specs.Journal.{IsKept}
-use Rattle.c8_audit.specs.Images.{names_player, IsReadTwice}
+use Rattle.c8_log.specs.Slots.{kept}
+use Rattle.c8_audit.specs.Images.{names_player, readings_of, IsReadTwice}
+use Rattle.c8_audit.specs.Read.{later_of, IsLater}
 use Rattle.c8_audit.specs.Journals.{Seen, seen_of}
 
 pub some_same : {X : Type 0} (x y : X) → Some x ≡ Some y → x ≡ y
@@ -52,24 +54,38 @@ same_owner first later p q id other room there begins one two =
 -- ---- two readings
 
 -- both are journals of the player whom the first one's HEAD names
-pub read_is : (rules : Rules) (first later : List (List ℕ)) (room there : ℕ) (one two : KnownValue) (checks others : ChecksValue) → IsKept rules None first room one checks → IsKept rules (Some room) later there two others
-    → IsKnown one → IsOfGame rules one.me one → Begins first later → IsReadTwice rules room one.me (record { first = records_of first; later = records_of later })
-read_is rules first later room there one two checks others is again known of begins =
+pub read_is : (rules : Rules) (first later : List ℕ) (room : ℕ) (one : KnownValue) (two : Option KnownValue) (checks : ChecksValue) → IsKept rules None (kept first) room one checks → IsLater rules room first later two
+    → IsKnown one → IsOfGame rules one.me one → IsReadTwice rules room one.me (readings_of first later)
+read_is rules first later room one None checks is same known of =
     let me = known.me in
     let in_game = me.in_game in
     let players = of.players in
-    let mine : two.me ≡ one.me = same_owner first later one.me two.me (id_of rules) (id_of rules) room there begins is.head again.head in
     record {
       from_one = me.from_one;
       in_game = omega (arith, in_game, players);
       first_is = is.journal.journal;
-      later_is = subst (λ (p : ℕ). IsJournal rules p room (records_of later)) mine (subst (λ (r : ℕ). IsJournal rules two.me r (records_of later)) (sym again.asked_is) again.journal.journal);
-      continues = records_begin first later begins;
+      later_is = subst (λ (bytes : List ℕ). IsJournal rules one.me room (records_of (kept bytes))) same is.journal.journal;
+      continues = subst (λ (bytes : List ℕ). Begins (records_of (kept first)) (records_of (kept bytes))) same (record { rest = []; is = sym (append-nil (records_of (kept first))) });
+    }
+read_is rules first later room one (Some two) checks is (again, begins) known of =
+    let me = known.me in
+    let in_game = me.in_game in
+    let players = of.players in
+    let mine : again.me ≡ one.me = same_owner (kept first) (kept later) one.me again.me (id_of rules) (id_of rules) room again.room begins is.head again.head in
+    record {
+      from_one = me.from_one;
+      in_game = omega (arith, in_game, players);
+      first_is = is.journal.journal;
+      later_is = subst (λ (p : ℕ). IsJournal rules p room (records_of (kept later))) mine (subst (λ (r : ℕ). IsJournal rules again.me r (records_of (kept later))) (sym again.asked_is) again.journal.journal);
+      continues = records_begin (kept first) (kept later) begins;
     }
 
-pub seen_is : (rules : Rules) (first later : List (List ℕ)) (room there : ℕ) (one two : KnownValue) (checks others : ChecksValue) → IsKept rules None first room one checks → IsKept rules (Some room) later there two others
-    → Begins first later → (let s : Seen = record { first = one; later = two; last = checks.last } in s) ≡ seen_of rules one.me (record { first = records_of first; later = records_of later })
-seen_is rules first later room there one two checks others is again begins =
-    let mine : two.me ≡ one.me = same_owner first later one.me two.me (id_of rules) (id_of rules) room there begins is.head again.head in
-    let late : two ≡ known_of rules one.me (records_of later) = again.known_is ∙ ap (λ (p : ℕ). known_of rules p (records_of later)) mine in
+pub seen_is : (rules : Rules) (first later : List ℕ) (room : ℕ) (one : KnownValue) (two : Option KnownValue) (checks : ChecksValue) → IsKept rules None (kept first) room one checks → IsLater rules room first later two
+    → (let s : Seen = record { first = one; later = later_of one two; last = checks.last } in s) ≡ seen_of rules one.me (readings_of first later)
+seen_is rules first later room one None checks is same =
+    let late : one ≡ known_of rules one.me (records_of (kept later)) = is.known_is ∙ ap (λ (bytes : List ℕ). known_of rules one.me (records_of (kept bytes))) same in
+    λ i. record { first = is.known_is i; later = late i; last = (is.checks_is i).last }
+seen_is rules first later room one (Some two) checks is (again, begins) =
+    let mine : again.me ≡ one.me = same_owner (kept first) (kept later) one.me again.me (id_of rules) (id_of rules) room again.room begins is.head again.head in
+    let late : two ≡ known_of rules one.me (records_of (kept later)) = again.known_is ∙ ap (λ (p : ℕ). known_of rules p (records_of (kept later))) mine in
     λ i. record { first = is.known_is i; later = late i; last = (is.checks_is i).last }

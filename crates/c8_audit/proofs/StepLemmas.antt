@@ -9,7 +9,7 @@ use Rattle.c8_wire.specs.Packet.{Packet}
 use Rattle.c8_known.specs.Journal.{Record}
 use Rattle.c8_peer.specs.State as states
 use Rattle.c8_peer.specs.State.{Mode, Down, Away, State, Call}
-use Rattle.c8_peer.specs.Steps.{Luck, step}
+use Rattle.c8_peer.specs.Steps.{DiskOutcome, step}
 use Rattle.c8_peer.specs.Opening.{Opening, found, away, opened}
 use Rattle.c8_world.specs.World.{World, never_opened, is_player, peer_of, Act, Open, Tick, Say, Give, Leave, Decide, Check, Show, Hear, Seen, Fresh, Event, Do, Stop, player_of, Happening, Answer, After, call_at_mode, call_at, open_at_mode, give_to, hear_at, acted, crashed, after, CanHappen, Chain}
 use Rattle.c8_world.specs.Agreement.{IsPlayer}
@@ -18,7 +18,7 @@ use Rattle.c8_world.specs.Agreement.{IsPlayer}
 pub record HoldsForSteps (rules : Rules) (room p : ℕ) (R : State → State → Type 0) : Type 0 where
   pub same : (s : State) → R s s
   pub more : (s u t : State) → R s u → R u t → R s t
-  pub called : (s : State) (call : Call) (luck : Luck) → s.mode ≡ states.Open → R s (step rules p s call luck).state
+  pub called : (s : State) (call : Call) (on_disk : DiskOutcome) → s.mode ≡ states.Open → R s (step rules p s call on_disk).state
   pub opens : (s : State) (finds : Bool) (o : Opening) → s.mode ≢ states.Open → R s (opened rules room p s (found s finds) o).state
   pub crashes : (s : State) (finds : Bool) → R s (away s (found s finds) None)
 
@@ -71,17 +71,17 @@ world_if P false x y when unless = unless
 
 -- ---- an event
 
-moved_mode : (rules : Rules) (room p : ℕ) (R : State → State → Type 0) (w : World) (q : ℕ) (call : Call) (luck : Luck) (mode : Mode) → HoldsForSteps rules room p R → length w.peers ≡ rules.players → IsPlayer rules q → IsPlayer rules p
-    → (peer_of w q).mode ≡ mode → HasMoved p R w (call_at_mode rules w q call luck mode).world
-moved_mode rules room p R w q call luck states.Open holds nodes plays own up = moved_one rules room p R w q _ _ holds nodes plays (λ same. subst (λ (me : ℕ). R (peer_of w q) (step rules me (peer_of w q) call luck).state) (sym same) (holds.called (peer_of w q) call luck up)) own
-moved_mode rules room p R w q call luck Down holds nodes plays own up = moved_same rules room p R w holds
-moved_mode rules room p R w q call luck Away holds nodes plays own up = moved_same rules room p R w holds
+moved_mode : (rules : Rules) (room p : ℕ) (R : State → State → Type 0) (w : World) (q : ℕ) (call : Call) (on_disk : DiskOutcome) (mode : Mode) → HoldsForSteps rules room p R → length w.peers ≡ rules.players → IsPlayer rules q → IsPlayer rules p
+    → (peer_of w q).mode ≡ mode → HasMoved p R w (call_at_mode rules w q call on_disk mode).world
+moved_mode rules room p R w q call on_disk states.Open holds nodes plays own up = moved_one rules room p R w q _ _ holds nodes plays (λ same. subst (λ (me : ℕ). R (peer_of w q) (step rules me (peer_of w q) call on_disk).state) (sym same) (holds.called (peer_of w q) call on_disk up)) own
+moved_mode rules room p R w q call on_disk Down holds nodes plays own up = moved_same rules room p R w holds
+moved_mode rules room p R w q call on_disk Away holds nodes plays own up = moved_same rules room p R w holds
 
-moved_call : (rules : Rules) (room p : ℕ) (R : State → State → Type 0) (w : World) (q : ℕ) (call : Call) (luck : Luck) → HoldsForSteps rules room p R → length w.peers ≡ rules.players → IsPlayer rules p
-    → HasMoved p R w (call_at rules w q call luck).world
-moved_call rules room p R w q call luck holds nodes own =
+moved_call : (rules : Rules) (room p : ℕ) (R : State → State → Type 0) (w : World) (q : ℕ) (call : Call) (on_disk : DiskOutcome) → HoldsForSteps rules room p R → length w.peers ≡ rules.players → IsPlayer rules p
+    → HasMoved p R w (call_at rules w q call on_disk).world
+moved_call rules room p R w q call on_disk holds nodes own =
     if_player (λ (a : After). HasMoved p R w a.world) (is_player rules q) _ _
-    (λ is. moved_mode rules room p R w q call luck (peer_of w q).mode holds nodes (plays_if rules q is) own refl)
+    (λ is. moved_mode rules room p R w q call on_disk (peer_of w q).mode holds nodes (plays_if rules q is) own refl)
     (moved_same rules room p R w holds)
 
 moved_opening : (rules : Rules) (room p : ℕ) (R : State → State → Type 0) (w : World) (q : ℕ) (h : Happening) (mode : Mode) → HoldsForSteps rules room p R → length w.peers ≡ rules.players → IsPlayer rules q → IsPlayer rules p
@@ -90,10 +90,10 @@ moved_opening rules room p R w q h states.Open holds nodes plays own at = moved_
 moved_opening rules room p R w q h Down holds nodes plays own at = moved_one rules room p R w q _ _ holds nodes plays (λ same. subst (λ (me : ℕ). R (peer_of w q) (opened rules room me (peer_of w q) (found (peer_of w q) h.finds) h.opening).state) (sym same) (holds.opens (peer_of w q) h.finds h.opening (λ e. let no_mode : Down ≡ states.Open = sym at ∙ e in cc))) own
 moved_opening rules room p R w q h Away holds nodes plays own at = moved_one rules room p R w q _ _ holds nodes plays (λ same. subst (λ (me : ℕ). R (peer_of w q) (opened rules room me (peer_of w q) (found (peer_of w q) h.finds) h.opening).state) (sym same) (holds.opens (peer_of w q) h.finds h.opening (λ e. let no_mode : Away ≡ states.Open = sym at ∙ e in cc))) own
 
-moved_given : (rules : Rules) (room p : ℕ) (R : State → State → Type 0) (w : World) (q : ℕ) (luck : Luck) (o : Option Packet) → HoldsForSteps rules room p R → length w.peers ≡ rules.players → IsPlayer rules p
-    → HasMoved p R w (give_to rules w q luck o).world
-moved_given rules room p R w q luck None holds nodes own = moved_same rules room p R w holds
-moved_given rules room p R w q luck (Some packet) holds nodes own = moved_call rules room p R w q (states.Deliver (Ok packet)) luck holds nodes own
+moved_given : (rules : Rules) (room p : ℕ) (R : State → State → Type 0) (w : World) (q : ℕ) (on_disk : DiskOutcome) (o : Option Packet) → HoldsForSteps rules room p R → length w.peers ≡ rules.players → IsPlayer rules p
+    → HasMoved p R w (give_to rules w q on_disk o).world
+moved_given rules room p R w q on_disk None holds nodes own = moved_same rules room p R w holds
+moved_given rules room p R w q on_disk (Some packet) holds nodes own = moved_call rules room p R w q (states.Deliver (Ok packet)) on_disk holds nodes own
 
 moved_heard : (rules : Rules) (room p : ℕ) (R : State → State → Type 0) (w : World) (watcher : ℕ) (o : Option Packet) → HoldsForSteps rules room p R → HasMoved p R w (hear_at rules room w watcher o).world
 moved_heard rules room p R w watcher None holds = moved_same rules room p R w holds
@@ -105,13 +105,13 @@ moved_act rules room p R w (Open q) h holds nodes own =
     if_player (λ (a : After). HasMoved p R w a.world) (is_player rules q) _ _
     (λ is. moved_opening rules room p R w q h (peer_of w q).mode holds nodes (plays_if rules q is) own refl)
     (moved_same rules room p R w holds)
-moved_act rules room p R w (Tick q keys) h holds nodes own = moved_call rules room p R w q (states.Tick keys) h.luck holds nodes own
-moved_act rules room p R w (Say q to what) h holds nodes own = moved_call rules room p R w q (states.Say to what) h.luck holds nodes own
-moved_act rules room p R w (Give number q) h holds nodes own = moved_given rules room p R w q h.luck (slice_get w.said number) holds nodes own
-moved_act rules room p R w (Leave leaver) h holds nodes own = moved_call rules room p R w 1 (states.Leave leaver) h.luck holds nodes own
-moved_act rules room p R w (Decide leaver) h holds nodes own = moved_call rules room p R w 1 (states.Decide leaver) h.luck holds nodes own
-moved_act rules room p R w (Check q) h holds nodes own = moved_call rules room p R w q states.Checkpoint h.luck holds nodes own
-moved_act rules room p R w (Show watcher) h holds nodes own = moved_call rules room p R w 1 (states.Show watcher) h.luck holds nodes own
+moved_act rules room p R w (Tick q keys) h holds nodes own = moved_call rules room p R w q (states.Tick keys) h.on_disk holds nodes own
+moved_act rules room p R w (Say q to what) h holds nodes own = moved_call rules room p R w q (states.Say to what) h.on_disk holds nodes own
+moved_act rules room p R w (Give number q) h holds nodes own = moved_given rules room p R w q h.on_disk (slice_get w.said number) holds nodes own
+moved_act rules room p R w (Leave leaver) h holds nodes own = moved_call rules room p R w 1 (states.Leave leaver) h.on_disk holds nodes own
+moved_act rules room p R w (Decide leaver) h holds nodes own = moved_call rules room p R w 1 (states.Decide leaver) h.on_disk holds nodes own
+moved_act rules room p R w (Check q) h holds nodes own = moved_call rules room p R w q states.Checkpoint h.on_disk holds nodes own
+moved_act rules room p R w (Show watcher) h holds nodes own = moved_call rules room p R w 1 (states.Show watcher) h.on_disk holds nodes own
 moved_act rules room p R w (Hear number watcher) h holds nodes own = moved_heard rules room p R w watcher (slice_get w.said number) holds
 moved_act rules room p R w (Seen watcher) h holds nodes own = record { nodes = refl; moved = holds.same (peer_of w p) }
 moved_act rules room p R w (Fresh watcher) h holds nodes own = record { nodes = refl; moved = holds.same (peer_of w p) }

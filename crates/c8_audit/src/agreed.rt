@@ -48,7 +48,7 @@ pub fn is_dropped(journals: &[Option<Journal>], player: Player) -> bool
     ensures { result ≡ is_dropped (all_seen journals.now) player.number }
 {
     match journal_of(journals, Player::CHAIR) {
-        Some(one) if player.number <= one.later.players() => one.later.leaving(player),
+        Some(one) if player.number <= one.later().players() => one.later().leaving(player),
         _ => false,
     }
 }

@@ -26,7 +26,7 @@ pub(crate) fn first_unentered(
 {
     let cut = cut_of(journals, player);
     match (journal_of(journals, by), journal_of(journals, player)) {
-        (Some(by), Some(own)) => first_never(&by.first, cut, &own.later, player),
+        (Some(by), Some(own)) => first_never(&by.first, cut, own.later(), player),
         _ => None,
     }
 }
@@ -37,7 +37,7 @@ pub fn cut_of(journals: &[Option<Journal>], player: Player) -> Option<u32>
     ensures { result ≡ cut_in (all_seen journals.now) player.number }
 {
     match journal_of(journals, Player::CHAIR) {
-        Some(one) if player.number <= one.later.players() => one.later.cut_of(player),
+        Some(one) if player.number <= one.later().players() => one.later().cut_of(player),
         _ => None,
     }
 }

@@ -1,7 +1,7 @@
 //! The journals of a match, as an audit reads them.
 
 ghost use Rattle.std.specs.Prelude.{◌≡◌, option_map};
-ghost use Rattle.c8_audit.specs.Read.{seen, all_seen};
+ghost use Rattle.c8_audit.specs.Read.{later_of, seen, all_seen};
 
 use crate::tallies::Tally;
 use c8_check::Checks;
@@ -15,10 +15,22 @@ pub struct Journal {
     pub first: Known,
     /// What the first reading says of checkpoints.
     pub checks: Checks,
-    /// What the second reading makes known.
-    pub later: Known,
+    /// What the second reading makes known; `None` if it has the same bytes as the first.
+    pub later: Option<Known>,
     /// How many records the first reading keeps.
     pub tally: Tally,
+}
+
+impl Journal {
+    /// Returns what the second reading makes known.
+    pub fn later(&self) -> &Known
+        ensures { result.now ≡ later_of self.now.first self.now.later }
+    {
+        match &self.later {
+            Some(later) => later,
+            None => &self.first,
+        }
+    }
 }
 
 /// Returns the journal of a player, if it is given. Player 1's is at place 0.

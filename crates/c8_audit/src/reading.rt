@@ -5,13 +5,15 @@ ghost use Rattle.c8_known.specs.Growth.{Begins};
 ghost use Rattle.c8_log.specs.Slots.{kept};
 ghost use Rattle.c8_audit.specs.Images.{IsReadTwice, names_player, readings_of, IsUnread};
 ghost use Rattle.c8_audit.specs.Journals.{seen_of};
-ghost use Rattle.c8_audit.specs.Read.{seen};
+ghost use Rattle.c8_audit.specs.Read.{seen, IsLater};
 
 use crate::error::Unread;
 use crate::journal::Journal;
 use crate::tallies::{Tally, tally_of};
+use c8_check::Checks;
 use c8_game::Game;
-use c8_image::{KeptJournal, journal_in};
+use c8_image::{KeptJournal, journal_in, known_in};
+use c8_known::Known;
 use c8_log::{BODY_LENGTH, kept_body, kept_len};
 use std::alloc::Global;
 
@@ -42,36 +44,56 @@ pub(crate) fn read_twice(
         Ok(one) => one,
         Err(error) => return Err(Unread::Journal(error)),
     };
-    let two = match journal_in(alloc, game, Some(one.room), later) {
-        Ok(two) => two,
+    let later = known_later(alloc, game, one.room, first, later)?;
+    // For the proof: the knowledge is sound.
+    let _me = one.known.me();
+    let KeptJournal {
+        room,
+        known,
+        checks,
+    } = one;
+    Ok(joined(room, known, checks, later, tally_of(first)))
+}
+
+/// Reads what the second reading makes known. Returns `None` if it has the same bytes as the first.
+fn known_later(
+    alloc: Global,
+    game: &Game,
+    room: u64,
+    first: &[u8],
+    later: &[u8],
+) -> Result<Option<Known>, Unread>
+    ensures later { IfOk result (λ known. IsLater game.now room first.now later.now known) }
+    ensures unread { IfErr result (λ error. IsUnread game.now first.now later.now error) }
+{
+    if are_same(first, later) {
+        return Ok(None);
+    }
+    let known = match known_in(alloc, game, Some(room), later) {
+        Ok(known) => known,
         Err(error) => return Err(Unread::Journal(error)),
     };
     if !goes_on(first, later) {
         return Err(Unread::Changed);
     }
-    // For the proof: the knowledge is sound.
-    let _me = one.known.me();
-    Ok(joined(one, two, tally_of(first)))
+    Ok(Some(known))
 }
 
-/// Joins two readings of a journal.
-fn joined(one: KeptJournal, two: KeptJournal, tally: Tally) -> Reading
-    ensures room { result.room ≡ one.room }
-    ensures first { result.journal.first ≡ one.known }
-    ensures checks { result.journal.checks ≡ one.checks }
-    ensures later { result.journal.later ≡ two.known }
+/// Returns whether two readings have the same bytes.
+fn are_same(first: &[u8], later: &[u8]) -> bool
+    ensures { (result ≡ true) ↔ (first.now ≡ later.now) }
+{
+    first == later
+}
+
+/// Joins what two readings of a journal say.
+fn joined(room: u64, first: Known, checks: Checks, later: Option<Known>, tally: Tally) -> Reading
+    ensures room { result.room ≡ room }
+    ensures first { result.journal.first ≡ first }
+    ensures checks { result.journal.checks ≡ checks }
+    ensures later { result.journal.later ≡ later }
     ensures tally { result.journal.tally ≡ tally }
 {
-    let KeptJournal {
-        room,
-        known: first,
-        checks,
-    } = one;
-    let KeptJournal {
-        room: _,
-        known: later,
-        checks: _,
-    } = two;
     let journal = Journal {
         first,
         checks,

@@ -13,6 +13,7 @@ ghost use Rattle.c8_board.specs.Tokens.{Begins, new_viewer, SeesMore};
 use crate::look::{Look, word};
 use crate::views::{Ask, Begin, Compare, Enlist, Order, Pair, Publish, Rows, Run, See, View, Wish};
 use atomic_table::{Seat, Table};
+use c8_digest::Marker;
 use c8_game::Game;
 use c8_machine::Machine;
 use std::alloc::{AllocError, Global};
@@ -48,6 +49,7 @@ impl Model for Board {
 #[derive(Drop)]
 pub struct Pen {
     seat: Seat<(), View>,
+    marker: Marker,
 }
 
 impl Model for Pen {
@@ -107,12 +109,30 @@ impl Board {
     {
         let (table, seat) = Table::of_words(alloc, &[0, 0], game)?;
         let board = Board { table };
-        let mut pen = board.begin::<Brand>(seat, game, word(count, confirmed));
+        let found = word(count, confirmed, &mut Marker::new());
+        let mut pen = board.begin::<Brand>(seat, game, found);
+        let seated = board.enlist_all(alloc, &mut pen, viewers)?;
+        Ok((board, pen, seated))
+    }
+
+    /// Makes viewers that have seen what the pen has published.
+    fn enlist_all(
+        &self,
+        alloc: Global,
+        pen: &mut Pen,
+        viewers: usize,
+    ) -> Result<Vec<Viewer>, AllocError>
+        requires { pen.old.board ≡ self.now }
+        ensures pen { pen.new ≡ pen.old }
+        ensures viewers { IfOk result (λ seated. All (λ v. v
+            ≡ new_viewer pen.old.board pen.old.game pen.old.from pen.old.rows) seated.items) }
+        ensures count { IfOk result (λ seated. vec_len seated ≡ viewers) }
+    {
         let mut seated = Vec::with_capacity(alloc, viewers)?;
         for _ in 0..viewers {
-            seated.push(board.enlist(&mut pen))?;
+            seated.push(self.enlist(&mut *pen))?;
         }
-        Ok((board, pen, seated))
+        Ok(seated)
     }
 
     /// Makes the pen of a board with nothing published, and stores the word of the rows.
@@ -124,7 +144,10 @@ impl Board {
             ≡ record { board = self.now; game = _game.now; from = R.from; rows = R.rows } }
     {
         self.table.shared.store::<Begin<R>>(&mut seat, SHOWN, found);
-        Pen { seat }
+        Pen {
+            seat,
+            marker: Marker::new(),
+        }
     }
 
     /// Makes a viewer that has seen what the pen has published.
@@ -151,7 +174,8 @@ impl Board {
             ≡ run_since pen.old.game (origin_from pen.old.from) rows }
         ensures { pen.new ≡ record pen.old { rows = rows } }
     {
-        self.store::<Brand>(pen, word(count, confirmed));
+        let found = word(count, confirmed, &mut pen.marker);
+        self.store::<Brand>(pen, found);
     }
 
     /// Stores the word of the rows.
@@ -193,14 +217,20 @@ impl Board {
         ensures game { viewer.game ≡ pen.game }
         ensures from { viewer.from ≡ pen.from }
     {
-        let Pen { seat: mut joined } = pen;
+        let Pen {
+            seat: mut joined,
+            marker,
+        } = pen;
         let Viewer { seat: other } = viewer;
         self.table.shared.join_seat::<Pair>(&mut joined, other);
         let found = self.table.shared.load::<Compare>(&mut joined, SHOWN);
         let apart = self.table.shared.split_seat::<Pair>(&mut joined);
         (
             Look::of(found),
-            Pen { seat: joined },
+            Pen {
+                seat: joined,
+                marker,
+            },
             Viewer { seat: apart },
         )
     }

@@ -3,7 +3,7 @@ ghost use Rattle.std.specs.Prelude.{◌≡◌, ◌+◌, ◌*◌, ◌/◌, ◌%�
 ghost use Rattle.c8_machine.specs.State.{state};
 ghost use Rattle.c8_board.specs.Words.{bits_of};
 
-use c8_digest::mark;
+use c8_digest::Marker;
 use c8_machine::Machine;
 use std::fmt;
 use std::marker::Model;
@@ -65,18 +65,18 @@ impl fmt::Display for Look {
 }
 
 /// Returns the word of a machine after `count` frames.
-pub(crate) fn word(count: u32, machine: &Machine) -> u64
+pub(crate) fn word(count: u32, machine: &Machine, marker: &mut Marker) -> u64
     requires { count < 2 ^ 24 }
     ensures { result ≡ count * 2 ^ 40 + bits_of (state machine.now) }
 {
-    (u64::from(count) << BITS) + bits(machine)
+    (u64::from(count) << BITS) + bits(machine, marker)
 }
 
 /// Returns the first five bytes of the machine's mark, as a number.
-fn bits(machine: &Machine) -> u64
+fn bits(machine: &Machine, marker: &mut Marker) -> u64
     ensures value { result ≡ bits_of (state machine.now) }
     ensures few { result < 2 ^ 40 }
 {
-    let [b0, b1, b2, b3, b4, _, _, _] = mark(machine);
+    let [b0, b1, b2, b3, b4, _, _, _] = marker.mark(machine);
     u64::from_be_bytes([0, 0, 0, b0, b1, b2, b3, b4])
 }

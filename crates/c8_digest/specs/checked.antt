@@ -1,3 +1,4 @@
 pub mod Read
+pub mod Parts
 pub mod DigestLaws
 pub mod OriginLaws

@@ -1,11 +1,12 @@
 //! The bytes of a machine's state, and its mark.
-ghost use Rattle.std.specs.Prelude.{◌≡◌, ◌+◌, ◌^◌, ◌<◌, ◌≤◌, [], ◌∷◌, ◌++◌, length, map, slice_index};
+ghost use Rattle.std.specs.Prelude.{◌≡◌, ◌+◌, ◌^◌, ◌<◌, ◌≤◌, [], ◌∷◌, ◌++◌, length, map, take, slice_index};
 ghost use Rattle.std.specs.List.{flat_map, range_with_len};
 ghost use Rattle.std.specs.Int.{to_be_bytes, w16, w64};
 ghost use Rattle.arrayvec.specs.ArrayVec.{array_vec_len};
 ghost use Rattle.c8_screen.specs.Points.{points_of};
 ghost use Rattle.c8_machine.specs.State.{state, memory_size};
 ghost use Rattle.c8_digest.specs.StateBytes.{screen_bytes, places, rest_bytes, state_bytes, mark_of};
+ghost use Rattle.c8_digest.specs.checked.Parts.{after_memory};
 
 use arrayvec::ArrayVec;
 use c8_machine::{MEMORY_SIZE, Machine, Stop};
@@ -14,6 +15,9 @@ use sha2::{Digest, Sha256};
 
 /// The size of a state in bytes.
 pub const STATE_LENGTH: usize = 4419;
+
+/// The size of the parts after the memory.
+const AFTER_MEMORY: usize = STATE_LENGTH - MEMORY_SIZE;
 
 /// The size of a mark in bytes.
 pub const MARK_LENGTH: usize = 8;
@@ -34,27 +38,41 @@ pub fn state_bytes(machine: &Machine, out: &mut [u8; STATE_LENGTH])
 pub fn mark(machine: &Machine) -> [u8; MARK_LENGTH]
     ensures { result ≡ mark_of (state machine.now) }
 {
-    let digest = Sha256::digest(spelled(machine).as_slice());
+    first_of(&Sha256::digest(spelled(machine).as_slice()))
+}
+
+/// Returns the first 8 bytes of a digest.
+pub(crate) fn first_of(digest: &[u8; 32]) -> [u8; MARK_LENGTH]
+    ensures { result ≡ take 8 digest.now }
+{
     match digest.first_chunk() {
         Some(mark) => *mark,
         None => unreachable!(),
     }
 }
 
-#[tactic(auto, unfolding(crate::specs::StateBytes::state_bytes))]
 pub(crate) fn spelled(machine: &Machine) -> ArrayVec<u8, STATE_LENGTH>
     ensures bytes { result.items ≡ state_bytes (state machine.now) }
     ensures length { array_vec_len result ≡ STATE_LENGTH }
 {
     let mut bytes = ArrayVec::new();
     put_memory(machine.memory(), &mut bytes);
-    put(machine.registers(), &mut bytes);
-    put(&machine.address().to_be_bytes(), &mut bytes);
-    put(&machine.counter().to_be_bytes(), &mut bytes);
-    put_stack(machine.stack(), &mut bytes);
-    put_screen(machine.screen(), &mut bytes);
-    put_rest(machine, &mut bytes);
+    put_after_memory(machine, &mut bytes);
     bytes
+}
+
+/// Appends the parts after the memory.
+pub(crate) fn put_after_memory(machine: &Machine, out: &mut ArrayVec<u8, STATE_LENGTH>)
+    requires { array_vec_len out.old + AFTER_MEMORY ≤ STATE_LENGTH }
+    ensures bytes { out.new.items ≡ out.old.items ++ after_memory (state machine.now) }
+    ensures size { array_vec_len out.new ≡ array_vec_len out.old + AFTER_MEMORY }
+{
+    put(machine.registers(), out);
+    put(&machine.address().to_be_bytes(), out);
+    put(&machine.counter().to_be_bytes(), out);
+    put_stack(machine.stack(), out);
+    put_screen(machine.screen(), out);
+    put_rest(machine, out);
 }
 
 /// Appends the parts after the screen.

@@ -2,10 +2,14 @@
 ghost use Rattle.std.specs.Prelude.{◌≡◌, ◌≤◌, ◌<◌, ◌*◌, ◌==◌, ◌++◌, [], ◌∷◌, take, drop, if◌then◌else◌, Some, IfOk};
 ghost use Rattle.std.specs.List.{list_all};
 ghost use Rattle.arrayvec.specs.ArrayVec.{array_vec_len};
+ghost use Rattle.c8_machine.specs.State.{state};
+ghost use Rattle.c8_digest.specs.StateBytes.{mark_of};
 ghost use Rattle.c8_digest.specs.Marks.{kept, mark_at, newest_of, marks_after, marks_bytes, marks_in, are_marks};
 
 use crate::digest::{MARK_LENGTH, put};
+use crate::marker::Marker;
 use arrayvec::ArrayVec;
+use c8_machine::Machine;
 use circular_buffer::HeapCircularBuffer;
 use std::alloc::{AllocError, Global};
 use std::fmt;
@@ -31,6 +35,7 @@ pub struct FrameMark {
 #[derive(Drop)]
 pub struct Marks {
     ring: HeapCircularBuffer<FrameMark>,
+    marker: Marker,
 }
 
 impl Model for Marks {
@@ -60,10 +65,20 @@ impl Marks {
     {
         Ok(Marks {
             ring: HeapCircularBuffer::with_capacity(alloc, MOST_MARKS)?,
+            marker: Marker::new(),
         })
     }
 
     /// Adds the mark of the machine after `frame` frames. If sixteen are kept, it drops the oldest.
+    pub fn put_of(&mut self, frame: u32, machine: &Machine)
+        ensures { self.new ≡ kept (self.old
+            ++ (record { frame = frame; mark = mark_of (state machine.now) }) ∷ []) }
+    {
+        let mark = self.marker.mark(machine);
+        self.put(frame, mark);
+    }
+
+    /// Adds a mark. If sixteen are kept, it drops the oldest.
     pub fn put(&mut self, frame: u32, mark: [u8; MARK_LENGTH])
         ensures { self.new
             ≡ kept (self.old ++ (record { frame = frame; mark = mark }) ∷ []) }

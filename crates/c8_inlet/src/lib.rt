@@ -13,4 +13,4 @@ mod packet;
 
 pub use ends::{Ended, Putter, Taker, after, beside, inlet};
 pub use error::TooLong;
-pub use packet::{LONGEST_PACKET, Packet};
+pub use packet::Packet;

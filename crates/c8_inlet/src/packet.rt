@@ -1,14 +1,12 @@
 //! What an inlet carries.
 ghost use Rattle.std.specs.Prelude.{◌≡◌, ◌≤◌, ◌<◌, length, MatchResult};
-ghost use Rattle.c8_inlet.specs.declared.packet.TheConstants.{LONGEST_PACKET};
+ghost use Rattle.c8_transport.specs.declared.wire.TheConstants.{LONGEST_PACKET};
 
 use crate::error::TooLong;
 use arrayvec::ArrayVec;
+use c8_transport::LONGEST_PACKET;
 use std::alloc::AllocError;
 use std::marker::Model;
-
-/// The most bytes of a packet.
-pub const LONGEST_PACKET: usize = 175;
 
 /// At most [`LONGEST_PACKET`] bytes, stored in the value itself.
 #[derive(Debug, Drop, PartialEq, Eq)]

@@ -1,5 +1,6 @@
 //! Both ends in one thread.
-use c8_inlet::{LONGEST_PACKET, Packet, Putter, Taker, TooLong, after, beside, inlet};
+use c8_inlet::{Packet, Putter, Taker, TooLong, after, beside, inlet};
+use c8_transport::LONGEST_PACKET;
 use std::alloc::{AllocError, Global};
 use std::fmt::{Debug, Display};
 use std::test::Fail;

@@ -10,7 +10,7 @@ use Rattle.c8_peer.specs.Steps.{Works, Stepped}
 use Rattle.c8_peer.specs.Opening.{opening_record, Stands, opened}
 use Rattle.c8_peer.specs.Opened.{bodies_found, IsOpened}
 use Rattle.c8_peer.specs.TrueChecks.{HasTrueChecks}
-use Rattle.c8_peer.specs.Peer.{PeerValue, IsAnswered, known_by, begun_by, luck_of}
+use Rattle.c8_peer.specs.Peer.{PeerValue, IsAnswered, known_by, begun_by, disk_outcome_of}
 use Rattle.c8_peer.specs.Runs.{Deed, Does, IsDone, IsRun, TellsTruly}
 use Rattle.c8_record.specs.Body.{records_of}
 use Rattle.c8_game.specs.declared.row.Row.{Row}
@@ -70,12 +70,12 @@ begins_whole early late begins same =
 
 -- one call
 abbrev pub once : {D : Type 0} (disk : Ghosts D) (old new : PeerValue D) (call : Call) (reply : Reply) → IsAnswered disk old call reply new
-    → IsDone old.rules old.room old.me old.state (Does call (luck_of reply)) (Some reply) new.state → HasRunOn disk old new
+    → IsDone old.rules old.room old.me old.state (Does call (disk_outcome_of reply)) (Some reply) new.state → HasRunOn disk old new
 once disk old new call reply is deed = record {
   rules = is.same.rules;
   room = is.same.room;
   me = is.same.me;
-  calls = (call, luck_of reply) ∷ [];
+  calls = (call, disk_outcome_of reply) ∷ [];
   answers = Some reply ∷ [];
   run = (new.state, deed, refl);
   disk_is = is.same.disk_is;

@@ -4,8 +4,8 @@ use Rattle.std.proofs.lemmas.List.{length-append}
 use Rattle.std.proofs.lemmas.List.Elements.{All-nil, All-cons, All-append}
 use Rattle.c8_disk.specs.declared.disk.Disk.{Ghosts as DiskGhosts}
 use Rattle.c8_peer.specs.State.{Call, Reply, Said}
-use Rattle.c8_peer.specs.Steps.{Luck, Works}
-use Rattle.c8_peer.specs.Peer.{PeerValue, IsAnswered, IsSaid, luck_of}
+use Rattle.c8_peer.specs.Steps.{DiskOutcome, Works}
+use Rattle.c8_peer.specs.Peer.{PeerValue, IsAnswered, IsSaid, disk_outcome_of}
 use Rattle.c8_peer.specs.Runs.{Does, IsDone}
 use Rattle.c8_transport.specs.declared.wire.Wire.{Ghosts as WireGhosts}
 use Rattle.c8_live.specs.Runs.{HasRunOn}
@@ -17,33 +17,33 @@ use Rattle.c8_live.proofs.RunLemmas.{RunsJoin, still, joined, once, says}
 
 module _ {D : Type 0} (disk : DiskGhosts D) where
   abbrev pub done_still : (what : Doing) (p : PeerValue D) → HasDone disk what p p
-  done_still what p = record { ran = still disk p; alike = All-nil (λ (call : Call × Luck). doing call.0 ≡ what) }
+  done_still what p = record { ran = still disk p; alike = All-nil (λ (call : Call × DiskOutcome). doing call.0 ≡ what) }
 
   abbrev pub done_joined : RunsJoin → (what : Doing) (first middle last : PeerValue D) → HasDone disk what first middle → HasDone disk what middle last → HasDone disk what first last
   done_joined join what first middle last one two = record {
     ran = joined disk join first middle last one.ran two.ran;
-    alike = All-append (λ (call : Call × Luck). doing call.0 ≡ what) one.ran.calls two.ran.calls one.alike two.alike;
+    alike = All-append (λ (call : Call × DiskOutcome). doing call.0 ≡ what) one.ran.calls two.ran.calls one.alike two.alike;
   }
 
   abbrev pub done_once : (old new : PeerValue D) (call : Call) (reply : Reply) → IsAnswered disk old call reply new
-      → IsDone old.rules old.room old.me old.state (Does call (luck_of reply)) (Some reply) new.state → HasDone disk (doing call) old new
+      → IsDone old.rules old.room old.me old.state (Does call (disk_outcome_of reply)) (Some reply) new.state → HasDone disk (doing call) old new
   done_once old new call reply is deed = record {
     ran = once disk old new call reply is deed;
-    alike = All-cons (λ (c : Call × Luck). doing c.0 ≡ doing call) (call, luck_of reply) [] refl (All-nil (λ (c : Call × Luck). doing c.0 ≡ doing call));
+    alike = All-cons (λ (c : Call × DiskOutcome). doing c.0 ≡ doing call) (call, disk_outcome_of reply) [] refl (All-nil (λ (c : Call × DiskOutcome). doing c.0 ≡ doing call));
   }
 
 -- ---- what was heard
 
 -- deliveries of some packets are deliveries of one more
-heard_after : (given : List (List ℕ)) (calls : List (Call × Luck)) (bytes : List ℕ) → AreDeliveriesOf given calls → AreDeliveriesOf (bytes ∷ given) calls
+heard_after : (given : List (List ℕ)) (calls : List (Call × DiskOutcome)) (bytes : List ℕ) → AreDeliveriesOf given calls → AreDeliveriesOf (bytes ∷ given) calls
 heard_after given [] bytes heard = tt
 heard_after given (call ∷ calls) bytes heard = inr heard
 
-heard_of_more : (given more : List (List ℕ)) (calls : List (Call × Luck)) → AreDeliveriesOf more calls → AreDeliveriesOf (given ++ more) calls
+heard_of_more : (given more : List (List ℕ)) (calls : List (Call × DiskOutcome)) → AreDeliveriesOf more calls → AreDeliveriesOf (given ++ more) calls
 heard_of_more [] more calls heard = heard
 heard_of_more (bytes ∷ given) more calls heard = heard_after (given ++ more) calls bytes (heard_of_more given more calls heard)
 
-pub heard_append : (given more : List (List ℕ)) (calls others : List (Call × Luck)) → AreDeliveriesOf given calls → AreDeliveriesOf more others → AreDeliveriesOf (given ++ more) (calls ++ others)
+pub heard_append : (given more : List (List ℕ)) (calls others : List (Call × DiskOutcome)) → AreDeliveriesOf given calls → AreDeliveriesOf more others → AreDeliveriesOf (given ++ more) (calls ++ others)
 heard_append given more [] others heard rest = heard_of_more given more others rest
 heard_append [] more (call ∷ calls) others heard rest = absurd heard
 heard_append (bytes ∷ given) more (call ∷ calls) others (inl (delivers, heard)) rest = inl (delivers, heard_append given more calls others heard rest)
@@ -111,14 +111,14 @@ module _ {D W : Type 0} (disk : DiskGhosts D) (wire : WireGhosts W) where
       → IsDone p.rules p.room p.me p.state (Does call Works) (Some (Said (Ok is.packet))) p.state → MayTake (wire.sent before) bytes (wire.sent after)
       → wire.received after ≡ wire.received before → HasSpoken disk wire p before after
   spoken_once p before after call bytes speaks is deed (inl lost) received = record {
-    done = record { ran = says disk p call (Said (Ok is.packet)) deed; alike = All-cons (λ (c : Call × Luck). doing c.0 ≡ Speaks) (call, Works) [] speaks (All-nil (λ (c : Call × Luck). doing c.0 ≡ Speaks)) };
+    done = record { ran = says disk p call (Said (Ok is.packet)) deed; alike = All-cons (λ (c : Call × DiskOutcome). doing c.0 ≡ Speaks) (call, Works) [] speaks (All-nil (λ (c : Call × DiskOutcome). doing c.0 ≡ Speaks)) };
     taken = [];
     sent = lost ∙ sym (append-nil (wire.sent before));
     said = tt;
     received = received;
   }
   spoken_once p before after call bytes speaks is deed (inr took) received = record {
-    done = record { ran = says disk p call (Said (Ok is.packet)) deed; alike = All-cons (λ (c : Call × Luck). doing c.0 ≡ Speaks) (call, Works) [] speaks (All-nil (λ (c : Call × Luck). doing c.0 ≡ Speaks)) };
+    done = record { ran = says disk p call (Said (Ok is.packet)) deed; alike = All-cons (λ (c : Call × DiskOutcome). doing c.0 ≡ Speaks) (call, Works) [] speaks (All-nil (λ (c : Call × DiskOutcome). doing c.0 ≡ Speaks)) };
     taken = bytes ∷ [];
     sent = took;
     said = inl ((is.packet, refl, is.spelled), tt);

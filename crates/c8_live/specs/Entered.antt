@@ -4,7 +4,7 @@ use Rattle.c8_game.specs.declared.row.Keys.{Keys}
 use Rattle.c8_disk.specs.declared.disk.Disk.{Ghosts as DiskGhosts}
 use Rattle.c8_refusals.specs.declared.error.TickError.{TickError}
 use Rattle.c8_peer.specs.State.{Call, Tick, Deliver, Say, Show, Leave, Decide, Checkpoint, Reply, Ticked}
-use Rattle.c8_peer.specs.Steps.{Luck}
+use Rattle.c8_peer.specs.Steps.{DiskOutcome}
 use Rattle.c8_peer.specs.Peer.{PeerValue, IsAnswered}
 use Rattle.c8_transport.specs.declared.wire.Wire.{Ghosts as WireGhosts}
 use Rattle.c8_live.specs.Runs.{HasRunOn}
@@ -25,7 +25,7 @@ entered_by (Leave leaver) answer = []
 entered_by (Decide leaver) answer = []
 entered_by Checkpoint answer = []
 
-abbrev pub entered_in : List (Call × Luck) → List (Option Reply) → List ℕ
+abbrev pub entered_in : List (Call × DiskOutcome) → List (Option Reply) → List ℕ
 entered_in [] answers = []
 entered_in (call ∷ calls) [] = []
 entered_in (call ∷ calls) (answer ∷ answers) = entered_by call.0 answer ++ entered_in calls answers

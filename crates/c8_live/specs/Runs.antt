@@ -4,14 +4,14 @@ use Rattle.c8_disk.specs.declared.disk.Disk.{Ghosts}
 use Rattle.c8_disk.specs.declared.error.DiskError.{DiskError}
 use Rattle.c8_disk.specs.Runs.{IsSameDisk}
 use Rattle.c8_peer.specs.State.{Call, Reply}
-use Rattle.c8_peer.specs.Steps.{Luck, Refuses}
-use Rattle.c8_peer.specs.Peer.{PeerValue, IsAnswered, luck_of}
+use Rattle.c8_peer.specs.Steps.{DiskOutcome, Refuses}
+use Rattle.c8_peer.specs.Peer.{PeerValue, IsAnswered, disk_outcome_of}
 use Rattle.c8_peer.specs.Runs.{Deed, Does, IsRun}
 use Rattle.c8_live.specs.declared.error.SessionError.{SessionError}
 use Rattle.c8_live.specs.declared.error.SessionError.TheVariants.{Disk, Wire}
 
 -- a call, and what the disk does with its record; no opening, close or crash
-abbrev pub does : Call × Luck → Deed
+abbrev pub does : Call × DiskOutcome → Deed
 does call = Does call.0 call.1
 
 -- The peer of the same match and player, on the same disk, after some calls; each call is one step of the definitions.
@@ -19,7 +19,7 @@ pub record HasRunOn {D : Type 0} (disk : Ghosts D) (old new : PeerValue D) : Typ
   pub rules : new.rules ≡ old.rules
   pub room : new.room ≡ old.room
   pub me : new.me ≡ old.me
-  pub calls : List (Call × Luck)
+  pub calls : List (Call × DiskOutcome)
   pub answers : List (Option Reply)
   pub run : IsRun old.rules old.room old.me old.state (map does calls) answers new.state
   pub disk_is : IsSameDisk disk old.disk new.disk
@@ -32,7 +32,7 @@ pub record IsStopped {D : Type 0} (disk : Ghosts D) (old new : PeerValue D) (why
   pub call : Call
   pub reply : Reply
   pub answered : IsAnswered disk before call reply new
-  pub refused : luck_of reply ≡ Refuses why
+  pub refused : disk_outcome_of reply ≡ Refuses why
 
 -- why a session cannot go on; nothing is claimed for a failure of the wire
 abbrev pub IsEnd : {D : Type 0} → Ghosts D → PeerValue D → PeerValue D → SessionError → Type 0

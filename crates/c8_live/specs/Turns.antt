@@ -5,7 +5,7 @@ use Rattle.c8_disk.specs.declared.disk.Disk.{Ghosts as DiskGhosts}
 use Rattle.c8_wire.specs.Packet.{Packet}
 use Rattle.c8_wire.specs.Spelling.{Spells}
 use Rattle.c8_peer.specs.State.{Call, Reply, Tick, Deliver, Say, Show, Leave, Decide, Checkpoint, Said}
-use Rattle.c8_peer.specs.Steps.{Luck}
+use Rattle.c8_peer.specs.Steps.{DiskOutcome}
 use Rattle.c8_peer.specs.Peer.{PeerValue}
 use Rattle.c8_transport.specs.Wire.{most_packets}
 use Rattle.c8_transport.specs.declared.wire.Wire.{Ghosts as WireGhosts}
@@ -33,7 +33,7 @@ doing (Show watcher) = Speaks
 -- a run of calls of one kind
 pub record HasDone {D : Type 0} (disk : DiskGhosts D) (what : Doing) (old new : PeerValue D) : Type 0 where
   pub ran : HasRunOn disk old new
-  pub alike : All (λ (call : Call × Luck). doing call.0 ≡ what) ran.calls
+  pub alike : All (λ (call : Call × DiskOutcome). doing call.0 ≡ what) ran.calls
 
 -- the same with at most one call
 abbrev pub HasDoneOnce : {D : Type 0} → DiskGhosts D → Doing → PeerValue D → PeerValue D → Type 0
@@ -46,7 +46,7 @@ abbrev pub DeliversBytes : List ℕ → Call → Type 0
 DeliversBytes bytes call = (packet : Packet) × (call ≡ Deliver (Ok packet)) × Spells bytes packet
 
 -- the calls deliver some of these packets, in this order; the others, such as those that spell no packet, are skipped
-abbrev pub AreDeliveriesOf : List (List ℕ) → List (Call × Luck) → Type 0
+abbrev pub AreDeliveriesOf : List (List ℕ) → List (Call × DiskOutcome) → Type 0
 AreDeliveriesOf given [] = Unit {0}
 AreDeliveriesOf [] (call ∷ calls) = ⊥
 AreDeliveriesOf (bytes ∷ given) (call ∷ calls) = (DeliversBytes bytes call.0 × AreDeliveriesOf given calls) ⊎ AreDeliveriesOf given (call ∷ calls)

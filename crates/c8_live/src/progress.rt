@@ -1,6 +1,7 @@
 //! The progress lines of a session, for the person who waits.
 
 use crate::counters::Standing;
+use crate::gauge::{Gauge, Reading};
 use crate::session::Session;
 use c8_disk::Disk;
 use c8_game::{MOST_PLAYERS, Player};
@@ -8,22 +9,12 @@ use std::io;
 use std::io::Write;
 use std::time::Duration;
 
-/// How many seconds lie between two lines.
-const EVERY: u64 = 1;
-
 /// Prints once a second how far a peer is. All times are of one clock.
 #[derive(Clone, Copy)]
 pub struct Progress {
     me: Player,
     players: u8,
-    /// When the next line is due.
-    due: Duration,
-    /// When each player was last heard, or the start, by place; and in how many turns it had been heard by then.
-    heard: [Duration; MOST_PLAYERS],
-    turns: [u64; MOST_PLAYERS],
-    /// The rollbacks up to the last line, and the longest since then.
-    rollbacks: u64,
-    longest: u64,
+    gauge: Gauge,
 }
 
 impl Progress {
@@ -32,11 +23,7 @@ impl Progress {
         Progress {
             me,
             players,
-            due: now.saturating_add(Duration::from_secs(EVERY)),
-            heard: [now; MOST_PLAYERS],
-            turns: [0; MOST_PLAYERS],
-            rollbacks: 0,
-            longest: 0,
+            gauge: Gauge::new(now, Gauge::next(now)),
         }
     }
 
@@ -52,13 +39,15 @@ impl Progress {
         confirmed: u32,
         standing: &Standing,
     ) -> io::Result<()> {
-        self.note(now, standing);
-        if now < self.due {
+        let Some(reading) = self.gauge.note(now, standing) else {
             return Ok(());
-        }
-        self.due = now.saturating_add(Duration::from_secs(EVERY));
-        self.write_counts(out, confirmed, standing)?;
-        self.write_silence(out, now)?;
+        };
+        let (ticked, rollbacks, longest) = (standing.ticked, reading.rollbacks, reading.longest);
+        write!(
+            out,
+            "ticked {ticked}, confirmed {confirmed}, rollbacks {rollbacks}, longest {longest}"
+        )?;
+        self.write_silence(out, &reading)?;
         let lost = standing.lost;
         if lost > 0 {
             write!(out, ", {lost} packets lost")?;
@@ -77,40 +66,12 @@ impl Progress {
         writeln!(out)
     }
 
-    /// Notes who was heard since the last call, and the longest rollback.
-    fn note(&mut self, now: Duration, standing: &Standing) {
-        self.longest = self.longest.max(standing.longest);
-        for place in 0..MOST_PLAYERS {
-            if self.turns[place] != standing.heard[place] {
-                self.turns[place] = standing.heard[place];
-                self.heard[place] = now;
-            }
-        }
-    }
-
-    /// Writes the frame counts, and the rollbacks since the last line.
-    fn write_counts<E: Write>(
-        &mut self,
-        out: &mut E,
-        confirmed: u32,
-        standing: &Standing,
-    ) -> io::Result<()> {
-        let (ticked, longest) = (standing.ticked, self.longest);
-        let count = standing.rollbacks.saturating_sub(self.rollbacks);
-        self.rollbacks = standing.rollbacks;
-        self.longest = 0;
-        write!(
-            out,
-            "ticked {ticked}, confirmed {confirmed}, rollbacks {count}, longest {longest}"
-        )
-    }
-
     /// Writes how long each other player has been silent.
-    fn write_silence<E: Write>(&self, out: &mut E, now: Duration) -> io::Result<()> {
+    fn write_silence<E: Write>(&self, out: &mut E, reading: &Reading) -> io::Result<()> {
         for place in 0..MOST_PLAYERS {
             let number = place + 1;
             if number <= usize::from(self.players) && number != usize::from(self.me.number) {
-                let silence = now.saturating_sub(self.heard[place]).as_millis();
+                let silence = reading.silent[place];
                 write!(out, ", player {number} silent for {silence} ms")?;
             }
         }

@@ -268,6 +268,7 @@ fn watch<R: Clock + Wait, E: Write>(
             break;
         }
         let confirmed = onlooker.look(asked.stop);
+        shared.pace.see(confirmed);
         if asked.progress {
             let _ = told.tell(progress, now(rt), confirmed, &shared.counters.take());
         }

@@ -15,7 +15,7 @@ use Rattle.c8_known.specs.Known.{KnownValue}
 use Rattle.c8_peer.specs.Told.{told_of}
 use Rattle.c8_peer.specs.State.{Memory, Open, Down, Call, Reply, Outcome, answered, recorded}
 use Rattle.c8_peer.specs.Steps.{Works, Refuses, outcome, refused_by_disk}
-use Rattle.c8_peer.specs.Peer.{PeerValue, known_by, told_by, luck_of, IsStep, added, most_run, RunsFrames, KeepsWithOrWithout, LeavesJournal, HasAppendCause, IsAnswered, IsSound}
+use Rattle.c8_peer.specs.Peer.{PeerValue, known_by, told_by, disk_outcome_of, IsStep, added, most_run, RunsFrames, KeepsWithOrWithout, LeavesJournal, HasAppendCause, IsAnswered, IsSound}
 use Rattle.c8_peer.specs.checked.Held.{IsPeer}
 use Rattle.c8_peer.proofs.PeerLemmas.{view}
 use Rattle.c8_peer.proofs.RoomLemmas.{had_room}
@@ -29,11 +29,11 @@ outcome_seen {D} {ran} v rules room j k m is seen call o comes =
 
 module _ {D : Type 0} (g : Ghosts D) where
   -- the call does not touch the disk
-  quiet : (v : PeerValue D) (m : Memory) (call : Call) (reply : Reply) → IsSound g v → added v call ≡ None → luck_of reply ≡ Works
+  quiet : (v : PeerValue D) (m : Memory) (call : Call) (reply : Reply) → IsSound g v → added v call ≡ None → disk_outcome_of reply ≡ Works
       → IsStep v call reply (record v { state = record v.state { memory = m } }) → IsAnswered g v call reply (record v { state = record v.state { memory = m } })
-  quiet v m call reply sound none luck step = record {
+  quiet v m call reply sound none on_disk step = record {
     step = step;
-    cause = λ why e. let never : Works ≡ Refuses why = sym luck ∙ e in absurd cc;
+    cause = λ why e. let never : Works ≡ Refuses why = sym on_disk ∙ e in absurd cc;
     full = λ r some. let never : None ≡ Some r = sym none ∙ some in absurd cc;
     any_moment = rw none sound.still;
     asks = λ r some. let never : None ≡ Some r = sym none ∙ some in absurd cc;
@@ -46,8 +46,8 @@ module _ {D : Type 0} (g : Ghosts D) where
 
   -- the call records nothing; the memory may change
   pub answers : (v : PeerValue D) (m : Memory) (call : Call) (reply : Reply) → IsSound g v → v.state.mode ≡ Open → outcome v.rules (told_by v) (known_by v) v.state.memory call ≡ answered m reply
-      → luck_of reply ≡ Works → IsAnswered g v call reply (record v { state = record v.state { memory = m } })
-  answers v m call reply sound mode comes luck = quiet v m call reply sound (rw (mode, comes) refl) luck (rw (mode, comes) refl)
+      → disk_outcome_of reply ≡ Works → IsAnswered g v call reply (record v { state = record v.state { memory = m } })
+  answers v m call reply sound mode comes on_disk = quiet v m call reply sound (rw (mode, comes) refl) on_disk (rw (mode, comes) refl)
 
   -- what a call that records does with the disk
   pub record Kept (v : PeerValue D) (r : Record) (answer : Answer) (new : D) : Type 0 where
@@ -69,40 +69,40 @@ module _ {D : Type 0} (g : Ghosts D) where
 
   -- the disk takes the record
   pub records : (v : PeerValue D) (disk : D) (m : Memory) (ran : ℕ) (call : Call) (reply : Reply) (r : Record) → v.state.mode ≡ Open
-      → outcome v.rules (told_by v) (known_by v) v.state.memory call ≡ recorded m reply r → luck_of reply ≡ Works → Kept v r (Ok tt) disk
+      → outcome v.rules (told_by v) (known_by v) v.state.memory call ≡ recorded m reply r → disk_outcome_of reply ≡ Works → Kept v r (Ok tt) disk
       → RunsFrames (most_run v.rules call) (known_by v) (known_by (with_record v disk r m ran)) ran
       → LeavesJournal g (with_record v disk r m ran) → IsAnswered g v call reply (with_record v disk r m ran)
-  records v disk m ran call reply r mode comes luck kept runs leaves = record {
-    step = rw (mode, comes, luck) refl;
-    cause = λ why e. let never : Works ≡ Refuses why = sym luck ∙ e in absurd cc;
+  records v disk m ran call reply r mode comes on_disk kept runs leaves = record {
+    step = rw (mode, comes, on_disk) refl;
+    cause = λ why e. let never : Works ≡ Refuses why = sym on_disk ∙ e in absurd cc;
     full = λ other is few. let room = had_room (g.capacity v.disk) (length v.state.journal) (body_of r) kept.asks.calls kept.asks.is in absurd (omega (arith, few, room));
     any_moment = rw (mode, comes) kept.any_moment;
     journal = leaves;
     asks = λ other is. let this : Some r ≡ Some other = rw (mode, comes) refl ∙ is in
         let same : r ≡ other = cc in
-        rw luck (subst (λ (x : Record). Asks g (AppendWithin (g.capacity v.disk) (length v.state.journal) (body_of x)) (Ok tt) v.disk disk) same kept.asks);
+        rw on_disk (subst (λ (x : Record). Asks g (AppendWithin (g.capacity v.disk) (length v.state.journal) (body_of x)) (Ok tt) v.disk disk) same kept.asks);
     untouched = λ e. let never : Some r ≡ None = sym (rw (mode, comes) refl) ∙ e in absurd cc;
     changes = kept.changes;
-    ran = rw (mode, comes, luck) runs;
+    ran = rw (mode, comes, on_disk) runs;
     same = record { rules = refl; room = refl; me = refl; disk_is = kept.same };
   }
 
   -- the disk refuses the record
   pub is_refused : (v : PeerValue D) (disk : D) (m : Memory) (call : Call) (reply said : Reply) (r : Record) (why : DiskError) → v.state.mode ≡ Open
-      → outcome v.rules (told_by v) (known_by v) v.state.memory call ≡ recorded m said r → reply ≡ refused_by_disk call why → luck_of reply ≡ Refuses why → Kept v r (Err why) disk
+      → outcome v.rules (told_by v) (known_by v) v.state.memory call ≡ recorded m said r → reply ≡ refused_by_disk call why → disk_outcome_of reply ≡ Refuses why → Kept v r (Err why) disk
       → HasAppendCause g v (without_record v disk r) why → LeavesJournal g (without_record v disk r) → IsAnswered g v call reply (without_record v disk r)
-  is_refused v disk m call reply said r why mode comes is luck kept cause leaves = record {
-    step = rw (mode, comes, luck, is) refl;
-    cause = λ other e. let same : Refuses why ≡ Refuses other = sym luck ∙ e in
+  is_refused v disk m call reply said r why mode comes is on_disk kept cause leaves = record {
+    step = rw (mode, comes, on_disk, is) refl;
+    cause = λ other e. let same : Refuses why ≡ Refuses other = sym on_disk ∙ e in
         let this : why ≡ other = cc in subst (HasAppendCause g v (without_record v disk r)) this cause;
-    full = λ other e few. luck ∙ ap Refuses (must_be_full v (without_record v disk r) why cause few);
+    full = λ other e few. on_disk ∙ ap Refuses (must_be_full v (without_record v disk r) why cause few);
     any_moment = rw (mode, comes) kept.any_moment;
     journal = leaves;
     asks = λ other is. let this : Some r ≡ Some other = rw (mode, comes) refl ∙ is in
         let same : r ≡ other = cc in
-        rw luck (subst (λ (x : Record). Asks g (AppendWithin (g.capacity v.disk) (length v.state.journal) (body_of x)) (Err why) v.disk disk) same kept.asks);
+        rw on_disk (subst (λ (x : Record). Asks g (AppendWithin (g.capacity v.disk) (length v.state.journal) (body_of x)) (Err why) v.disk disk) same kept.asks);
     untouched = λ e. let never : Some r ≡ None = sym (rw (mode, comes) refl) ∙ e in absurd cc;
     changes = kept.changes;
-    ran = rw (mode, comes, luck) refl;
+    ran = rw (mode, comes, on_disk) refl;
     same = record { rules = refl; room = refl; me = refl; disk_is = kept.same };
   }

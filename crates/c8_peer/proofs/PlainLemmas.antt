@@ -18,7 +18,7 @@ use Rattle.c8_round.specs.Round.{is_ready, with_report}
 use Rattle.c8_peer.specs.Told.{Told, told_of}
 use Rattle.c8_refusals.specs.declared.error.Unsayable.{Unsayable}
 use Rattle.c8_peer.specs.State.{Memory, Mode, Open, Down, Away, State, Saying, Call, Tick, Deliver, Say, Show, Leave, Decide, Checkpoint, Said, Outcome, answered}
-use Rattle.c8_peer.specs.Steps.{Luck, Works, Refuses, refused_by_disk, outcome, done, at_mode, step}
+use Rattle.c8_peer.specs.Steps.{DiskOutcome, Works, Refuses, refused_by_disk, outcome, done, at_mode, step}
 use Rattle.c8_peer.specs.Calls.{tick, leave, decide, next_piece, checkpoint}
 use Rattle.c8_peer.specs.Hearing.{is_desync, unless_misfit, got, cut_or_got, hear_data, hear_welcome, hear_freeze, hear_frozen, hear_end, hear_cut, hear_message, is_of_other_wire, unless_hand, hear_seen, hear_from, seen_in, hear_told}
 use Rattle.c8_peer.specs.Saying.{say, show}
@@ -241,20 +241,20 @@ refused_tells rules t k m (Leave leaver) r why keeps = refl
 refused_tells rules t k m (Decide leaver) r why keeps = refl
 refused_tells rules t k m Checkpoint r why keeps = refl
 
-done_tells : (rules : Rules) (t : Told) (k : KnownValue) (s : State) (call : Call) (keeps : Option Record) (luck : Luck) → s.mode ≡ Open → (outcome rules t k s.memory call).keeps ≡ keeps
-    → (done s call (outcome rules t k s.memory call) keeps luck).state.mode ≡ mode_told (done s call (outcome rules t k s.memory call) keeps luck).reply
-done_tells rules t k s call None luck up keeps = up ∙ sym (call_plain rules t k s.memory call)
+done_tells : (rules : Rules) (t : Told) (k : KnownValue) (s : State) (call : Call) (keeps : Option Record) (on_disk : DiskOutcome) → s.mode ≡ Open → (outcome rules t k s.memory call).keeps ≡ keeps
+    → (done s call (outcome rules t k s.memory call) keeps on_disk).state.mode ≡ mode_told (done s call (outcome rules t k s.memory call) keeps on_disk).reply
+done_tells rules t k s call None on_disk up keeps = up ∙ sym (call_plain rules t k s.memory call)
 done_tells rules t k s call (Some r) Works up keeps = up ∙ sym (call_plain rules t k s.memory call)
 done_tells rules t k s call (Some r) (Refuses why) up keeps = refused_tells rules t k s.memory call r why keeps
 
-mode_tells : (rules : Rules) (t : Told) (k : KnownValue) (s : State) (call : Call) (luck : Luck) (mode : Mode) → s.mode ≡ mode → mode ≡ Open
-    → (at_mode s call (outcome rules t k s.memory call) mode luck).state.mode ≡ mode_told (at_mode s call (outcome rules t k s.memory call) mode luck).reply
-mode_tells rules t k s call luck Open same up = done_tells rules t k s call (outcome rules t k s.memory call).keeps luck same refl
-mode_tells rules t k s call luck Down same up = absurd cc
-mode_tells rules t k s call luck Away same up = absurd cc
+mode_tells : (rules : Rules) (t : Told) (k : KnownValue) (s : State) (call : Call) (on_disk : DiskOutcome) (mode : Mode) → s.mode ≡ mode → mode ≡ Open
+    → (at_mode s call (outcome rules t k s.memory call) mode on_disk).state.mode ≡ mode_told (at_mode s call (outcome rules t k s.memory call) mode on_disk).reply
+mode_tells rules t k s call on_disk Open same up = done_tells rules t k s call (outcome rules t k s.memory call).keeps on_disk same refl
+mode_tells rules t k s call on_disk Down same up = absurd cc
+mode_tells rules t k s call on_disk Away same up = absurd cc
 
-pub step_tells : (rules : Rules) (me : ℕ) (s : State) (call : Call) (luck : Luck) → s.mode ≡ Open → (step rules me s call luck).state.mode ≡ mode_told (step rules me s call luck).reply
-step_tells rules me s call luck up = mode_tells rules (told_of rules me s.journal) (known_of rules me s.journal) s call luck s.mode refl up
+pub step_tells : (rules : Rules) (me : ℕ) (s : State) (call : Call) (on_disk : DiskOutcome) → s.mode ≡ Open → (step rules me s call on_disk).state.mode ≡ mode_told (step rules me s call on_disk).reply
+step_tells rules me s call on_disk up = mode_tells rules (told_of rules me s.journal) (known_of rules me s.journal) s call on_disk s.mode refl up
 
 pub opened_tells : (rules : Rules) (room me : ℕ) (s : State) (found : List Record) (opening : Opening) → (opened rules room me s found opening).state.mode ≡ mode_told (opened rules room me s found opening).reply
 opened_tells rules room me s found NoPlayer = refl

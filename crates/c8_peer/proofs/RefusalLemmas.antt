@@ -23,7 +23,7 @@ use Rattle.c8_peer.specs.State.{Memory, Mode, Open, Down, Away, State, Saying, C
 use Rattle.c8_peer.specs.Calls.{tick, leave, decide, next_piece, checkpoint}
 use Rattle.c8_peer.specs.Saying.{say, show}
 use Rattle.c8_peer.specs.Hearing.{refused, unless_misfit, got, is_desync, hear_data, hear_welcome, hear_freeze, hear_frozen, hear_end, hear_cut, hear_message, is_of_other_wire, unless_hand, hear_seen, hear_from, seen_in, deliver}
-use Rattle.c8_peer.specs.Steps.{outcome, Luck, Works, Refuses, refused_by_disk, when_down, Stepped, done, at_mode, step, IsPlainRefusal}
+use Rattle.c8_peer.specs.Steps.{outcome, DiskOutcome, Works, Refuses, refused_by_disk, when_down, Stepped, done, at_mode, step, IsPlainRefusal}
 use Rattle.c8_peer.proofs.MemoryLemmas.{either, say_is, show_is}
 
 -- ---- the outcomes of calls
@@ -217,9 +217,9 @@ record StepFits (s : State) (t : Stepped) : Type 0 where
   plain : IsPlainRefusal t.reply → t.state ≡ s
   desync : t.reply ≡ Delivered (Err refusals.Desync) → t.state ≡ record s { memory = record s.memory { alarm = true } }
 
-done_fits : (rules : Rules) (t : Told) (k : KnownValue) (s : State) (call : Call) (keeps : Option Record) (luck : Luck) → (outcome rules t k s.memory call).keeps ≡ keeps
-    → StepFits s (done s call (outcome rules t k s.memory call) keeps luck)
-done_fits rules t k s call None luck is =
+done_fits : (rules : Rules) (t : Told) (k : KnownValue) (s : State) (call : Call) (keeps : Option Record) (on_disk : DiskOutcome) → (outcome rules t k s.memory call).keeps ≡ keeps
+    → StepFits s (done s call (outcome rules t k s.memory call) keeps on_disk)
+done_fits rules t k s call None on_disk is =
     let fits = call_fits rules t k s.memory call in
     record {
       plain = λ plain. ap (λ (m : Memory). record s { memory = m }) (fits.plain plain).same;
@@ -236,14 +236,14 @@ done_fits rules t k s call (Some r) (Refuses why) is = record {
   desync = λ desync. absurd (disk_is_not_desync call why desync);
 }
 
-mode_fits : (rules : Rules) (t : Told) (k : KnownValue) (s : State) (call : Call) (mode : Mode) (luck : Luck) → StepFits s (at_mode s call (outcome rules t k s.memory call) mode luck)
-mode_fits rules t k s call Open luck = done_fits rules t k s call (outcome rules t k s.memory call).keeps luck refl
-mode_fits rules t k s call Down luck = record { plain = λ plain. refl; desync = λ desync. absurd (down_is_not_desync call desync) }
-mode_fits rules t k s call Away luck = record { plain = λ plain. refl; desync = λ desync. absurd (down_is_not_desync call desync) }
+mode_fits : (rules : Rules) (t : Told) (k : KnownValue) (s : State) (call : Call) (mode : Mode) (on_disk : DiskOutcome) → StepFits s (at_mode s call (outcome rules t k s.memory call) mode on_disk)
+mode_fits rules t k s call Open on_disk = done_fits rules t k s call (outcome rules t k s.memory call).keeps on_disk refl
+mode_fits rules t k s call Down on_disk = record { plain = λ plain. refl; desync = λ desync. absurd (down_is_not_desync call desync) }
+mode_fits rules t k s call Away on_disk = record { plain = λ plain. refl; desync = λ desync. absurd (down_is_not_desync call desync) }
 
-pub refused_stays : (rules : Rules) (me : ℕ) (s : State) (call : Call) (luck : Luck) → IsPlainRefusal (step rules me s call luck).reply → (step rules me s call luck).state ≡ s
-refused_stays rules me s call luck = (mode_fits rules (told_of rules me s.journal) (known_of rules me s.journal) s call s.mode luck).plain
+pub refused_stays : (rules : Rules) (me : ℕ) (s : State) (call : Call) (on_disk : DiskOutcome) → IsPlainRefusal (step rules me s call on_disk).reply → (step rules me s call on_disk).state ≡ s
+refused_stays rules me s call on_disk = (mode_fits rules (told_of rules me s.journal) (known_of rules me s.journal) s call s.mode on_disk).plain
 
-pub desync_alarms : (rules : Rules) (me : ℕ) (s : State) (call : Call) (luck : Luck) → (step rules me s call luck).reply ≡ Delivered (Err refusals.Desync)
-    → (step rules me s call luck).state ≡ record s { memory = record s.memory { alarm = true } }
-desync_alarms rules me s call luck = (mode_fits rules (told_of rules me s.journal) (known_of rules me s.journal) s call s.mode luck).desync
+pub desync_alarms : (rules : Rules) (me : ℕ) (s : State) (call : Call) (on_disk : DiskOutcome) → (step rules me s call on_disk).reply ≡ Delivered (Err refusals.Desync)
+    → (step rules me s call on_disk).state ≡ record s { memory = record s.memory { alarm = true } }
+desync_alarms rules me s call on_disk = (mode_fits rules (told_of rules me s.journal) (known_of rules me s.journal) s call s.mode on_disk).desync

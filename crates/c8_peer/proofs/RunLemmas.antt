@@ -20,14 +20,14 @@ use Rattle.c8_record.specs.checked.RefusalLaws.{journal_back}
 use Rattle.c8_peer.specs.Told.{told_of}
 use Rattle.c8_peer.specs.State.{Mode, Open, Down, Away, State, Call, Reply, Said, Outcome}
 use Rattle.c8_peer.specs.State as states
-use Rattle.c8_peer.specs.Steps.{outcome, Luck, Works, Refuses, refused_by_disk, when_down, done, at_mode, step}
+use Rattle.c8_peer.specs.Steps.{outcome, DiskOutcome, Works, Refuses, refused_by_disk, when_down, done, at_mode, step}
 use Rattle.c8_peer.specs.Opening.{last_epoch, found, opening_record, Opening, NoPlayer, Stands, NotWritten, NoMemory, NotRead, Unfit, Spent, away, opened, MayBecome}
 use Rattle.c8_peer.specs.Truth.{IsTrue, CarriesMark}
 use Rattle.c8_peer.specs.TrueChecks.{HasTrueChecks}
 use Rattle.c8_peer.specs.checked.TrueCheckLaws.{none_true}
 use Rattle.c8_peer.specs.checked.TruthLaws.{truth_stays, confirmed_counts, confirmed_stays}
 use Rattle.c8_peer.specs.Lawful.{IsMemory, IsCall}
-use Rattle.c8_peer.specs.Peer.{PeerValue, luck_of, Keeps, KeepsWithOrWithout, or_pending, added_at, MayLeave, IsAnswered, IsSaid, IsSound}
+use Rattle.c8_peer.specs.Peer.{PeerValue, disk_outcome_of, Keeps, KeepsWithOrWithout, or_pending, added_at, MayLeave, IsAnswered, IsSaid, IsSound}
 use Rattle.c8_peer.specs.Runs.{never_opened, Deed, Does, Opens, Closes, Stops, StopsOpening, After, as_answered, crashed, after, MayDo, IsDone, IsRun, IsLawful, TellsTruly, IsReached, IsAmong, known_at}
 use Rattle.c8_peer.proofs.AllowedLemmas.{keeps_allowed}
 use Rattle.c8_peer.proofs.MemoryLemmas.{memory_kept}
@@ -73,18 +73,18 @@ found_more : (s : State) (finds : Bool) → (rest : List Record) × (found s fin
 found_more s true = (option_to_list s.pending, refl)
 found_more s false = ([], sym (append-nil s.journal))
 
-done_grows : (s : State) (call : Call) (o : Outcome) (keeps : Option Record) (luck : Luck) → Grows s (done s call o keeps luck).state
-done_grows s call o None luck = same_grows s (done s call o None luck).state refl
+done_grows : (s : State) (call : Call) (o : Outcome) (keeps : Option Record) (on_disk : DiskOutcome) → Grows s (done s call o keeps on_disk).state
+done_grows s call o None on_disk = same_grows s (done s call o None on_disk).state refl
 done_grows s call o (Some r) Works = (r ∷ [], refl)
 done_grows s call o (Some r) (Refuses why) = same_grows s (done s call o (Some r) (Refuses why)).state refl
 
-mode_grows : (s : State) (call : Call) (o : Outcome) (mode : Mode) (luck : Luck) → Grows s (at_mode s call o mode luck).state
-mode_grows s call o Open luck = done_grows s call o o.keeps luck
-mode_grows s call o Down luck = same_grows s s refl
-mode_grows s call o Away luck = same_grows s s refl
+mode_grows : (s : State) (call : Call) (o : Outcome) (mode : Mode) (on_disk : DiskOutcome) → Grows s (at_mode s call o mode on_disk).state
+mode_grows s call o Open on_disk = done_grows s call o o.keeps on_disk
+mode_grows s call o Down on_disk = same_grows s s refl
+mode_grows s call o Away on_disk = same_grows s s refl
 
-step_grows : (rules : Rules) (me : ℕ) (s : State) (call : Call) (luck : Luck) → Grows s (step rules me s call luck).state
-step_grows rules me s call luck = mode_grows s call (outcome rules (told_of rules me s.journal) (known_of rules me s.journal) s.memory call) s.mode luck
+step_grows : (rules : Rules) (me : ℕ) (s : State) (call : Call) (on_disk : DiskOutcome) → Grows s (step rules me s call on_disk).state
+step_grows rules me s call on_disk = mode_grows s call (outcome rules (told_of rules me s.journal) (known_of rules me s.journal) s.memory call) s.mode on_disk
 
 opened_grows : (rules : Rules) (room me : ℕ) (s : State) (finds : Bool) (opening : Opening) → Grows s (opened rules room me s (found s finds) opening).state
 opened_grows rules room me s finds Stands =
@@ -99,12 +99,12 @@ opened_grows rules room me s finds (Unfit error) = found_more s finds
 opened_grows rules room me s finds Spent = found_more s finds
 
 after_grows : (rules : Rules) (room me : ℕ) (s : State) (deed : Deed) → Grows s (after rules room me s deed).state
-after_grows rules room me s (Does call luck) = step_grows rules me s call luck
+after_grows rules room me s (Does call on_disk) = step_grows rules me s call on_disk
 after_grows rules room me s (Opens finds opening) = opened_grows rules room me s finds opening
 after_grows rules room me s Closes = same_grows s (away s s.journal s.pending) refl
-after_grows rules room me s (Stops call luck leaves) =
-    let t : State = (step rules me s call luck).state in
-    grows_then s t (crashed t leaves) (step_grows rules me s call luck) (found_more t leaves)
+after_grows rules room me s (Stops call on_disk leaves) =
+    let t : State = (step rules me s call on_disk).state in
+    grows_then s t (crashed t leaves) (step_grows rules me s call on_disk) (found_more t leaves)
 after_grows rules room me s (StopsOpening finds opening leaves) =
     let t : State = (opened rules room me s (found s finds) opening).state in
     grows_then s t (crashed t leaves) (opened_grows rules room me s finds opening) (found_more t leaves)
@@ -158,10 +158,10 @@ crash_held rules room me s leaves held =
     let is : IsJournal rules me room (found s leaves) = found_journal rules room me s leaves held in
     away_held rules room me s (found s leaves) None is (none_pending rules room me (found s leaves) is)
 
-done_held : (rules : Rules) (room me : ℕ) (s : State) (call : Call) (keeps : Option Record) (luck : Luck) → IsMatch rules room me → IsHeld rules room me s → s.mode ≡ Open → IsCall call
+done_held : (rules : Rules) (room me : ℕ) (s : State) (call : Call) (keeps : Option Record) (on_disk : DiskOutcome) → IsMatch rules room me → IsHeld rules room me s → s.mode ≡ Open → IsCall call
     → (outcome rules (told_of rules me s.journal) (known_of rules me s.journal) s.memory call).keeps ≡ keeps
-    → IsHeld rules room me (done s call (outcome rules (told_of rules me s.journal) (known_of rules me s.journal) s.memory call) keeps luck).state
-done_held rules room me s call None luck game held up fits keeps = record {
+    → IsHeld rules room me (done s call (outcome rules (told_of rules me s.journal) (known_of rules me s.journal) s.memory call) keeps on_disk).state
+done_held rules room me s call None on_disk game held up fits keeps = record {
   journal = held.journal;
   longer = held.longer;
   memory = λ opened. memory_kept rules me room s.journal s.memory call game.range game.from game.to held.journal (held.memory up) fits;
@@ -184,15 +184,15 @@ done_held rules room me s call (Some r) (Refuses why) game held up fits keeps = 
   settled = λ opened. absurd cc;
 }
 
-mode_held : (rules : Rules) (room me : ℕ) (s : State) (call : Call) (luck : Luck) (mode : Mode) → IsMatch rules room me → IsHeld rules room me s → s.mode ≡ mode → IsCall call
-    → IsHeld rules room me (at_mode s call (outcome rules (told_of rules me s.journal) (known_of rules me s.journal) s.memory call) mode luck).state
-mode_held rules room me s call luck Open game held up fits =
-    done_held rules room me s call (outcome rules (told_of rules me s.journal) (known_of rules me s.journal) s.memory call).keeps luck game held up fits refl
-mode_held rules room me s call luck Down game held down fits = held
-mode_held rules room me s call luck Away game held gone fits = held
+mode_held : (rules : Rules) (room me : ℕ) (s : State) (call : Call) (on_disk : DiskOutcome) (mode : Mode) → IsMatch rules room me → IsHeld rules room me s → s.mode ≡ mode → IsCall call
+    → IsHeld rules room me (at_mode s call (outcome rules (told_of rules me s.journal) (known_of rules me s.journal) s.memory call) mode on_disk).state
+mode_held rules room me s call on_disk Open game held up fits =
+    done_held rules room me s call (outcome rules (told_of rules me s.journal) (known_of rules me s.journal) s.memory call).keeps on_disk game held up fits refl
+mode_held rules room me s call on_disk Down game held down fits = held
+mode_held rules room me s call on_disk Away game held gone fits = held
 
-step_held : (rules : Rules) (room me : ℕ) (s : State) (call : Call) (luck : Luck) → IsMatch rules room me → IsHeld rules room me s → IsCall call → IsHeld rules room me (step rules me s call luck).state
-step_held rules room me s call luck game held fits = mode_held rules room me s call luck s.mode game held refl fits
+step_held : (rules : Rules) (room me : ℕ) (s : State) (call : Call) (on_disk : DiskOutcome) → IsMatch rules room me → IsHeld rules room me s → IsCall call → IsHeld rules room me (step rules me s call on_disk).state
+step_held rules room me s call on_disk game held fits = mode_held rules room me s call on_disk s.mode game held refl fits
 
 opened_held : (rules : Rules) (room me : ℕ) (s : State) (journal : List Record) (opening : Opening) → IsMatch rules room me → IsHeld rules room me s → IsJournal rules me room journal
     → MayBecome rules room me journal opening → IsHeld rules room me (opened rules room me s journal opening).state
@@ -217,10 +217,10 @@ opened_held rules room me s journal (Unfit error) game held is may = away_held r
 opened_held rules room me s journal Spent game held is may = away_held rules room me s journal None is (none_pending rules room me journal is)
 
 after_held : (rules : Rules) (room me : ℕ) (s : State) (deed : Deed) → IsMatch rules room me → IsHeld rules room me s → MayDo rules room me s deed → IsHeld rules room me (after rules room me s deed).state
-after_held rules room me s (Does call luck) game held may = step_held rules room me s call luck game held may
+after_held rules room me s (Does call on_disk) game held may = step_held rules room me s call on_disk game held may
 after_held rules room me s (Opens finds opening) game held may = opened_held rules room me s (found s finds) opening game held (found_journal rules room me s finds held) may.1
 after_held rules room me s Closes game held may = away_held rules room me s s.journal s.pending held.journal held.longer
-after_held rules room me s (Stops call luck leaves) game held may = crash_held rules room me (step rules me s call luck).state leaves (step_held rules room me s call luck game held may)
+after_held rules room me s (Stops call on_disk leaves) game held may = crash_held rules room me (step rules me s call on_disk).state leaves (step_held rules room me s call on_disk game held may)
 after_held rules room me s (StopsOpening finds opening leaves) game held may =
     crash_held rules room me (opened rules room me s (found s finds) opening).state leaves
     (opened_held rules room me s (found s finds) opening game held (found_journal rules room me s finds held) may.1)
@@ -294,24 +294,24 @@ record_checked : (rules : Rules) (room me : ℕ) (s : State) (call : Call) (r : 
 record_checked rules room me s call r game held are up fits keeps =
     keeps_true rules me room s.journal s.memory call r game.range game.from game.to held.journal (held.memory up) fits are.journal keeps
 
-done_checked : (rules : Rules) (room me : ℕ) (s : State) (call : Call) (keeps : Option Record) (luck : Luck) → IsMatch rules room me → IsHeld rules room me s → AreChecked rules me s → s.mode ≡ Open → IsCall call
+done_checked : (rules : Rules) (room me : ℕ) (s : State) (call : Call) (keeps : Option Record) (on_disk : DiskOutcome) → IsMatch rules room me → IsHeld rules room me s → AreChecked rules me s → s.mode ≡ Open → IsCall call
     → (outcome rules (told_of rules me s.journal) (known_of rules me s.journal) s.memory call).keeps ≡ keeps
-    → AreChecked rules me (done s call (outcome rules (told_of rules me s.journal) (known_of rules me s.journal) s.memory call) keeps luck).state
-done_checked rules room me s call None luck game held are up fits keeps = record { journal = are.journal; longer = are.longer }
+    → AreChecked rules me (done s call (outcome rules (told_of rules me s.journal) (known_of rules me s.journal) s.memory call) keeps on_disk).state
+done_checked rules room me s call None on_disk game held are up fits keeps = record { journal = are.journal; longer = are.longer }
 done_checked rules room me s call (Some r) Works game held are up fits keeps =
     let more = record_checked rules room me s call r game held are up fits keeps in
     record { journal = more; longer = subst (HasTrueChecks rules me) (sym (none_more (s.journal ++ r ∷ []) s.pending (held.settled up))) more }
 done_checked rules room me s call (Some r) (Refuses why) game held are up fits keeps = record { journal = are.journal; longer = record_checked rules room me s call r game held are up fits keeps }
 
-mode_checked : (rules : Rules) (room me : ℕ) (s : State) (call : Call) (luck : Luck) (mode : Mode) → IsMatch rules room me → IsHeld rules room me s → AreChecked rules me s → s.mode ≡ mode → IsCall call
-    → AreChecked rules me (at_mode s call (outcome rules (told_of rules me s.journal) (known_of rules me s.journal) s.memory call) mode luck).state
-mode_checked rules room me s call luck Open game held are up fits =
-    done_checked rules room me s call (outcome rules (told_of rules me s.journal) (known_of rules me s.journal) s.memory call).keeps luck game held are up fits refl
-mode_checked rules room me s call luck Down game held are down fits = are
-mode_checked rules room me s call luck Away game held are gone fits = are
+mode_checked : (rules : Rules) (room me : ℕ) (s : State) (call : Call) (on_disk : DiskOutcome) (mode : Mode) → IsMatch rules room me → IsHeld rules room me s → AreChecked rules me s → s.mode ≡ mode → IsCall call
+    → AreChecked rules me (at_mode s call (outcome rules (told_of rules me s.journal) (known_of rules me s.journal) s.memory call) mode on_disk).state
+mode_checked rules room me s call on_disk Open game held are up fits =
+    done_checked rules room me s call (outcome rules (told_of rules me s.journal) (known_of rules me s.journal) s.memory call).keeps on_disk game held are up fits refl
+mode_checked rules room me s call on_disk Down game held are down fits = are
+mode_checked rules room me s call on_disk Away game held are gone fits = are
 
-step_checked : (rules : Rules) (room me : ℕ) (s : State) (call : Call) (luck : Luck) → IsMatch rules room me → IsHeld rules room me s → AreChecked rules me s → IsCall call → AreChecked rules me (step rules me s call luck).state
-step_checked rules room me s call luck game held are fits = mode_checked rules room me s call luck s.mode game held are refl fits
+step_checked : (rules : Rules) (room me : ℕ) (s : State) (call : Call) (on_disk : DiskOutcome) → IsMatch rules room me → IsHeld rules room me s → AreChecked rules me s → IsCall call → AreChecked rules me (step rules me s call on_disk).state
+step_checked rules room me s call on_disk game held are fits = mode_checked rules room me s call on_disk s.mode game held are refl fits
 
 opening_checked : (rules : Rules) (room me : ℕ) (journal : List Record) → IsMatch rules room me → IsJournal rules me room journal → epoch journal < last_epoch → HasTrueChecks rules me journal → HasTrueChecks rules me (journal ++ opening_record rules room me journal ∷ [])
 opening_checked rules room me journal game is few are =
@@ -335,10 +335,10 @@ opens_checked rules room me s finds opening game held are may =
     opened_checked rules room me s (found s finds) opening game are (found_journal rules room me s finds held) (found_checked rules me s finds are) may
 
 after_checked : (rules : Rules) (room me : ℕ) (s : State) (deed : Deed) → IsMatch rules room me → IsHeld rules room me s → AreChecked rules me s → MayDo rules room me s deed → AreChecked rules me (after rules room me s deed).state
-after_checked rules room me s (Does call luck) game held are may = step_checked rules room me s call luck game held are may
+after_checked rules room me s (Does call on_disk) game held are may = step_checked rules room me s call on_disk game held are may
 after_checked rules room me s (Opens finds opening) game held are may = opens_checked rules room me s finds opening game held are may.1
 after_checked rules room me s Closes game held are may = away_checked rules me s s.journal s.pending are.journal are.longer
-after_checked rules room me s (Stops call luck leaves) game held are may = crash_checked rules me (step rules me s call luck).state leaves (step_checked rules room me s call luck game held are may)
+after_checked rules room me s (Stops call on_disk leaves) game held are may = crash_checked rules me (step rules me s call on_disk).state leaves (step_checked rules room me s call on_disk game held are may)
 after_checked rules room me s (StopsOpening finds opening leaves) game held are may =
     crash_checked rules me (opened rules room me s (found s finds) opening).state leaves (opens_checked rules room me s finds opening game held are may.1)
 
@@ -388,18 +388,18 @@ down_says_nothing (states.Leave leaver) packet = λ e. cc e
 down_says_nothing (states.Decide leaver) packet = λ e. cc e
 down_says_nothing states.Checkpoint packet = λ e. cc e
 
-done_says : (rules : Rules) (room me : ℕ) (s : State) (call : Call) (packet : Packet) (keeps : Option Record) (luck : Luck) → IsMatch rules room me → IsHeld rules room me s → (CarriesMark packet.message → AreChecked rules me s) → s.mode ≡ Open → IsCall call
-    → (done s call (outcome rules (told_of rules me s.journal) (known_of rules me s.journal) s.memory call) keeps luck).reply ≡ Said (Ok packet) → IsTrue rules me s.journal packet
-done_says rules room me s call packet None luck game held are up fits said = said_true rules me room s.journal s.memory call packet game.range game.from game.to held.journal (held.memory up) fits (λ carries. (are carries).journal) said
+done_says : (rules : Rules) (room me : ℕ) (s : State) (call : Call) (packet : Packet) (keeps : Option Record) (on_disk : DiskOutcome) → IsMatch rules room me → IsHeld rules room me s → (CarriesMark packet.message → AreChecked rules me s) → s.mode ≡ Open → IsCall call
+    → (done s call (outcome rules (told_of rules me s.journal) (known_of rules me s.journal) s.memory call) keeps on_disk).reply ≡ Said (Ok packet) → IsTrue rules me s.journal packet
+done_says rules room me s call packet None on_disk game held are up fits said = said_true rules me room s.journal s.memory call packet game.range game.from game.to held.journal (held.memory up) fits (λ carries. (are carries).journal) said
 done_says rules room me s call packet (Some r) Works game held are up fits said = said_true rules me room s.journal s.memory call packet game.range game.from game.to held.journal (held.memory up) fits (λ carries. (are carries).journal) said
 done_says rules room me s call packet (Some r) (Refuses why) game held are up fits said = absurd (disk_says_nothing call why packet said)
 
-mode_says : (rules : Rules) (room me : ℕ) (s : State) (call : Call) (packet : Packet) (mode : Mode) (luck : Luck) → IsMatch rules room me → IsHeld rules room me s → (CarriesMark packet.message → AreChecked rules me s) → s.mode ≡ mode → IsCall call
-    → (at_mode s call (outcome rules (told_of rules me s.journal) (known_of rules me s.journal) s.memory call) mode luck).reply ≡ Said (Ok packet) → IsTrue rules me s.journal packet
-mode_says rules room me s call packet Open luck game held are up fits said =
-    done_says rules room me s call packet (outcome rules (told_of rules me s.journal) (known_of rules me s.journal) s.memory call).keeps luck game held are up fits said
-mode_says rules room me s call packet Down luck game held are down fits said = absurd (down_says_nothing call packet said)
-mode_says rules room me s call packet Away luck game held are gone fits said = absurd (down_says_nothing call packet said)
+mode_says : (rules : Rules) (room me : ℕ) (s : State) (call : Call) (packet : Packet) (mode : Mode) (on_disk : DiskOutcome) → IsMatch rules room me → IsHeld rules room me s → (CarriesMark packet.message → AreChecked rules me s) → s.mode ≡ mode → IsCall call
+    → (at_mode s call (outcome rules (told_of rules me s.journal) (known_of rules me s.journal) s.memory call) mode on_disk).reply ≡ Said (Ok packet) → IsTrue rules me s.journal packet
+mode_says rules room me s call packet Open on_disk game held are up fits said =
+    done_says rules room me s call packet (outcome rules (told_of rules me s.journal) (known_of rules me s.journal) s.memory call).keeps on_disk game held are up fits said
+mode_says rules room me s call packet Down on_disk game held are down fits said = absurd (down_says_nothing call packet said)
+mode_says rules room me s call packet Away on_disk game held are gone fits said = absurd (down_says_nothing call packet said)
 
 opened_says_nothing : (rules : Rules) (room me : ℕ) (s : State) (journal : List Record) (opening : Opening) (packet : Packet) → (opened rules room me s journal opening).reply ≢ Said (Ok packet)
 opened_says_nothing rules room me s journal Stands packet = λ e. cc e
@@ -412,10 +412,10 @@ opened_says_nothing rules room me s journal Spent packet = λ e. cc e
 
 after_says : (rules : Rules) (room me : ℕ) (s : State) (deed : Deed) (packet : Packet) → IsMatch rules room me → IsHeld rules room me s → (CarriesMark packet.message → AreChecked rules me s) → MayDo rules room me s deed
     → (after rules room me s deed).answer ≡ Some (Said (Ok packet)) → IsTrue rules me s.journal packet
-after_says rules room me s (Does call luck) packet game held are may said = mode_says rules room me s call packet s.mode luck game held are refl may cc
+after_says rules room me s (Does call on_disk) packet game held are may said = mode_says rules room me s call packet s.mode on_disk game held are refl may cc
 after_says rules room me s (Opens finds opening) packet game held are may said = absurd (opened_says_nothing rules room me s (found s finds) opening packet cc)
 after_says rules room me s Closes packet game held are may said = absurd cc
-after_says rules room me s (Stops call luck leaves) packet game held are may said = absurd cc
+after_says rules room me s (Stops call on_disk leaves) packet game held are may said = absurd cc
 after_says rules room me s (StopsOpening finds opening leaves) packet game held are may said = absurd cc
 
 -- what is true at one moment is true at each later one
@@ -469,12 +469,12 @@ run_keeps_rows rules room me n s t deeds answers range from to low lawful run wi
 
 -- a crash inside a call leaves what a stop in a run finds
 inside_done : (s : State) (call : Call) (o : Outcome) (keeps : Option Record) (image : List ℕ) → KeepsWithOrWithout s.journal (or_pending keeps s.pending) image
-    → (luck : Luck) × (leaves : Bool) × Keeps (found (done s call o keeps luck).state leaves) image
+    → (on_disk : DiskOutcome) × (leaves : Bool) × Keeps (found (done s call o keeps on_disk).state leaves) image
 inside_done s call o None image = ⊎_elim (λ without. (Works, false, without)) (λ with. (Works, true, with))
 inside_done s call o (Some r) image = ⊎_elim (λ without. (Refuses Failed, false, without)) (λ with. (Refuses Failed, true, with))
 
 inside_mode : (s : State) (call : Call) (o : Outcome) (mode : Mode) (image : List ℕ) → KeepsWithOrWithout s.journal (or_pending (added_at mode o.keeps) s.pending) image
-    → (luck : Luck) × (leaves : Bool) × Keeps (found (at_mode s call o mode luck).state leaves) image
+    → (on_disk : DiskOutcome) × (leaves : Bool) × Keeps (found (at_mode s call o mode on_disk).state leaves) image
 inside_mode s call o Open image = inside_done s call o o.keeps image
 inside_mode s call o Down image = ⊎_elim (λ without. (Works, false, without)) (λ with. (Works, true, with))
 inside_mode s call o Away image = ⊎_elim (λ without. (Works, false, without)) (λ with. (Works, true, with))
@@ -482,7 +482,7 @@ inside_mode s call o Away image = ⊎_elim (λ without. (Works, false, without))
 module _ {D : Type 0} where
   -- calls are deeds
   pub answered_done : (g : Ghosts D) (old new : PeerValue D) (call : Call) (reply : Reply) → IsCall call → IsAnswered g old call reply new
-      → IsDone old.rules old.room old.me old.state (Does call (luck_of reply)) (Some reply) new.state
+      → IsDone old.rules old.room old.me old.state (Does call (disk_outcome_of reply)) (Some reply) new.state
   answered_done g old new call reply fits is = record { may = fits; is = ap as_answered (sym is.step) }
 
   pub said_done : (p : PeerValue D) (call : Call) (bytes : List ℕ) → IsCall call → (is : IsSaid p call bytes)
@@ -493,7 +493,7 @@ module _ {D : Type 0} where
   sound_lawful g p sound = record { journal = sound.found_is; memory = λ opened. sound.memory; settled = sound.none_pending }
 
   pub inside_call : (p : PeerValue D) (call : Call) (image : List ℕ) → MayLeave p call image
-      → (luck : Luck) × (leaves : Bool) × Keeps (found (step p.rules p.me p.state call luck).state leaves) image
+      → (on_disk : DiskOutcome) × (leaves : Bool) × Keeps (found (step p.rules p.me p.state call on_disk).state leaves) image
   inside_call p call image left = inside_mode p.state call (outcome p.rules (told_of p.rules p.me p.state.journal) (known_of p.rules p.me p.state.journal) p.state.memory call) p.state.mode image left
 
   pub left_bodies : (g : Ghosts D) (p : PeerValue D) (image : List ℕ) → IsSound g p → g.may_leave p.disk image → (finds : Bool) × Keeps (found p.state finds) image

@@ -34,7 +34,7 @@ use Rattle.c8_peer.specs.TrueChecks.{HasTrueChecks}
 use Rattle.c8_peer.specs.Told.{Told, told_of}
 use Rattle.c8_peer.specs.Opening.{found}
 use Rattle.c8_peer.specs.Lawful.{IsMemory}
-use Rattle.c8_peer.specs.Steps.{Luck, Works, Refuses, Stepped, outcome, step}
+use Rattle.c8_peer.specs.Steps.{DiskOutcome, Works, Refuses, Stepped, outcome, step}
 
 -- ---- the peer
 
@@ -82,61 +82,61 @@ pub record IsSamePeer {D : Type 0} (disk : Ghosts D) (old new : PeerValue D) : T
 -- ---- a call is a step
 
 -- what the disk did with the record of a call, read from the answer
-abbrev pub luck_of_tick : Result (Unit {0}) TickError → Luck
-luck_of_tick (Ok done) = Works
-luck_of_tick (Err ticks.Threshold) = Works
-luck_of_tick (Err ticks.End) = Works
-luck_of_tick (Err ticks.Dropped) = Works
-luck_of_tick (Err (ticks.Disk why)) = Refuses why
-luck_of_tick (Err ticks.Down) = Works
+abbrev pub disk_outcome_of_tick : Result (Unit {0}) TickError → DiskOutcome
+disk_outcome_of_tick (Ok done) = Works
+disk_outcome_of_tick (Err ticks.Threshold) = Works
+disk_outcome_of_tick (Err ticks.End) = Works
+disk_outcome_of_tick (Err ticks.Dropped) = Works
+disk_outcome_of_tick (Err (ticks.Disk why)) = Refuses why
+disk_outcome_of_tick (Err ticks.Down) = Works
 
-abbrev pub luck_of_refusal : Refused → Luck
-luck_of_refusal (refusals.Wire error) = Works
-luck_of_refusal (refusals.Hand error) = Works
-luck_of_refusal (refusals.Known error) = Works
-luck_of_refusal refusals.BadAck = Works
-luck_of_refusal refusals.NotChair = Works
-luck_of_refusal refusals.NotFrozen = Works
-luck_of_refusal refusals.WrongLeaver = Works
-luck_of_refusal refusals.Desync = Works
-luck_of_refusal (refusals.Disk why) = Refuses why
-luck_of_refusal refusals.Down = Works
-luck_of_refusal refusals.Dropped = Works
-luck_of_refusal refusals.OtherWire = Works
+abbrev pub disk_outcome_of_refusal : Refused → DiskOutcome
+disk_outcome_of_refusal (refusals.Wire error) = Works
+disk_outcome_of_refusal (refusals.Hand error) = Works
+disk_outcome_of_refusal (refusals.Known error) = Works
+disk_outcome_of_refusal refusals.BadAck = Works
+disk_outcome_of_refusal refusals.NotChair = Works
+disk_outcome_of_refusal refusals.NotFrozen = Works
+disk_outcome_of_refusal refusals.WrongLeaver = Works
+disk_outcome_of_refusal refusals.Desync = Works
+disk_outcome_of_refusal (refusals.Disk why) = Refuses why
+disk_outcome_of_refusal refusals.Down = Works
+disk_outcome_of_refusal refusals.Dropped = Works
+disk_outcome_of_refusal refusals.OtherWire = Works
 
-abbrev pub luck_of_leave : Result (Unit {0}) LeaveError → Luck
-luck_of_leave (Ok done) = Works
-luck_of_leave (Err leaves.NotChair) = Works
-luck_of_leave (Err leaves.Myself) = Works
-luck_of_leave (Err leaves.Already) = Works
-luck_of_leave (Err (leaves.Disk why)) = Refuses why
-luck_of_leave (Err leaves.Down) = Works
-luck_of_leave (Err leaves.NotPlaying) = Works
+abbrev pub disk_outcome_of_leave : Result (Unit {0}) LeaveError → DiskOutcome
+disk_outcome_of_leave (Ok done) = Works
+disk_outcome_of_leave (Err leaves.NotChair) = Works
+disk_outcome_of_leave (Err leaves.Myself) = Works
+disk_outcome_of_leave (Err leaves.Already) = Works
+disk_outcome_of_leave (Err (leaves.Disk why)) = Refuses why
+disk_outcome_of_leave (Err leaves.Down) = Works
+disk_outcome_of_leave (Err leaves.NotPlaying) = Works
 
-abbrev pub luck_of_decision : Result ℕ DecideError → Luck
-luck_of_decision (Ok length) = Works
-luck_of_decision (Err decides.NotLeaving) = Works
-luck_of_decision (Err decides.NotReady) = Works
-luck_of_decision (Err decides.Already) = Works
-luck_of_decision (Err (decides.Disk why)) = Refuses why
-luck_of_decision (Err decides.Down) = Works
+abbrev pub disk_outcome_of_decision : Result ℕ DecideError → DiskOutcome
+disk_outcome_of_decision (Ok length) = Works
+disk_outcome_of_decision (Err decides.NotLeaving) = Works
+disk_outcome_of_decision (Err decides.NotReady) = Works
+disk_outcome_of_decision (Err decides.Already) = Works
+disk_outcome_of_decision (Err (decides.Disk why)) = Refuses why
+disk_outcome_of_decision (Err decides.Down) = Works
 
-abbrev pub luck_of_check : Result Check CheckError → Luck
-luck_of_check (Ok said) = Works
-luck_of_check (Err checks.Nothing) = Works
-luck_of_check (Err checks.Dropped) = Works
-luck_of_check (Err (checks.Disk why)) = Refuses why
-luck_of_check (Err checks.Down) = Works
+abbrev pub disk_outcome_of_check : Result Check CheckError → DiskOutcome
+disk_outcome_of_check (Ok said) = Works
+disk_outcome_of_check (Err checks.Nothing) = Works
+disk_outcome_of_check (Err checks.Dropped) = Works
+disk_outcome_of_check (Err (checks.Disk why)) = Refuses why
+disk_outcome_of_check (Err checks.Down) = Works
 
-abbrev pub luck_of : Reply → Luck
-luck_of (Opened result) = Works
-luck_of (Ticked result) = luck_of_tick result
-luck_of (Delivered (Ok heard)) = Works
-luck_of (Delivered (Err why)) = luck_of_refusal why
-luck_of (Said result) = Works
-luck_of (Left result) = luck_of_leave result
-luck_of (Decided result) = luck_of_decision result
-luck_of (Checked result) = luck_of_check result
+abbrev pub disk_outcome_of : Reply → DiskOutcome
+disk_outcome_of (Opened result) = Works
+disk_outcome_of (Ticked result) = disk_outcome_of_tick result
+disk_outcome_of (Delivered (Ok heard)) = Works
+disk_outcome_of (Delivered (Err why)) = disk_outcome_of_refusal why
+disk_outcome_of (Said result) = Works
+disk_outcome_of (Left result) = disk_outcome_of_leave result
+disk_outcome_of (Decided result) = disk_outcome_of_decision result
+disk_outcome_of (Checked result) = disk_outcome_of_check result
 
 -- an answer and the state after it
 abbrev pub stepped : {D : Type 0} → Reply → PeerValue D → Stepped
@@ -144,7 +144,7 @@ stepped reply p = record { reply = reply; state = p.state }
 
 -- A call with this answer is exactly the step of the definitions.
 abbrev pub IsStep : {D : Type 0} → PeerValue D → Call → Reply → PeerValue D → Type 0
-IsStep old call reply new = stepped reply new ≡ step old.rules old.me old.state call (luck_of reply)
+IsStep old call reply new = stepped reply new ≡ step old.rules old.me old.state call (disk_outcome_of reply)
 
 -- ---- the disk, and the frames that are run
 
@@ -174,13 +174,13 @@ pub record RunsFrames (most : ℕ) (before now : KnownValue) (ran : ℕ) : Type 
   pub from_oldest : RunsFromOldest before now ran
 
 -- The number of frames run last, before and after a call: those that the call ran if its record stands; else unchanged.
-abbrev pub IsLastRun : Option Record → Luck → ℕ → KnownValue → KnownValue → ℕ → ℕ → Type 0
+abbrev pub IsLastRun : Option Record → DiskOutcome → ℕ → KnownValue → KnownValue → ℕ → ℕ → Type 0
 IsLastRun (Some r) Works most before now was is = RunsFrames most before now is
 IsLastRun (Some r) (Refuses why) most before now was is = is ≡ was
-IsLastRun None luck most before now was is = is ≡ was
+IsLastRun None on_disk most before now was is = is ≡ was
 
 abbrev pub TellsFrames : {D : Type 0} → PeerValue D → Call → Reply → PeerValue D → Type 0
-TellsFrames old call reply new = IsLastRun (added old call) (luck_of reply) (most_run old.rules call) (known_by old) (known_by new) old.last_run new.last_run
+TellsFrames old call reply new = IsLastRun (added old call) (disk_outcome_of reply) (most_run old.rules call) (known_by old) (known_by new) old.last_run new.last_run
 
 -- the image keeps exactly these records
 abbrev pub Keeps : List Record → List ℕ → Type 0
@@ -211,7 +211,7 @@ HasAppendCause disk old new errors.Failed = (slot_length * (length old.state.jou
 HasAppendCause disk old new errors.Full = (disk.capacity old.disk < slot_length * (length old.state.journal + 1) + 1) × (new.disk ≡ old.disk)
 
 -- the disk's answer to a record
-abbrev pub disk_answer : Luck → Answer
+abbrev pub disk_answer : DiskOutcome → Answer
 disk_answer Works = Ok tt
 disk_answer (Refuses why) = Err why
 
@@ -230,12 +230,12 @@ disk_answer (Refuses why) = Err why
 -- - `same`: match, player and disk stay.
 pub record IsAnswered {D : Type 0} (disk : Ghosts D) (old : PeerValue D) (call : Call) (reply : Reply) (new : PeerValue D) : Type 0 where
   pub step : IsStep old call reply new
-  pub cause : (why : DiskError) → luck_of reply ≡ Refuses why → HasAppendCause disk old new why
-  pub full : (r : Record) → added old call ≡ Some r → disk.capacity old.disk < slot_length * (length old.state.journal + 1) + 1 → luck_of reply ≡ Refuses errors.Full
+  pub cause : (why : DiskError) → disk_outcome_of reply ≡ Refuses why → HasAppendCause disk old new why
+  pub full : (r : Record) → added old call ≡ Some r → disk.capacity old.disk < slot_length * (length old.state.journal + 1) + 1 → disk_outcome_of reply ≡ Refuses errors.Full
   pub any_moment : LeavesOnly disk old.disk new.disk (MayLeave old call)
   pub journal : LeavesJournal disk new
   pub asks : (r : Record) → added old call ≡ Some r
-      → Asks disk (AppendWithin (disk.capacity old.disk) (length old.state.journal) (body_of r)) (disk_answer (luck_of reply)) old.disk new.disk
+      → Asks disk (AppendWithin (disk.capacity old.disk) (length old.state.journal) (body_of r)) (disk_answer (disk_outcome_of reply)) old.disk new.disk
   pub untouched : added old call ≡ None → new.disk ≡ old.disk
   pub changes : disk.changes new.disk ≤ disk.changes old.disk + 4
   pub ran : TellsFrames old call reply new

@@ -1,10 +1,10 @@
 -- Which mode a peer is in, read from its answer.
 use Rattle.std.specs.Prelude.{Ok, Err}
 use Rattle.c8_peer.specs.State.{Mode, Open, Down, Away, Reply, Opened, Ticked, Delivered, Said, Left, Decided, Checked}
-use Rattle.c8_peer.specs.Steps.{Luck, Works, Refuses}
-use Rattle.c8_peer.specs.Peer.{luck_of}
+use Rattle.c8_peer.specs.Steps.{DiskOutcome, Works, Refuses}
+use Rattle.c8_peer.specs.Peer.{disk_outcome_of}
 
-abbrev pub mode_by : Luck → Mode
+abbrev pub mode_by : DiskOutcome → Mode
 mode_by Works = Open
 mode_by (Refuses why) = Down
 
@@ -13,9 +13,9 @@ mode_by (Refuses why) = Down
 abbrev pub mode_told : Reply → Mode
 mode_told (Opened (Ok epoch)) = Open
 mode_told (Opened (Err error)) = Away
-mode_told (Ticked result) = mode_by (luck_of (Ticked result))
-mode_told (Delivered result) = mode_by (luck_of (Delivered result))
+mode_told (Ticked result) = mode_by (disk_outcome_of (Ticked result))
+mode_told (Delivered result) = mode_by (disk_outcome_of (Delivered result))
 mode_told (Said result) = Open
-mode_told (Left result) = mode_by (luck_of (Left result))
-mode_told (Decided result) = mode_by (luck_of (Decided result))
-mode_told (Checked result) = mode_by (luck_of (Checked result))
+mode_told (Left result) = mode_by (disk_outcome_of (Left result))
+mode_told (Decided result) = mode_by (disk_outcome_of (Decided result))
+mode_told (Checked result) = mode_by (disk_outcome_of (Checked result))

@@ -10,7 +10,7 @@ use Rattle.c8_window.specs.Window.{first_window}
 use Rattle.c8_round.specs.Round.{no_reports, no_haves}
 use Rattle.c8_peer.specs.State.{Away, State, none_seen, Call, Reply, Opened, Said}
 use Rattle.c8_peer.specs.State as states
-use Rattle.c8_peer.specs.Steps.{Luck, Stepped, step}
+use Rattle.c8_peer.specs.Steps.{DiskOutcome, Stepped, step}
 use Rattle.c8_peer.specs.Opening.{Opening, found, opened, away, MayBecome}
 use Rattle.c8_disk.specs.declared.disk.Disk.{Ghosts}
 use Rattle.c8_refusals.specs.declared.error.OpenError.{OpenError}
@@ -45,10 +45,10 @@ never_opened = record {
 -- - `Stops`, `StopsOpening`: a call or an opening, then a crash. `leaves`: whether the crash leaves the record that is
 --   pending then.
 pub data Deed : Type 0 where
-  Does : (call : Call) → (luck : Luck) → Deed
+  Does : (call : Call) → (on_disk : DiskOutcome) → Deed
   Opens : (finds : Bool) → (opening : Opening) → Deed
   Closes : Deed
-  Stops : (call : Call) → (luck : Luck) → (leaves : Bool) → Deed
+  Stops : (call : Call) → (on_disk : DiskOutcome) → (leaves : Bool) → Deed
   StopsOpening : (finds : Bool) → (opening : Opening) → (leaves : Bool) → Deed
 
 -- the answer, if there is one, and the state after it
@@ -65,10 +65,10 @@ crashed s leaves = away s (found s leaves) None
 
 -- The answer and the state after a deed. A stop does the whole call or opening and then crashes, without an answer.
 abbrev pub after : Rules → ℕ → ℕ → State → Deed → After
-after rules room me s (Does call luck) = as_answered (step rules me s call luck)
+after rules room me s (Does call on_disk) = as_answered (step rules me s call on_disk)
 after rules room me s (Opens finds opening) = as_answered (opened rules room me s (found s finds) opening)
 after rules room me s Closes = record { answer = None; state = away s s.journal s.pending }
-after rules room me s (Stops call luck leaves) = record { answer = None; state = crashed (step rules me s call luck).state leaves }
+after rules room me s (Stops call on_disk leaves) = record { answer = None; state = crashed (step rules me s call on_disk).state leaves }
 after rules room me s (StopsOpening finds opening leaves) = record { answer = None; state = crashed (opened rules room me s (found s finds) opening).state leaves }
 
 -- only a peer that is down or away is opened, and the opening ends in a possible way
@@ -76,10 +76,10 @@ abbrev pub MayOpen : Rules → ℕ → ℕ → State → Bool → Opening → Ty
 MayOpen rules room me s finds opening = (s.mode ≢ states.Open) × MayBecome rules room me (found s finds) opening
 
 abbrev pub MayDo : Rules → ℕ → ℕ → State → Deed → Type 0
-MayDo rules room me s (Does call luck) = IsCall call
+MayDo rules room me s (Does call on_disk) = IsCall call
 MayDo rules room me s (Opens finds opening) = MayOpen rules room me s finds opening
 MayDo rules room me s Closes = Unit {0}
-MayDo rules room me s (Stops call luck leaves) = IsCall call
+MayDo rules room me s (Stops call on_disk leaves) = IsCall call
 MayDo rules room me s (StopsOpening finds opening leaves) = MayOpen rules room me s finds opening
 
 -- the deed is possible, and has this answer and this next state

@@ -27,9 +27,9 @@ outcome rules t k m (Decide leaver) = decide k m leaver
 outcome rules t k m Checkpoint = checkpoint t k m
 
 -- What the disk does with the record of a call: it takes or refuses it. Without a record it has no meaning.
-pub data Luck : Type 0 where
-  Works : Luck
-  Refuses : DiskError → Luck
+pub data DiskOutcome : Type 0 where
+  Works : DiskOutcome
+  Refuses : DiskError → DiskOutcome
 
 -- the answer if the disk refused the record; a saying records nothing, so its answer is never used
 abbrev pub refused_by_disk : Call → DiskError → Reply
@@ -58,19 +58,19 @@ pub record Stepped : Type 0 where
 
 -- If the disk takes the record, it stands, and the memory is the call's. If the disk refuses it, it is pending, the
 -- peer is down, and nothing else changes.
-abbrev pub done : State → Call → Outcome → Option Record → Luck → Stepped
-done s call o None luck = record { reply = o.reply; state = record s { memory = o.memory } }
+abbrev pub done : State → Call → Outcome → Option Record → DiskOutcome → Stepped
+done s call o None on_disk = record { reply = o.reply; state = record s { memory = o.memory } }
 done s call o (Some r) Works = record { reply = o.reply; state = record s { journal = s.journal ++ r ∷ []; memory = o.memory } }
 done s call o (Some r) (Refuses why) = record { reply = refused_by_disk call why; state = record s { pending = Some r; mode = Down } }
 
 -- a peer that is not open changes nothing
-abbrev pub at_mode : State → Call → Outcome → Mode → Luck → Stepped
-at_mode s call o Open luck = done s call o o.keeps luck
-at_mode s call o Down luck = record { reply = when_down call; state = s }
-at_mode s call o Away luck = record { reply = when_down call; state = s }
+abbrev pub at_mode : State → Call → Outcome → Mode → DiskOutcome → Stepped
+at_mode s call o Open on_disk = done s call o o.keeps on_disk
+at_mode s call o Down on_disk = record { reply = when_down call; state = s }
+at_mode s call o Away on_disk = record { reply = when_down call; state = s }
 
-abbrev pub step : Rules → ℕ → State → Call → Luck → Stepped
-step rules me s call luck = at_mode s call (outcome rules (told_of rules me s.journal) (known_of rules me s.journal) s.memory call) s.mode luck
+abbrev pub step : Rules → ℕ → State → Call → DiskOutcome → Stepped
+step rules me s call on_disk = at_mode s call (outcome rules (told_of rules me s.journal) (known_of rules me s.journal) s.memory call) s.mode on_disk
 
 -- ---- refusals
 

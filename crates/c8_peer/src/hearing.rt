@@ -14,7 +14,7 @@ ghost use Rattle.c8_peer.specs.Told.{Told};
 ghost use Rattle.c8_peer.specs.State.{Memory, Outcome, with_seen};
 ghost use Rattle.c8_peer.specs.Hearing.{refused, taken, hear_seen, unless_misfit, got, differs_from, hear_data, hear_welcome, hear_freeze, hear_frozen, hear_end, hear_cut, cut_or_got, hear_message, seen_in};
 ghost use Rattle.c8_peer.specs.Steps.{Works};
-ghost use Rattle.c8_peer.specs.Peer.{luck_of_refusal};
+ghost use Rattle.c8_peer.specs.Peer.{disk_outcome_of_refusal};
 ghost use Rattle.c8_peer.specs.checked.Verdicts.{AcksWithin, IsLater, by_verdict, Judges, memory_after};
 
 use crate::heard::Heard;
@@ -27,15 +27,15 @@ use c8_record::Record;
 use c8_refusals::Refused;
 use c8_wire::{Cut, Data, Datagram, Freeze, Frozen, Run, Welcome};
 
-/// Judges an admitted datagram of player `q`.
+/// Judges an admitted datagram of a player.
 pub(crate) fn judge<'a>(
     known: &Known,
     marks: &Marks,
-    q: Player,
+    sender: Player,
     datagram: &Datagram<'a>,
 ) -> Result<Verdict<'a>, Refused>
-    requires plays { Plays known.now q.number }
-    requires from { q.number ≡ (packet_of datagram.now).head.from }
+    requires plays { Plays known.now sender.number }
+    requires from { sender.number ≡ (packet_of datagram.now).head.from }
     ensures judged { (rules : Rules) (t : Told) (m : Memory) → marks.now ≡ t.marks
         → Judges (hear_message rules t known.now m (packet_of datagram.now).head
         (packet_of datagram.now).message)
@@ -45,10 +45,10 @@ pub(crate) fn judge<'a>(
     match datagram {
         Datagram::Hello(_) => Ok(Verdict::Nothing),
         Datagram::Welcome(welcome) => judge_welcome(known, welcome),
-        Datagram::Data(data) => judge_data(known, marks, q, data),
-        Datagram::Freeze(freeze) => judge_freeze(known, q, freeze),
-        Datagram::Frozen(frozen) => judge_frozen(known, q, frozen),
-        Datagram::Cut(cut) => judge_cut(known, q, cut),
+        Datagram::Data(data) => judge_data(known, marks, sender, data),
+        Datagram::Freeze(freeze) => judge_freeze(known, sender, freeze),
+        Datagram::Frozen(frozen) => judge_frozen(known, sender, frozen),
+        Datagram::Cut(cut) => judge_cut(known, sender, cut),
         Datagram::Show(_) | Datagram::Seen(_) => Err(Refused::Hand(HandError::NotMine)),
     }
 }
@@ -76,7 +76,7 @@ pub(crate) fn judge_seen(known: &Known, rows: u32) -> Result<(), Refused>
         (λ _. hear_seen known.now m head rows
         ≡ taken (record m { seen = with_seen m.seen head.from rows }) Heard.Nothing)
         (λ error. hear_seen known.now m head rows ≡ refused m error) }
-    ensures plain { IfErr result (λ error. luck_of_refusal error ≡ Works) }
+    ensures plain { IfErr result (λ error. disk_outcome_of_refusal error ≡ Works) }
     ensures within { OnOk result (rows ≤ confirmed known.now) }
 {
     if rows > known.confirmed() {
@@ -104,26 +104,26 @@ fn judge_welcome<'a>(known: &Known, welcome: &Welcome<'a>) -> Result<Verdict<'a>
 fn judge_data<'a>(
     known: &Known,
     marks: &Marks,
-    q: Player,
+    sender: Player,
     data: &Data<'a>,
 ) -> Result<Verdict<'a>, Refused>
-    requires { Plays known.now q.number }
+    requires { Plays known.now sender.number }
     ensures judged { (t : Told) (m : Memory) → marks.now ≡ t.marks
-        → Judges (hear_data t known.now m q.number (data_of data.now)) m
-        (record m { acks = acked_more m.acks q.number (data_of data.now).ack }) result }
+        → Judges (hear_data t known.now m sender.number (data_of data.now)) m
+        (record m { acks = acked_more m.acks sender.number (data_of data.now).ack }) result }
     ensures acks { OnOk result ((data_of data.now).ack ≤ count_in known.now known.now.me) }
 {
-    if known.frozen(q) {
+    if known.frozen(sender) {
         return Err(Refused::Known(KnownError::FromLeaver));
     }
     if data.ack() > known.count(known.me()) {
         return Err(Refused::BadAck);
     }
-    let fresh = fresh_part(known, q, q, data.start(), data.run())?;
+    let fresh = fresh_part(known, sender, sender, data.start(), data.run())?;
     if differs(marks, data) {
         return Ok(Verdict::Alarm);
     }
-    Ok(got(known, q, fresh))
+    Ok(got(known, sender, fresh))
 }
 
 /// Returns whether the sender's mark differs from the own mark of the same frame. A frame without an
@@ -146,16 +146,20 @@ fn are_apart(own: &[u8; MARK_LENGTH], theirs: &[u8; MARK_LENGTH]) -> bool
 
 /// Judges a FREEZE: player one has dropped a player.
 #[tactic(auto, unfolding(crate::specs::Hearing::hear_freeze))]
-fn judge_freeze<'a>(known: &Known, q: Player, freeze: &Freeze<'a>) -> Result<Verdict<'a>, Refused>
+fn judge_freeze<'a>(
+    known: &Known,
+    sender: Player,
+    freeze: &Freeze<'a>,
+) -> Result<Verdict<'a>, Refused>
     ensures { (m : Memory)
-        → Judges (hear_freeze known.now m q.number (freeze_of freeze.now)) m
+        → Judges (hear_freeze known.now m sender.number (freeze_of freeze.now)) m
         (record m {
           stayer = with_have m.stayer (freeze_of freeze.now).leaver
               (freeze_of freeze.now).have;
         }) result }
 {
     let leaver = freeze.leaver();
-    if q.number != 1 {
+    if sender.number != 1 {
         return Err(Refused::NotChair);
     }
     if leaver.number == known.me().number || leaver.number > known.players() {
@@ -169,11 +173,15 @@ fn judge_freeze<'a>(known: &Known, q: Player, freeze: &Freeze<'a>) -> Result<Ver
 
 /// Judges a FROZEN: a player answers how many inputs of a leaver it holds, and brings some.
 #[tactic(auto, unfolding(crate::specs::Hearing::hear_frozen))]
-fn judge_frozen<'a>(known: &Known, q: Player, frozen: &Frozen<'a>) -> Result<Verdict<'a>, Refused>
+fn judge_frozen<'a>(
+    known: &Known,
+    sender: Player,
+    frozen: &Frozen<'a>,
+) -> Result<Verdict<'a>, Refused>
     ensures { (m : Memory)
-        → Judges (hear_frozen known.now m q.number (frozen_of frozen.now)) m
+        → Judges (hear_frozen known.now m sender.number (frozen_of frozen.now)) m
         (record m {
-          chair = with_report m.chair (frozen_of frozen.now).leaver q.number
+          chair = with_report m.chair (frozen_of frozen.now).leaver sender.number
               (frozen_of frozen.now).length;
         }) result }
 {
@@ -181,7 +189,7 @@ fn judge_frozen<'a>(known: &Known, q: Player, frozen: &Frozen<'a>) -> Result<Ver
     if known.me().number != 1 {
         return Err(Refused::NotChair);
     }
-    if leaver.number == q.number || leaver.number > known.players() {
+    if leaver.number == sender.number || leaver.number > known.players() {
         return Err(Refused::WrongLeaver);
     }
     if !known.leaving(leaver) {
@@ -193,18 +201,18 @@ fn judge_frozen<'a>(known: &Known, q: Player, frozen: &Frozen<'a>) -> Result<Ver
     if frozen.held() > known.limit() {
         return Err(Refused::Known(KnownError::Full));
     }
-    let fresh = fresh_part(known, leaver, q, frozen.start(), frozen.run())?;
+    let fresh = fresh_part(known, leaver, sender, frozen.start(), frozen.run())?;
     Ok(got(known, leaver, fresh))
 }
 
 /// Judges a CUT: player one has cut a leaver's list. If it is the own player's, the peer is out.
 #[tactic(auto, unfolding(crate::specs::Hearing::hear_cut))]
-fn judge_cut<'a>(known: &Known, q: Player, cut: &Cut<'a>) -> Result<Verdict<'a>, Refused>
+fn judge_cut<'a>(known: &Known, sender: Player, cut: &Cut<'a>) -> Result<Verdict<'a>, Refused>
     ensures { (m : Memory)
-        → Judges (hear_cut known.now m q.number (cut_of cut.now)) m m result }
+        → Judges (hear_cut known.now m sender.number (cut_of cut.now)) m m result }
 {
     let leaver = cut.leaver();
-    if q.number != 1 {
+    if sender.number != 1 {
         return Err(Refused::NotChair);
     }
     if leaver.number == known.me().number {
@@ -216,45 +224,45 @@ fn judge_cut<'a>(known: &Known, q: Player, cut: &Cut<'a>) -> Result<Verdict<'a>,
     if !known.has_freeze(leaver) {
         return Err(Refused::NotFrozen);
     }
-    judge_end(known, q, leaver, cut)
+    judge_end(known, sender, leaver, cut)
 }
 
 /// Judges the end of another leaver's list, once the sender and the leaver are right.
 fn judge_end<'a>(
     known: &Known,
-    q: Player,
+    sender: Player,
     leaver: Player,
     cut: &Cut<'a>,
 ) -> Result<Verdict<'a>, Refused>
     requires plays { Plays known.now leaver.number }
     requires leaver { leaver.number ≡ (cut_of cut.now).leaver }
-    requires one { q.number ≡ 1 }
+    requires one { sender.number ≡ 1 }
     ensures { (m : Memory) → Judges (hear_end known.now m (cut_of cut.now)
         (player_in known.now leaver.number).cut) m m result }
 {
     match known.cut_of(leaver) {
         Some(length) if length == cut.length() => Ok(Verdict::Nothing),
         Some(_) => Err(Refused::Known(KnownError::Differs)),
-        None => judge_first_end(known, q, leaver, cut),
+        None => judge_first_end(known, sender, leaver, cut),
     }
 }
 
 /// Judges the end of a list that is not cut here yet.
 fn judge_first_end<'a>(
     known: &Known,
-    q: Player,
+    sender: Player,
     leaver: Player,
     cut: &Cut<'a>,
 ) -> Result<Verdict<'a>, Refused>
     requires plays { Plays known.now leaver.number }
     requires leaver { leaver.number ≡ (cut_of cut.now).leaver }
-    requires one { q.number ≡ 1 }
+    requires one { sender.number ≡ 1 }
     ensures { (m : Memory) → Judges (hear_end known.now m (cut_of cut.now) None) m m result }
 {
     if cut.length() < known.count(leaver) {
         return Err(Refused::Known(KnownError::Differs));
     }
-    let fresh = fresh_part(known, leaver, q, cut.start(), cut.run())?;
+    let fresh = fresh_part(known, leaver, sender, cut.start(), cut.run())?;
     Ok(cut_or_got(known, leaver, cut.length(), fresh))
 }
 
@@ -308,7 +316,7 @@ fn fresh_part<'a>(
         ≡ fitting)
         (λ error. unless_misfit m (misfit known.now player.number start (words run.entry)) fitting
         ≡ refused m error) }
-    ensures plain { IfErr result (λ error. luck_of_refusal error ≡ Works) }
+    ensures plain { IfErr result (λ error. disk_outcome_of_refusal error ≡ Works) }
     ensures fresh { IfOk result (λ part.
         words part ≡ fresh_words known.now player.number start (words run.entry)) }
 {

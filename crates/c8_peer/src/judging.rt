@@ -6,7 +6,7 @@ ghost use Rattle.c8_peer.specs.State as states;
 ghost use Rattle.c8_peer.specs.State.{Ticked, Left, Decided, answered, recorded};
 ghost use Rattle.c8_peer.specs.Calls.{tick, leave, decide};
 ghost use Rattle.c8_peer.specs.Steps.{Works};
-ghost use Rattle.c8_peer.specs.Peer.{luck_of_tick, luck_of_leave, luck_of_decision};
+ghost use Rattle.c8_peer.specs.Peer.{disk_outcome_of_tick, disk_outcome_of_leave, disk_outcome_of_decision};
 
 use crate::memory::Memory;
 use c8_game::{Game, Player};
@@ -20,7 +20,7 @@ pub(crate) fn judge_tick(game: &Game, known: &Known) -> Result<(), TickError>
         (λ _. tick game.now known.now m keys ≡ recorded m (Ticked (Ok tt))
         (Own known.now.me (count_in known.now known.now.me) keys))
         (λ error. tick game.now known.now m keys ≡ answered m (Ticked (Err error))) }
-    ensures plain { IfErr result (λ error. luck_of_tick (Err error) ≡ Works) }
+    ensures plain { IfErr result (λ error. disk_outcome_of_tick (Err error) ≡ Works) }
 {
     if known.leaving(known.me()) {
         return Err(TickError::Dropped);
@@ -42,7 +42,7 @@ pub(crate) fn judge_leave(known: &Known, leaver: Player) -> Result<(), LeaveErro
         (λ _. leave known.now m leaver.number
         ≡ recorded m (Left (Ok tt)) (Leave leaver.number))
         (λ error. leave known.now m leaver.number ≡ answered m (Left (Err error))) }
-    ensures plain { IfErr result (λ error. luck_of_leave (Err error) ≡ Works) }
+    ensures plain { IfErr result (λ error. disk_outcome_of_leave (Err error) ≡ Works) }
 {
     if known.me().number != 1 {
         return Err(LeaveError::NotChair);
@@ -72,7 +72,7 @@ pub(crate) fn judge_decide(
         ≡ recorded memory.now (Decided (Ok count)) (Cut leaver.number count count []))
         (λ error. decide known.now memory.now leaver.number
         ≡ answered memory.now (Decided (Err error))) }
-    ensures plain { IfErr result (λ error. luck_of_decision (Err error) ≡ Works) }
+    ensures plain { IfErr result (λ error. disk_outcome_of_decision (Err error) ≡ Works) }
 {
     if leaver.number > known.players() {
         return Err(DecideError::NotLeaving);

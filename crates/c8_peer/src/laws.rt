@@ -14,14 +14,14 @@ ghost use Rattle.c8_record.specs.Allowed.{IsAllowed, IsJournal};
 ghost use Rattle.c8_record.specs.Body.{records_of};
 ghost use Rattle.c8_peer.specs.State.{Memory, Open, State, Call, Deliver, Reply, Opened, Delivered, Said, fresh_memory};
 ghost use Rattle.c8_peer.specs.Told.{told_of};
-ghost use Rattle.c8_peer.specs.Steps.{Luck, Works, outcome, step, IsPlainRefusal};
+ghost use Rattle.c8_peer.specs.Steps.{DiskOutcome, Works, outcome, step, IsPlainRefusal};
 ghost use Rattle.c8_disk.specs.declared.error.DiskError.{DiskError};
 ghost use Rattle.c8_peer.specs.Opening.{Opening, NotWritten, Stands, opened, MayBecome, IsServed, last_epoch, opening_record, found};
 ghost use Rattle.c8_peer.specs.Replies.{mode_told};
 ghost use Rattle.c8_peer.specs.Truth.{IsTrue, CarriesMark};
 ghost use Rattle.c8_peer.specs.TrueChecks.{SaysNoCheck, HasTrueChecks, HasTrueLast};
 ghost use Rattle.c8_peer.specs.Lawful.{IsMemory, IsCall};
-ghost use Rattle.c8_peer.specs.Peer.{PeerValue, IsSound, IsAnswered, IsSaid, IsStep, Keeps, MayLeave, luck_of};
+ghost use Rattle.c8_peer.specs.Peer.{PeerValue, IsSound, IsAnswered, IsSaid, IsStep, Keeps, MayLeave, disk_outcome_of};
 ghost use Rattle.c8_peer.specs.Runs.{Deed, Does, Opens, IsDone, IsRun, IsLawful, TellsTruly, IsReached, IsAmong, Tells, IsRefusedDeed, IsStoppedOpening, never_opened, known_at};
 ghost use Rattle.c8_peer.specs.Opened.{IsOpened, IsRefusedOpening, OpeningLeaves};
 
@@ -117,12 +117,12 @@ pub fn steps_are_lawful()
 /// A refused call changes nothing (`plain`), unless the disk refuses or the answer is `Desync`.
 /// `desync`: `Desync` raises the alarm and changes nothing else.
 pub fn refusals_change_nothing()
-    ensures plain { (rules : Rules) (me : ℕ) (s : State) (call : Call) (luck : Luck)
-        → IsPlainRefusal (step rules me s call luck).reply
-        → (step rules me s call luck).state ≡ s }
-    ensures desync { (rules : Rules) (me : ℕ) (s : State) (call : Call) (luck : Luck)
-        → (step rules me s call luck).reply ≡ Delivered (Err Refused.Desync)
-        → (step rules me s call luck).state
+    ensures plain { (rules : Rules) (me : ℕ) (s : State) (call : Call) (on_disk : DiskOutcome)
+        → IsPlainRefusal (step rules me s call on_disk).reply
+        → (step rules me s call on_disk).state ≡ s }
+    ensures desync { (rules : Rules) (me : ℕ) (s : State) (call : Call) (on_disk : DiskOutcome)
+        → (step rules me s call on_disk).reply ≡ Delivered (Err Refused.Desync)
+        → (step rules me s call on_disk).state
         ≡ record s { memory = record s.memory { alarm = true } } }
 {}
 
@@ -166,9 +166,9 @@ pub fn a_peers_word_stands()
 /// The answer of an open peer to a call gives its mode after it: down if the disk refused the record,
 /// else open. The answer to an opening does too: open or away.
 pub fn answers_tell_modes()
-    ensures calls { (rules : Rules) (me : ℕ) (s : State) (call : Call) (luck : Luck)
-        → s.mode ≡ Open → (step rules me s call luck).state.mode
-        ≡ mode_told (step rules me s call luck).reply }
+    ensures calls { (rules : Rules) (me : ℕ) (s : State) (call : Call) (on_disk : DiskOutcome)
+        → s.mode ≡ Open → (step rules me s call on_disk).state.mode
+        ≡ mode_told (step rules me s call on_disk).reply }
     ensures openings { (rules : Rules) (room me : ℕ) (s : State) (found : List Record)
         (opening : Opening) → (opened rules room me s found opening).state.mode
         ≡ mode_told (opened rules room me s found opening).reply }
@@ -242,7 +242,7 @@ pub fn a_word_stands_from_any_journal<D: Disk>()
 
 /// No call changes where a machine began: only an opening does.
 pub fn a_machine_begins_at_an_opening()
-    ensures { (rules : Rules) (room me : ℕ) (s t : State) (calls : List (Call × Luck))
+    ensures { (rules : Rules) (room me : ℕ) (s t : State) (calls : List (Call × DiskOutcome))
         (answers : List (Option Reply))
         → AreInRange rules → 1 ≤ me → me ≤ rules.players → room < 2 ^ 64
         → IsLawful rules room me s
@@ -273,7 +273,7 @@ pub fn runs_join()
 pub fn calls_are_deeds<D: Disk>()
     ensures answered { (old new : PeerValue D) (call : Call) (reply : Reply)
         → IsCall call → IsAnswered D.Disk old call reply new
-        → IsDone old.rules old.room old.me old.state (Does call (luck_of reply)) (Some reply)
+        → IsDone old.rules old.room old.me old.state (Does call (disk_outcome_of reply)) (Some reply)
         new.state }
     ensures said { (p : PeerValue D) (call : Call) (bytes : List ℕ)
         → IsCall call → (is : IsSaid p call bytes)
@@ -299,8 +299,8 @@ pub fn what_disks_tell<D: Disk>()
         → IsSound D.Disk p → D.may_leave p.disk image
         → (finds : Bool) × (records_of (kept image) ≡ found p.state finds) }
     ensures inside { (p : PeerValue D) (call : Call) (image : List ℕ) → MayLeave p call image
-        → (luck : Luck) × (leaves : Bool)
-        × Keeps (found (step p.rules p.me p.state call luck).state leaves) image }
+        → (on_disk : DiskOutcome) × (leaves : Bool)
+        × Keeps (found (step p.rules p.me p.state call on_disk).state leaves) image }
 {}
 
 /// Each opening that meets its contract is a deed of a run, if a read of its disk gives the journal of

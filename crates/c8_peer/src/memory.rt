@@ -76,10 +76,10 @@ impl Memory {
         self.links.head(Seat::from(watcher), DatagramKind::Show)
     }
 
-    /// Keeps what a datagram of player `q` says besides inputs. Call it after the last refusal.
-    pub(crate) fn note(&mut self, known: &Known, q: Player, datagram: &Datagram<'_>)
+    /// Keeps what a datagram says besides inputs. Call it after the last refusal.
+    pub(crate) fn note(&mut self, known: &Known, sender: Player, datagram: &Datagram<'_>)
         requires admitted { refusal self.old.links (packet_of datagram.now).head ≡ None }
-        requires from { q.number ≡ (packet_of datagram.now).head.from }
+        requires from { sender.number ≡ (packet_of datagram.now).head.from }
         requires acks { AcksWithin known.now (packet_of datagram.now).message }
         ensures { self.new ≡ memory_after self.old (packet_of datagram.now) }
     {
@@ -87,13 +87,13 @@ impl Memory {
             Datagram::Hello(_) => self.links.hear(datagram),
             Datagram::Welcome(welcome) => {
                 self.links.hear(datagram);
-                let _taken = self.window.ack(q, welcome.ack(), known);
+                let _taken = self.window.ack(sender, welcome.ack(), known);
             }
             Datagram::Data(data) => {
-                let _taken = self.window.ack(q, data.ack(), known);
+                let _taken = self.window.ack(sender, data.ack(), known);
             }
             Datagram::Freeze(freeze) => self.stayer.told(freeze.leaver(), freeze.have()),
-            Datagram::Frozen(frozen) => self.chair.report(q, frozen.leaver(), frozen.held()),
+            Datagram::Frozen(frozen) => self.chair.report(sender, frozen.leaver(), frozen.held()),
             Datagram::Cut(_) | Datagram::Show(_) | Datagram::Seen(_) => {}
         }
     }

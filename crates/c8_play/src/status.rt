@@ -4,7 +4,7 @@ use crate::chime::Chime;
 use arrayvec::ArrayVec;
 use c8_disk::Disk;
 use c8_game::{MOST_PLAYERS, Player};
-use c8_live::{Counters, Session, Standing};
+use c8_live::{Counters, Gauge, Reading, Session, Standing};
 use c8_transport::Losses;
 use std::io;
 use std::io::Write;
@@ -26,18 +26,14 @@ const LONGEST_WRITTEN: usize = LONGEST_ROW + 1;
 /// because after a text up to the last column the cursor would still be on that column.
 const CLEAR: &[u8] = b"\x1b[17;1H\x1b[K";
 
-/// How many seconds lie between two updates of the numbers.
-const EVERY: u64 = 1;
-
 /// After this many seconds of a player's silence the row tells player 1 how to drop that player.
 const LONG: u128 = 3;
 
 /// After this many seconds without a first datagram of a player the row says what may be wrong.
 const NO_ANSWER: u128 = 10;
 
-/// For how many seconds the row says that a player is here, after its first datagram, if that came later than a second after
-/// the start.
-const GREETING: u64 = 3;
+/// For how many milliseconds the row says that a player is here, after its first datagram.
+const GREETING: u128 = 3000;
 
 /// How many milliseconds a second has.
 const SECOND: u128 = 1000;
@@ -47,13 +43,7 @@ const SECOND: u128 = 1000;
 struct Numbers {
     ticked: u64,
     confirmed: u32,
-    /// The rollbacks of the last second, and the most frames that one of them simulated again.
-    rollbacks: u64,
-    longest: u64,
-    /// How many milliseconds each player has been silent, by place.
-    silent: [u128; MOST_PLAYERS],
-    /// Whether the first datagram of each player came just now.
-    is_new: [bool; MOST_PLAYERS],
+    last: Reading,
     is_alarmed: bool,
 }
 
@@ -63,19 +53,9 @@ pub struct StatusRow {
     me: Player,
     players: u8,
     counters: Counters,
-    /// When the next update is due.
-    due: Duration,
-    /// When each player was last heard, or the start, and in how many turns it had been heard by then.
-    heard: [Duration; MOST_PLAYERS],
-    turns: [u64; MOST_PLAYERS],
-    start: Duration,
-    /// When the first datagram of each player came, or the start.
-    met: [Duration; MOST_PLAYERS],
+    gauge: Gauge,
     /// How many packets were not sealed with the key of the match.
     unsealed: u64,
-    /// The rollbacks up to the last update, and the longest since.
-    rollbacks: u64,
-    longest: u64,
     numbers: Numbers,
     /// The player that one more control-D drops.
     asked: Option<Player>,
@@ -95,14 +75,8 @@ impl StatusRow {
             me,
             players,
             counters: Counters::new(),
-            due: now,
-            heard: [now; MOST_PLAYERS],
-            turns: [0; MOST_PLAYERS],
-            start: now,
-            met: [now; MOST_PLAYERS],
+            gauge: Gauge::new(now, now),
             unsealed: 0,
-            rollbacks: 0,
-            longest: 0,
             numbers: Numbers::default(),
             asked: None,
             chime: Chime::new(true),
@@ -176,13 +150,16 @@ impl StatusRow {
         standing: &Standing,
         waits: Option<Player>,
     ) -> &[u8] {
-        self.hear(now, standing);
+        if let Some(last) = self.gauge.note(now, standing) {
+            self.numbers = Numbers {
+                ticked: standing.ticked,
+                confirmed,
+                last,
+                is_alarmed: standing.is_alarmed,
+            };
+        }
         if self.asked != waits {
             self.asked = None;
-        }
-        if now >= self.due {
-            self.due = now.saturating_add(Duration::from_secs(EVERY));
-            self.look(now, confirmed, standing);
         }
         let mut row = ArrayVec::<u8, LONGEST_ROW>::new();
         let _ = row.write_all(CLEAR);
@@ -208,56 +185,13 @@ impl StatusRow {
         }
     }
 
-    /// Notes who was heard since the last call, and the longest rollback.
-    fn hear(&mut self, now: Duration, standing: &Standing) {
-        self.longest = self.longest.max(standing.longest);
-        for place in 0..MOST_PLAYERS {
-            if self.turns[place] != standing.heard[place] {
-                if self.turns[place] == 0 {
-                    self.met[place] = now;
-                }
-                self.turns[place] = standing.heard[place];
-                self.heard[place] = now;
-            }
-        }
-    }
-
-    /// Updates the numbers.
-    fn look(&mut self, now: Duration, confirmed: u32, standing: &Standing) {
-        let mut silent = [0; MOST_PLAYERS];
-        let mut is_new = [false; MOST_PLAYERS];
-        for place in 0..MOST_PLAYERS {
-            silent[place] = now.saturating_sub(self.heard[place]).as_millis();
-            is_new[place] = self.is_new(now, self.met[place]);
-        }
-        self.numbers = Numbers {
-            ticked: standing.ticked,
-            confirmed,
-            rollbacks: standing.rollbacks.saturating_sub(self.rollbacks),
-            longest: self.longest,
-            silent,
-            is_new,
-            is_alarmed: standing.is_alarmed,
-        };
-        self.rollbacks = standing.rollbacks;
-        self.longest = 0;
-    }
-
-    /// Whether the first datagram of a player came just now, after a wait.
-    fn is_new(&self, now: Duration, met: Duration) -> bool {
-        met.saturating_sub(self.start) > Duration::from_secs(EVERY)
-            && now.saturating_sub(met) < Duration::from_secs(GREETING)
-    }
-
     /// Writes the text, the most important part first.
     fn write_text<E: Write>(&self, out: &mut E, waits: Option<Player>) -> io::Result<()> {
         let Numbers {
             ticked,
             confirmed,
-            rollbacks,
-            longest,
+            last,
             is_alarmed,
-            ..
         } = self.numbers;
         write!(out, "{ticked}/{confirmed}")?;
         if is_alarmed {
@@ -267,14 +201,15 @@ impl StatusRow {
             self.write_wait(out, player)?;
         }
         self.write_silence(out)?;
+        let (rollbacks, longest) = (last.rollbacks, last.longest);
         write!(out, "  back {rollbacks}, longest {longest}")
     }
 
     /// Writes that the match waits for a player, and how player 1 drops it.
     fn write_wait<E: Write>(&self, out: &mut E, player: Player) -> io::Result<()> {
         let number = player.number;
-        let seconds = self.numbers.silent[player.place()] / SECOND;
-        if self.turns[player.place()] == 0 && self.asked != Some(player) {
+        let seconds = self.numbers.last.silent[player.place()] / SECOND;
+        if !self.gauge.has_heard(player) && self.asked != Some(player) {
             if self.unsealed > 0 {
                 return write!(out, "  packets come with another secret, game or room");
             }
@@ -302,11 +237,10 @@ impl StatusRow {
         for place in 0..MOST_PLAYERS {
             let number = place + 1;
             if number <= usize::from(self.players) && number != usize::from(self.me.number) {
-                if self.numbers.is_new[place] {
-                    write!(out, "  {number} is here")?;
-                } else {
-                    let silent = self.numbers.silent[place];
-                    write!(out, "  {number}: {silent} ms")?;
+                let Reading { silent, met, .. } = self.numbers.last;
+                match met[place] {
+                    Some(ago) if ago < GREETING => write!(out, "  {number} is here")?,
+                    _ => write!(out, "  {number}: {} ms", silent[place])?,
                 }
             }
         }

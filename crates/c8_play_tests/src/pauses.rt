@@ -127,16 +127,21 @@ where
     }
 }
 
+/// No sleeps yet.
+fn without_sleeps<R>(rt: &R) -> Counting<'_, R> {
+    Counting {
+        rt,
+        ones: AtomicU64::new(0),
+        fives: AtomicU64::new(0),
+        others: AtomicU64::new(0),
+    }
+}
+
 /// The game thread sleeps for a millisecond after each turn, and a few times before the first turn, to wait for the
 /// viewer. The viewer looks every five milliseconds. The net thread waits only at its socket.
 #[test]
 fn each_turn_has_its_pause(rt: HostRuntime) {
-    let counting = Counting {
-        rt: &rt,
-        ones: AtomicU64::new(0),
-        fives: AtomicU64::new(0),
-        others: AtomicU64::new(0),
-    };
+    let counting = without_sleeps(&rt);
     assert!(rt; played(&counting) == Some(0));
     let ones = counting.ones.load(Ordering::SeqCst);
     let fives = counting.fives.load(Ordering::SeqCst);
@@ -146,6 +151,29 @@ fn each_turn_has_its_pause(rt: HostRuntime) {
     );
     assert!(rt; fives >= 1 && fives <= TURNS, "{fives} pauses of five");
     assert!(rt; counting.others.load(Ordering::SeqCst) == 0);
+}
+
+/// Whether the game thread sleeps longer once the viewer has looked for five seconds and nothing more was confirmed.
+fn rests_so(rt: &HostRuntime) -> bool {
+    let counting = without_sleeps(rt);
+    let pace = Pace::new(&counting, None);
+    for _ in 0..1001 {
+        pace.see(7);
+    }
+    pace.after(Worker::Game, 0);
+    let ones = counting.ones.load(Ordering::SeqCst);
+    pace.see(7);
+    pace.after(Worker::Game, 1);
+    let others = counting.others.load(Ordering::SeqCst);
+    pace.see(8);
+    pace.after(Worker::Game, 2);
+    let last = counting.ones.load(Ordering::SeqCst);
+    (ones, others, last) == (1, 1, 2)
+}
+
+#[test]
+fn a_peer_that_waits_rests_longer(rt: HostRuntime) {
+    assert!(rt; rests_so(&rt));
 }
 
 /// Whether the net thread makes one turn after the game thread has ended, and the game thread none after the net thread.

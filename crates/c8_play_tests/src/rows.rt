@@ -13,25 +13,14 @@ type Told = (u64, Option<u8>, &'static [u8]);
 const LAST: &[u8] = b"\x1b[17;1H\x1b[K0/7  2: 1500 ms  back 0, longest 0";
 
 /// Seven frames are confirmed, and nothing else has happened.
+#[rattlefmt::skip]
 static ROWS: [Told; 8] = [
-    (
-        500,
-        None,
-        b"\x1b[17;1H\x1b[K0/7  2: 500 ms  back 0, longest 0",
-    ),
+    (500, None, b"\x1b[17;1H\x1b[K0/7  2: 500 ms  back 0, longest 0"),
     (600, None, b""),
-    (
-        700,
-        Some(2),
-        b"\x1b[17;1H\x1b[K0/7  waits for 2  2: 500 ms  back 0, longest 0",
-    ),
+    (700, Some(2), b"\x1b[17;1H\x1b[K0/7  waits for 2  2: 500 ms  back 0, longest 0"),
     (800, Some(2), b""),
     (1_499, Some(2), b""),
-    (
-        1_500,
-        Some(2),
-        b"\x1b[17;1H\x1b[K0/7  waits for 2: 1 s  2: 1500 ms  back 0, longest 0",
-    ),
+    (1_500, Some(2), b"\x1b[17;1H\x1b[K0/7  waits for 2: 1 s  2: 1500 ms  back 0, longest 0"),
     (1_600, None, LAST),
     (2_400, None, b""),
 ];
@@ -77,101 +66,23 @@ struct Look {
 }
 
 /// Player 2 of two. The longest rollback is that of all since the last update.
+#[rattlefmt::skip]
 static OF_TWO: [Look; 5] = [
-    Look {
-        millis: 200,
-        confirmed: 18,
-        ticked: 21,
-        rollbacks: 4,
-        longest: 5,
-        heard: [2, 0, 0, 0],
-        is_alarmed: false,
-        waits: None,
-        wanted: b"\x1b[17;1H\x1b[K21/18  1: 0 ms  back 4, longest 5",
-    },
-    Look {
-        millis: 700,
-        confirmed: 40,
-        ticked: 43,
-        rollbacks: 6,
-        longest: 6,
-        heard: [2, 0, 0, 0],
-        is_alarmed: false,
-        waits: None,
-        wanted: b"",
-    },
-    Look {
-        millis: 1_216,
-        confirmed: 421,
-        ticked: 423,
-        rollbacks: 7,
-        longest: 2,
-        heard: [2, 0, 0, 0],
-        is_alarmed: false,
-        waits: Some(1),
-        wanted: b"\x1b[17;1H\x1b[K423/421  waits for 1: 1 s  1: 1016 ms  back 3, longest 6",
-    },
-    Look {
-        millis: 2_216,
-        confirmed: 479,
-        ticked: 480,
-        rollbacks: 9,
-        longest: 1,
-        heard: [3, 0, 0, 0],
-        is_alarmed: true,
-        waits: None,
-        wanted: b"\x1b[17;1H\x1b[K480/479  the machines differ  1: 0 ms  back 2, longest 1",
-    },
+    Look { millis: 200, confirmed: 18, ticked: 21, rollbacks: 4, longest: 5, heard: [2, 0, 0, 0], is_alarmed: false, waits: None, wanted: b"\x1b[17;1H\x1b[K21/18  1: 0 ms  back 4, longest 5" },
+    Look { millis: 700, confirmed: 40, ticked: 43, rollbacks: 6, longest: 6, heard: [2, 0, 0, 0], is_alarmed: false, waits: None, wanted: b"" },
+    Look { millis: 1_216, confirmed: 421, ticked: 423, rollbacks: 7, longest: 2, heard: [2, 0, 0, 0], is_alarmed: false, waits: Some(1), wanted: b"\x1b[17;1H\x1b[K423/421  waits for 1: 1 s  1: 1016 ms  back 3, longest 6" },
+    Look { millis: 2_216, confirmed: 479, ticked: 480, rollbacks: 9, longest: 1, heard: [3, 0, 0, 0], is_alarmed: true, waits: None, wanted: b"\x1b[17;1H\x1b[K480/479  the machines differ  1: 0 ms  back 2, longest 1" },
     // 83 characters; 64 are written
-    Look {
-        millis: 10_000_000_002_216,
-        confirmed: 262_136,
-        ticked: 262_144,
-        rollbacks: 132,
-        longest: 45,
-        heard: [3, 0, 0, 0],
-        is_alarmed: false,
-        waits: Some(1),
-        wanted: b"\x1b[17;1H\x1b[K262144/262136  waits for 1: 10000000000 s  1: 10000000000000 ms ",
-    },
+    Look { millis: 10_000_000_002_216, confirmed: 262_136, ticked: 262_144, rollbacks: 132, longest: 45, heard: [3, 0, 0, 0], is_alarmed: false, waits: Some(1), wanted: b"\x1b[17;1H\x1b[K262144/262136  waits for 1: 10000000000 s  1: 10000000000000 ms " },
 ];
 
 /// Player 3 of four.
+#[rattlefmt::skip]
 static OF_FOUR: [Look; 3] = [
-    Look {
-        millis: 200,
-        confirmed: 18,
-        ticked: 21,
-        rollbacks: 4,
-        longest: 5,
-        heard: [2, 0, 9, 1],
-        is_alarmed: false,
-        waits: None,
-        wanted: b"\x1b[17;1H\x1b[K21/18  1: 0 ms  2: 100 ms  4: 0 ms  back 4, longest 5",
-    },
-    Look {
-        millis: 1_300,
-        confirmed: 88,
-        ticked: 99,
-        rollbacks: 15,
-        longest: 7,
-        heard: [2, 0, 9, 2],
-        is_alarmed: false,
-        waits: Some(2),
-        wanted: b"\x1b[17;1H\x1b[K99/88  waits for 2: 1 s  1: 1100 ms  2: 1200 ms  4: 0 ms  back 11, longest 7",
-    },
+    Look { millis: 200, confirmed: 18, ticked: 21, rollbacks: 4, longest: 5, heard: [2, 0, 9, 1], is_alarmed: false, waits: None, wanted: b"\x1b[17;1H\x1b[K21/18  1: 0 ms  2: 100 ms  4: 0 ms  back 4, longest 5" },
+    Look { millis: 1_300, confirmed: 88, ticked: 99, rollbacks: 15, longest: 7, heard: [2, 0, 9, 2], is_alarmed: false, waits: Some(2), wanted: b"\x1b[17;1H\x1b[K99/88  waits for 2: 1 s  1: 1100 ms  2: 1200 ms  4: 0 ms  back 11, longest 7" },
     // 109 characters; 80 are written
-    Look {
-        millis: 123_456_989,
-        confirmed: 262_136,
-        ticked: 262_144,
-        rollbacks: 138,
-        longest: 45,
-        heard: [2, 0, 9, 2],
-        is_alarmed: false,
-        waits: Some(2),
-        wanted: b"\x1b[17;1H\x1b[K262144/262136  no answer for 123456 s: same game, room and secret?  1: 123456789",
-    },
+    Look { millis: 123_456_989, confirmed: 262_136, ticked: 262_144, rollbacks: 138, longest: 45, heard: [2, 0, 9, 2], is_alarmed: false, waits: Some(2), wanted: b"\x1b[17;1H\x1b[K262144/262136  no answer for 123456 s: same game, room and secret?  1: 123456789" },
 ];
 
 /// Whether exactly this is written at a look.
@@ -258,43 +169,14 @@ fn control_d_drops_a_player(rt: HostRuntime) {
 
 /// What a player 1 reads who waits for player 2 from the start: the time, how often player 2 was heard, how many packets were not
 /// sealed with the match's key, and the text.
+#[rattlefmt::skip]
 static FIRST_WORDS: [(u64, u64, u64, &[u8]); 6] = [
-    (
-        9_999,
-        0,
-        0,
-        b"\x1b[17;1H\x1b[K0/0  waits for 2: 9 s  control-D drops 2  2: 9999 ms  back 0, lo",
-    ),
-    (
-        12_000,
-        0,
-        0,
-        b"\x1b[17;1H\x1b[K0/0  no answer for 12 s: same game, room and secret?  2: 12000 m",
-    ),
-    (
-        13_000,
-        0,
-        1,
-        b"\x1b[17;1H\x1b[K0/0  packets come with another secret, game or room  2: 13000 ms",
-    ),
-    (
-        14_000,
-        1,
-        1,
-        b"\x1b[17;1H\x1b[K0/0  waits for 2  2 is here  back 0, longest 0",
-    ),
-    (
-        16_999,
-        2,
-        1,
-        b"\x1b[17;1H\x1b[K0/0  waits for 2  2 is here  back 0, longest 0",
-    ),
-    (
-        18_000,
-        2,
-        1,
-        b"\x1b[17;1H\x1b[K0/0  waits for 2: 1 s  2: 1001 ms  back 0, longest 0",
-    ),
+    (9_999, 0, 0, b"\x1b[17;1H\x1b[K0/0  waits for 2: 9 s  control-D drops 2  2: 9999 ms  back 0, lo"),
+    (12_000, 0, 0, b"\x1b[17;1H\x1b[K0/0  no answer for 12 s: same game, room and secret?  2: 12000 m"),
+    (13_000, 0, 1, b"\x1b[17;1H\x1b[K0/0  packets come with another secret, game or room  2: 13000 ms"),
+    (14_000, 1, 1, b"\x1b[17;1H\x1b[K0/0  waits for 2  2 is here  back 0, longest 0"),
+    (16_999, 2, 1, b"\x1b[17;1H\x1b[K0/0  waits for 2  2 is here  back 0, longest 0"),
+    (18_000, 2, 1, b"\x1b[17;1H\x1b[K0/0  waits for 2: 1 s  2: 1001 ms  back 0, longest 0"),
 ];
 
 /// Whether a player 1 reads these words; a text that stays the same is written once.

@@ -17,6 +17,7 @@ mod progress;
 mod reading;
 mod record;
 mod replaying;
+mod spelled;
 mod writing;
 
 pub use error::ReplayError;

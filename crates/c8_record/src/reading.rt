@@ -9,7 +9,7 @@ ghost use Rattle.c8_record.specs.Lent.{value_of, IsSliceOf, IsComplete, IsOfWord
 ghost use Rattle.c8_wire.specs.Sizes.{longest_run};
 
 use crate::record::{DIGEST_WORDS, RUN_PLACE, Record};
-use crate::writing::is_body_of;
+use crate::spelled::is_body_of;
 use c8_game::{Keys, Player};
 use c8_log::BODY_LENGTH;
 use c8_wire::{LONGEST_RUN, Run, u16_at, u32_at, u64_at};

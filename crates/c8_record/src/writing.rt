@@ -1,5 +1,5 @@
 //! Writes the body of a record.
-ghost use Rattle.std.specs.Prelude.{◌≡◌, ◌≤◌, ◌*◌, ◌/◌, ◌↔◌, ◌∷◌, ◌++◌, true, drop, length};
+ghost use Rattle.std.specs.Prelude.{◌≡◌, ◌≤◌, ◌*◌, ◌/◌, ◌∷◌, ◌++◌, drop, length};
 ghost use Rattle.c8_known.specs.Journal.{Head, Epoch, Own, Got, Cut, State, Check};
 ghost use Rattle.c8_wire.specs.Packet.{AreWords};
 ghost use Rattle.c8_wire.specs.Spelling.{words_bytes};
@@ -62,20 +62,6 @@ pub fn body_of(lent: &Record<'_>) -> [u8; BODY_LENGTH]
     }
 }
 
-/// Returns whether a body is the spelling of a record.
-pub(crate) fn is_body_of(body: &[u8; BODY_LENGTH], lent: &Record<'_>) -> bool
-    ensures is { (result ≡ true) ↔ (body.now ≡ body_of (value_of lent.now)) }
-    ensures spells { result ≡ true → IsComplete lent.now → Spells body.now (value_of lent.now) }
-{
-    is_same(body, &body_of(lent))
-}
-
-fn is_same(bytes: &[u8], others: &[u8]) -> bool
-    ensures { (result ≡ true) ↔ (bytes.now ≡ others.now) }
-{
-    bytes == others
-}
-
 #[tactic(auto, unfolding(crate::specs::Body::body_of))]
 fn head_body(player: Player, form: u32, id: &[u8; 32], room: u64) -> [u8; BODY_LENGTH]
     ensures body { result ≡ body_of (Head player.number form id.now room) }
@@ -135,7 +121,7 @@ fn check_body(player: Player, frames: u32, run: Run<'_>) -> [u8; BODY_LENGTH]
 }
 
 /// Returns the run of a `Head`: the game's id and the room.
-fn match_run(id: &[u8; 32], room: u64) -> [u8; 40]
+pub(crate) fn match_run(id: &[u8; 32], room: u64) -> [u8; 40]
     ensures { result ≡ id.now ++ big_bytes 8 room }
 {
     let mut run = [0; 40];
@@ -203,7 +189,13 @@ fn put_inputs(mut inputs: Inputs<'_>, out: &mut [u8])
 }
 
 /// Returns the bytes before the run: the other fields, and how many words the run has.
-fn head_of(kind: u8, player: Player, number: u32, start: u32, length: usize) -> [u8; RUN_PLACE]
+pub(crate) fn head_of(
+    kind: u8,
+    player: Player,
+    number: u32,
+    start: u32,
+    length: usize,
+) -> [u8; RUN_PLACE]
     requires { length ≤ 2 * longest_run }
     ensures { result ≡ kind ∷ player.number ∷ big_bytes 4 number ++ big_bytes 4 start
         ++ big_bytes 2 (length / 2) }

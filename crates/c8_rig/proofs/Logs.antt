@@ -12,7 +12,7 @@ use Rattle.c8_known.specs.Known.{known_of}
 use Rattle.c8_peer.specs.Told.{told_of}
 use Rattle.c8_peer.specs.State as calls
 use Rattle.c8_peer.specs.State.{Mode, Down, Away, State, Call, Reply, Said}
-use Rattle.c8_peer.specs.Steps.{Luck, Works, Stepped, outcome, when_down, at_mode, step}
+use Rattle.c8_peer.specs.Steps.{DiskOutcome, Works, Stepped, outcome, when_down, at_mode, step}
 use Rattle.c8_peer.specs.Opening.{NoMemory, found, opened}
 use Rattle.c8_world.specs.World.{World, is_player, start, never_opened, peer_of, Act, Open, Tick, Say, Give, Leave, Decide, player_of, Event, Answer, Happening, said_by as said_in_reply, stepped, call_at_mode, call_at, open_at_mode, open_at, give_to, acted, CanHappen, Chain, IsReached, Check, Show, Hear, Seen, Fresh}
 use Rattle.c8_world.specs.Agreement.{IsPlayer}
@@ -74,21 +74,21 @@ stays_becomes rules w p t same silent = record {
   said = sym (ap (λ (new : List Packet). w.said ++ new) silent ∙ append-nil w.said);
 }
 
-mode_becomes : (rules : Rules) (w : World) (p : ℕ) (call : Call) (luck : Luck) (mode : Mode) → length w.peers ≡ rules.players → IsPlayer rules p → (peer_of w p).mode ≡ mode
-    → Becomes rules w p (step rules p (peer_of w p) call luck) (call_at_mode rules w p call luck mode).world
-mode_becomes rules w p call luck calls.Open size plays is = stepped_becomes rules w p (step rules p (peer_of w p) call luck) size plays
-mode_becomes rules w p call luck Down size plays is =
-    let at : step rules p (peer_of w p) call luck ≡ record { reply = when_down call; state = peer_of w p } =
-    ap (λ (mode : Mode). at_mode (peer_of w p) call (outcome rules (told_of rules p (peer_of w p).journal) (known_of rules p (peer_of w p).journal) (peer_of w p).memory call) mode luck) is in
-    stays_becomes rules w p (step rules p (peer_of w p) call luck) (ap (λ (t : Stepped). t.state) at) (ap (λ (t : Stepped). said_in_reply t.reply) at ∙ down_silent call)
-mode_becomes rules w p call luck Away size plays is =
-    let at : step rules p (peer_of w p) call luck ≡ record { reply = when_down call; state = peer_of w p } =
-    ap (λ (mode : Mode). at_mode (peer_of w p) call (outcome rules (told_of rules p (peer_of w p).journal) (known_of rules p (peer_of w p).journal) (peer_of w p).memory call) mode luck) is in
-    stays_becomes rules w p (step rules p (peer_of w p) call luck) (ap (λ (t : Stepped). t.state) at) (ap (λ (t : Stepped). said_in_reply t.reply) at ∙ down_silent call)
+mode_becomes : (rules : Rules) (w : World) (p : ℕ) (call : Call) (on_disk : DiskOutcome) (mode : Mode) → length w.peers ≡ rules.players → IsPlayer rules p → (peer_of w p).mode ≡ mode
+    → Becomes rules w p (step rules p (peer_of w p) call on_disk) (call_at_mode rules w p call on_disk mode).world
+mode_becomes rules w p call on_disk calls.Open size plays is = stepped_becomes rules w p (step rules p (peer_of w p) call on_disk) size plays
+mode_becomes rules w p call on_disk Down size plays is =
+    let at : step rules p (peer_of w p) call on_disk ≡ record { reply = when_down call; state = peer_of w p } =
+    ap (λ (mode : Mode). at_mode (peer_of w p) call (outcome rules (told_of rules p (peer_of w p).journal) (known_of rules p (peer_of w p).journal) (peer_of w p).memory call) mode on_disk) is in
+    stays_becomes rules w p (step rules p (peer_of w p) call on_disk) (ap (λ (t : Stepped). t.state) at) (ap (λ (t : Stepped). said_in_reply t.reply) at ∙ down_silent call)
+mode_becomes rules w p call on_disk Away size plays is =
+    let at : step rules p (peer_of w p) call on_disk ≡ record { reply = when_down call; state = peer_of w p } =
+    ap (λ (mode : Mode). at_mode (peer_of w p) call (outcome rules (told_of rules p (peer_of w p).journal) (known_of rules p (peer_of w p).journal) (peer_of w p).memory call) mode on_disk) is in
+    stays_becomes rules w p (step rules p (peer_of w p) call on_disk) (ap (λ (t : Stepped). t.state) at) (ap (λ (t : Stepped). said_in_reply t.reply) at ∙ down_silent call)
 
-call_becomes : (rules : Rules) (w : World) (p : ℕ) (call : Call) (luck : Luck) → length w.peers ≡ rules.players → IsPlayer rules p
-    → Becomes rules w p (step rules p (peer_of w p) call luck) (call_at rules w p call luck).world
-call_becomes rules w p call luck size plays = rw (plays_so rules p plays) (mode_becomes rules w p call luck (peer_of w p).mode size plays refl)
+call_becomes : (rules : Rules) (w : World) (p : ℕ) (call : Call) (on_disk : DiskOutcome) → length w.peers ≡ rules.players → IsPlayer rules p
+    → Becomes rules w p (step rules p (peer_of w p) call on_disk) (call_at rules w p call on_disk).world
+call_becomes rules w p call on_disk size plays = rw (plays_so rules p plays) (mode_becomes rules w p call on_disk (peer_of w p).mode size plays refl)
 
 mode_opens : (rules : Rules) (room : ℕ) (w : World) (p : ℕ) (h : Happening) (mode : Mode) → length w.peers ≡ rules.players → IsPlayer rules p → mode ≢ calls.Open
     → Becomes rules w p (opened rules room p (peer_of w p) (found (peer_of w p) h.finds) h.opening) (open_at_mode rules room w p h mode).world
@@ -117,27 +117,27 @@ record Turns (rules : Rules) (room : ℕ) (w : World) (n : NoteValue) (t : State
 -- what a call does to the world if its note says nothing
 silent_turns : (rules : Rules) (room : ℕ) (w : World) (n : NoteValue) (t : State) (call : Call) → length w.peers ≡ rules.players → IsPlayer rules (player_of n.act)
     → IsNoSaying call → said_in n.act n.bytes ≡ []
-    → ((luck : Luck) → (answer : Answer) × CanHappen rules room w (event_of n) answer (call_at rules w (player_of n.act) call luck).world)
+    → ((on_disk : DiskOutcome) → (answer : Answer) × CanHappen rules room w (event_of n) answer (call_at rules w (player_of n.act) call on_disk).world)
     → IsCalled rules room (player_of n.act) (peer_of w (player_of n.act)) call IsAnything t → Turns rules room w n t
 silent_turns rules room w n t call size plays other quiet can is =
     let p : ℕ = player_of n.act in
-    let becomes = call_becomes rules w p call is.luck size plays in
-    let happens = can is.luck in
-    let state : (step rules p (peer_of w p) call is.luck).state ≡ t = ap (λ a. a.state) is.done.is in
+    let becomes = call_becomes rules w p call is.on_disk size plays in
+    let happens = can is.on_disk in
+    let state : (step rules p (peer_of w p) call is.on_disk).state ≡ t = ap (λ a. a.state) is.done.is in
     record {
-      world = (call_at rules w p call is.luck).world;
+      world = (call_at rules w p call is.on_disk).world;
       answer = happens.0;
       can = happens.1;
       size = becomes.size;
       here = becomes.here ∙ state;
       there = becomes.there;
       new = [];
-      said = becomes.said ∙ ap (λ (new : List Packet). w.said ++ new) (step_silent rules p (peer_of w p) call is.luck other);
+      said = becomes.said ∙ ap (λ (new : List Packet). w.said ++ new) (step_silent rules p (peer_of w p) call is.on_disk other);
       spelled = rw quiet tt;
     }
 
-abbrev with_luck : Luck → Happening
-with_luck luck = record { finds = false; opening = NoMemory; luck = luck; leaves = false }
+abbrev with_outcome : DiskOutcome → Happening
+with_outcome on_disk = record { finds = false; opening = NoMemory; on_disk = on_disk; leaves = false }
 
 -- the bytes under a number spell the packet that was said under it
 spelled_at : (bytes : List (List ℕ)) (packets : List Packet) (number : ℕ) (these : List ℕ) → AreSpelled bytes packets → slice_get bytes number ≡ Some these
@@ -159,12 +159,12 @@ gives reads rules room w number p bytes said t size plays are was is =
     let at = spelled_at said w.said number bytes are was in
     let same : read bytes ≡ Ok at.0 = reads bytes at.0 at.2 in
     silent_turns rules room w (record { act = Give number p; bytes = bytes }) t (calls.Deliver (read bytes)) size plays tt refl
-    (λ luck. (
-      (call_at rules w p (calls.Deliver (read bytes)) luck).answer,
+    (λ on_disk. (
+      (call_at rules w p (calls.Deliver (read bytes)) on_disk).answer,
       record {
-        happening = with_luck luck;
+        happening = with_outcome on_disk;
         may = tt;
-        is = ap (give_to rules w p luck) at.1 ∙ ap (λ told. call_at rules w p (calls.Deliver told) luck) (sym same);
+        is = ap (give_to rules w p on_disk) at.1 ∙ ap (λ told. call_at rules w p (calls.Deliver told) on_disk) (sym same);
       },
     ))
     is
@@ -173,13 +173,13 @@ says : (rules : Rules) (room : ℕ) (w : World) (p to : ℕ) (what : calls.Sayin
     → IsCalled rules room p (peer_of w p) (calls.Say to what) (SpellsAnswer bytes) t → Turns rules room w (record { act = Say p to what; bytes = bytes }) t
 unfolding acted
 says rules room w p to what bytes t size plays is =
-    let becomes = call_becomes rules w p (calls.Say to what) is.luck size plays in
-    let replied : Some (step rules p (peer_of w p) (calls.Say to what) is.luck).reply ≡ Some (Said (Ok is.tells.0)) = ap (λ a. a.answer) is.done.is ∙ is.tells.1 in
-    let reply : (step rules p (peer_of w p) (calls.Say to what) is.luck).reply ≡ Said (Ok is.tells.0) = cc in
+    let becomes = call_becomes rules w p (calls.Say to what) is.on_disk size plays in
+    let replied : Some (step rules p (peer_of w p) (calls.Say to what) is.on_disk).reply ≡ Some (Said (Ok is.tells.0)) = ap (λ a. a.answer) is.done.is ∙ is.tells.1 in
+    let reply : (step rules p (peer_of w p) (calls.Say to what) is.on_disk).reply ≡ Said (Ok is.tells.0) = cc in
     record {
-      world = (call_at rules w p (calls.Say to what) is.luck).world;
-      answer = (call_at rules w p (calls.Say to what) is.luck).answer;
-      can = record { happening = with_luck is.luck; may = tt; is = refl };
+      world = (call_at rules w p (calls.Say to what) is.on_disk).world;
+      answer = (call_at rules w p (calls.Say to what) is.on_disk).answer;
+      can = record { happening = with_outcome is.on_disk; may = tt; is = refl };
       size = becomes.size;
       here = becomes.here ∙ ap (λ a. a.state) is.done.is;
       there = becomes.there;
@@ -192,7 +192,7 @@ opens : (rules : Rules) (room : ℕ) (w : World) (p : ℕ) (bytes : List ℕ) (t
     → IsOpenedAnew rules room p (peer_of w p) t → Turns rules room w (record { act = Open p; bytes = bytes }) t
 unfolding acted
 opens rules room w p bytes t size plays is =
-    let h : Happening = record { finds = is.finds; opening = is.opening; luck = Works; leaves = false } in
+    let h : Happening = record { finds = is.finds; opening = is.opening; on_disk = Works; leaves = false } in
     let becomes = open_becomes rules room w p h size plays is.done.may.0 in
     record {
       world = (open_at rules room w p h).world;
@@ -212,18 +212,18 @@ unfolding acted
 turn reads rules room w (Open p) bytes said t size plays are was follows = opens rules room w p bytes t size plays follows
 turn reads rules room w (Tick p keys) bytes said t size plays are was follows =
     silent_turns rules room w (record { act = Tick p keys; bytes = bytes }) t (calls.Tick keys) size plays tt refl
-    (λ luck. ((call_at rules w p (calls.Tick keys) luck).answer, record { happening = with_luck luck; may = follows.done.may; is = refl })) follows
+    (λ on_disk. ((call_at rules w p (calls.Tick keys) on_disk).answer, record { happening = with_outcome on_disk; may = follows.done.may; is = refl })) follows
 turn reads rules room w (Say p to what) bytes said t size plays are was follows = says rules room w p to what bytes t size plays follows
 turn reads rules room w (Give number p) bytes said t size plays are was follows = gives reads rules room w number p bytes said t size plays are was follows
 turn reads rules room w (Leave leaver) bytes said t size plays are was follows =
     silent_turns rules room w (record { act = Leave leaver; bytes = bytes }) t (calls.Leave leaver) size plays tt refl
-    (λ luck. ((call_at rules w 1 (calls.Leave leaver) luck).answer, record { happening = with_luck luck; may = tt; is = refl })) follows
+    (λ on_disk. ((call_at rules w 1 (calls.Leave leaver) on_disk).answer, record { happening = with_outcome on_disk; may = tt; is = refl })) follows
 turn reads rules room w (Decide leaver) bytes said t size plays are was follows =
     silent_turns rules room w (record { act = Decide leaver; bytes = bytes }) t (calls.Decide leaver) size plays tt refl
-    (λ luck. ((call_at rules w 1 (calls.Decide leaver) luck).answer, record { happening = with_luck luck; may = tt; is = refl })) follows
+    (λ on_disk. ((call_at rules w 1 (calls.Decide leaver) on_disk).answer, record { happening = with_outcome on_disk; may = tt; is = refl })) follows
 turn reads rules room w (Check p) bytes said t size plays are was follows =
     silent_turns rules room w (record { act = Check p; bytes = bytes }) t calls.Checkpoint size plays tt refl
-    (λ luck. ((call_at rules w p calls.Checkpoint luck).answer, record { happening = with_luck luck; may = tt; is = refl })) follows
+    (λ on_disk. ((call_at rules w p calls.Checkpoint on_disk).answer, record { happening = with_outcome on_disk; may = tt; is = refl })) follows
 turn reads rules room w (Show watcher) bytes said t size plays are was follows = absurd was
 turn reads rules room w (Hear number watcher) bytes said t size plays are was follows = absurd was
 turn reads rules room w (Seen watcher) bytes said t size plays are was follows = absurd was

@@ -10,7 +10,7 @@ use Rattle.c8_record.specs.Body.{records_of}
 use Rattle.c8_peer.specs.State.{State, Call, Reply, Say, Saying, Said}
 use Rattle.c8_peer.specs.Steps.{Works}
 use Rattle.c8_peer.specs.Lawful.{IsCall}
-use Rattle.c8_peer.specs.Peer.{PeerValue, luck_of, IsAnswered, IsSaid}
+use Rattle.c8_peer.specs.Peer.{PeerValue, disk_outcome_of, IsAnswered, IsSaid}
 use Rattle.c8_peer.specs.Runs.{Does, IsDone}
 use Rattle.c8_world.specs.World.{Act}
 use Rattle.c8_world.specs.World as acts
@@ -51,7 +51,7 @@ module _ {D : Type 0} (g : Ghosts D) where
   }
 
   abbrev pub AreDeeds : Type 0
-  AreDeeds = (old new : PeerValue D) (call : Call) (reply : Reply) → IsCall call → IsAnswered g old call reply new → IsDone old.rules old.room old.me old.state (Does call (luck_of reply)) (Some reply) new.state
+  AreDeeds = (old new : PeerValue D) (call : Call) (reply : Reply) → IsCall call → IsAnswered g old call reply new → IsDone old.rules old.room old.me old.state (Does call (disk_outcome_of reply)) (Some reply) new.state
 
   -- a call, with a note of the act for it
   pub calls_on : AreDeeds → (e : EntryValue) (old new : PeerValue D) (act : Act) (bytes : List ℕ) (call : Call) (reply : Reply) → IsCall call → IsAnswered g old call reply new
@@ -66,7 +66,7 @@ module _ {D : Type 0} (g : Ghosts D) where
     me = is.same.me;
     notes = record { act = act; bytes = bytes } ∷ [];
     noted = refl;
-    leads = (new.state, follows (record { luck = luck_of reply; answer = Some reply; done = deeds old new call reply fits is; tells = tt }), refl);
+    leads = (new.state, follows (record { on_disk = disk_outcome_of reply; answer = Some reply; done = deeds old new call reply fits is; tells = tt }), refl);
     played = (new, plays (reply, is), refl);
   }
 
@@ -80,7 +80,7 @@ module _ {D : Type 0} (g : Ghosts D) where
     me = refl;
     notes = record { act = acts.Say player to what; bytes = bytes } ∷ [];
     noted = refl;
-    leads = (p.state, record { luck = Works; answer = Some (Said (Ok is.packet)); done = deeds p (Say to what) bytes tt is; tells = (is.packet, refl, is.spelled) }, refl);
+    leads = (p.state, record { on_disk = Works; answer = Some (Said (Ok is.packet)); done = deeds p (Say to what) bytes tt is; tells = (is.packet, refl, is.spelled) }, refl);
     played = (p, (is, refl), refl);
   }
 

@@ -17,7 +17,7 @@ use Rattle.c8_window.specs.Window.{acked_more}
 use Rattle.c8_round.specs.Round.{is_ready, with_report}
 use Rattle.c8_peer.specs.Told.{Told, told_of}
 use Rattle.c8_peer.specs.State.{Memory, Mode, Open, Down, Away, State, Call, Tick, Deliver, Say, Show, Leave, Decide, Outcome, Checkpoint}
-use Rattle.c8_peer.specs.Steps.{Luck, Works, Refuses, refused_by_disk, when_down, outcome, done, at_mode, step}
+use Rattle.c8_peer.specs.Steps.{DiskOutcome, Works, Refuses, refused_by_disk, when_down, outcome, done, at_mode, step}
 use Rattle.c8_check.specs.Checks.{Pieces, frames_of}
 use Rattle.c8_peer.specs.Calls.{tick, leave, decide, next_piece, checkpoint}
 use Rattle.c8_peer.specs.Hearing.{is_of_other_wire, is_desync, unless_misfit, got, cut_or_got, hear_data, hear_welcome, hear_freeze, hear_frozen, hear_end, hear_cut, hear_message, unless_hand, hear_seen, hear_from, seen_in, hear_told}
@@ -179,18 +179,18 @@ down_silent (Leave leaver) = refl
 down_silent (Decide leaver) = refl
 down_silent Checkpoint = refl
 
-done_silent : (s : State) (call : Call) (o : Outcome) (keeps : Option Record) (luck : Luck) → said_by o.reply ≡ [] → said_by (done s call o keeps luck).reply ≡ []
-done_silent s call o None luck is = is
+done_silent : (s : State) (call : Call) (o : Outcome) (keeps : Option Record) (on_disk : DiskOutcome) → said_by o.reply ≡ [] → said_by (done s call o keeps on_disk).reply ≡ []
+done_silent s call o None on_disk is = is
 done_silent s call o (Some r) Works is = is
 done_silent s call o (Some r) (Refuses why) is = refused_silent call why
 
-mode_silent : (s : State) (call : Call) (o : Outcome) (mode : Mode) (luck : Luck) → said_by o.reply ≡ [] → said_by (at_mode s call o mode luck).reply ≡ []
-mode_silent s call o Open luck is = done_silent s call o o.keeps luck is
-mode_silent s call o Down luck is = down_silent call
-mode_silent s call o Away luck is = down_silent call
+mode_silent : (s : State) (call : Call) (o : Outcome) (mode : Mode) (on_disk : DiskOutcome) → said_by o.reply ≡ [] → said_by (at_mode s call o mode on_disk).reply ≡ []
+mode_silent s call o Open on_disk is = done_silent s call o o.keeps on_disk is
+mode_silent s call o Down on_disk is = down_silent call
+mode_silent s call o Away on_disk is = down_silent call
 
-pub step_silent : (rules : Rules) (p : ℕ) (s : State) (call : Call) (luck : Luck) → IsNoSaying call → said_by (step rules p s call luck).reply ≡ []
-step_silent rules p s call luck other = mode_silent s call (outcome rules (told_of rules p s.journal) (known_of rules p s.journal) s.memory call) s.mode luck (outcome_silent rules (told_of rules p s.journal) (known_of rules p s.journal) s.memory call other)
+pub step_silent : (rules : Rules) (p : ℕ) (s : State) (call : Call) (on_disk : DiskOutcome) → IsNoSaying call → said_by (step rules p s call on_disk).reply ≡ []
+step_silent rules p s call on_disk other = mode_silent s call (outcome rules (told_of rules p s.journal) (known_of rules p s.journal) s.memory call) s.mode on_disk (outcome_silent rules (told_of rules p s.journal) (known_of rules p s.journal) s.memory call other)
 
 pub opened_silent : (rules : Rules) (room p : ℕ) (s : State) (journal : List Record) (opening : Opening) → said_by (opened rules room p s journal opening).reply ≡ []
 opened_silent rules room p s journal NoPlayer = refl

@@ -7,7 +7,7 @@ use Rattle.c8_wire.specs.Spelling.{Spells}
 use Rattle.c8_wire.specs.checked.Read.{read}
 use Rattle.c8_peer.specs.State as calls
 use Rattle.c8_peer.specs.State.{State, Call, Reply}
-use Rattle.c8_peer.specs.Steps.{Luck}
+use Rattle.c8_peer.specs.Steps.{DiskOutcome}
 use Rattle.c8_peer.specs.Opening.{Opening}
 use Rattle.c8_peer.specs.Runs.{Does, Opens, IsDone}
 use Rattle.c8_live.specs.Turns.{SpellsAnswer}
@@ -99,9 +99,9 @@ part_of p log = filter (λ n. player_of n.act == p) log
 
 -- A call at a peer, with an answer that satisfies `Tells`: one deed, whatever the disk does.
 pub record IsCalled (rules : Rules) (room p : ℕ) (s : State) (call : Call) (Tells : Option Reply → Type 0) (t : State) : Type 0 where
-  pub luck : Luck
+  pub on_disk : DiskOutcome
   pub answer : Option Reply
-  pub done : IsDone rules room p s (Does call luck) answer t
+  pub done : IsDone rules room p s (Does call on_disk) answer t
   pub tells : Tells answer
 
 -- An opening of a peer: one deed, whatever its result.

@@ -10,7 +10,7 @@ ghost use Rattle.c8_known.specs.Confirmed.{confirmed, best_row, best_rows_below}
 ghost use Rattle.c8_roll.specs.Roll.{marks_since};
 ghost use Rattle.c8_roll.specs.checked.Timeline.{IsNew, IsTimeline, state_at, back_at, IsAll, AreBest, IsChange, IsRunOf};
 
-use c8_digest::{Checkpoint, MARK_STEP, Marks, mark};
+use c8_digest::{Checkpoint, MARK_STEP, Marks};
 use c8_game::{Game, Row};
 use c8_known::Known;
 use c8_machine::Machine;
@@ -239,7 +239,7 @@ impl<'g> Timeline<'g> {
         for frame in self.first..known.confirmed() {
             self.confirm(&known.best(frame));
             if (frame + 1) % MARK_STEP == 0 {
-                marks.put(frame + 1, mark(self.base()));
+                marks.put_of(frame + 1, self.base());
             }
         }
     }

@@ -28,7 +28,7 @@ pub trait Picture {
 
 /// Makes at most `turns` turns of a spectator, until it has every row of the game, a viewer of the board asks for the
 /// end, or the gate ends it (as `Worker::Game`). Returns how many it made. Before the first turn and after each, the
-/// pen publishes the spectator's rows; after each, the picture is shown the machine. The error is the wire's; the pen
+/// pen publishes the spectator's rows, if there are new ones; after each, the picture is shown the machine. The error is the wire's; the pen
 /// then still shows the rows from before that turn.
 pub fn watch_worker<W: Wire, G: Gate, P: Picture>(
     spectator: &mut Spectator<'_>,
@@ -48,14 +48,14 @@ pub fn watch_worker<W: Wire, G: Gate, P: Picture>(
     turns_join::<W>();
     a_turn_takes_nothing_back::<W>();
     let mut made: u64 = 0;
-    publish(spectator, board, pen);
+    let mut published = publish(spectator, board, pen);
     for turn in 0..turns {
         let is_whole = spectator.count() >= spectator.game().frames();
         if is_whole || board.stop_asked(pen) || !gate.before(Worker::Game, turn) {
             break;
         }
         watch_turn(spectator, wire)?;
-        publish(spectator, board, pen);
+        published = publish_more(spectator, published, board, pen);
         picture.show(spectator.shown());
         gate.after(Worker::Game, turn);
         made = turn + 1;
@@ -109,14 +109,31 @@ fn open_at(
     Board::open(alloc, game, count, machine, viewers)
 }
 
-/// Publishes a spectator's rows.
-fn publish(spectator: &Spectator<'_>, board: &Board, pen: &mut Pen)
+/// Publishes a spectator's rows, unless they were published before. Returns how many rows are published now. Publishing
+/// hashes the machine's state, so it happens only after the count has changed.
+fn publish_more(spectator: &Spectator<'_>, published: u32, board: &Board, pen: &mut Pen) -> u32
+    requires published { published ≡ length pen.old.rows }
     requires board { pen.old.board ≡ board.now }
     requires shows { MayShow spectator.now pen.old }
     ensures shown { IsShown spectator.now pen.old pen.new }
+    ensures published { result ≡ length pen.new.rows }
+{
+    if spectator.count() == published {
+        return published;
+    }
+    publish(spectator, board, pen)
+}
+
+/// Publishes a spectator's rows, and returns how many they are.
+fn publish(spectator: &Spectator<'_>, board: &Board, pen: &mut Pen) -> u32
+    requires board { pen.old.board ≡ board.now }
+    requires shows { MayShow spectator.now pen.old }
+    ensures shown { IsShown spectator.now pen.old pen.new }
+    ensures published { result ≡ length pen.new.rows }
 {
     let (count, machine) = (spectator.count(), spectator.shown());
     show(spectator, spectator.game(), count, machine, board, pen);
+    count
 }
 
 /// The part of `publish` that needs the proof: count and machine are the spectator's.

@@ -16,7 +16,7 @@ use Rattle.c8_refusals.specs.declared.error.Refused.{Refused}
 use Rattle.c8_refusals.specs.declared.error.Refused.TheVariants.{BadAck, Desync, Known}
 use Rattle.c8_peer.specs.State as states
 use Rattle.c8_peer.specs.State.{Mode, Down, Away, State, Call, Outcome}
-use Rattle.c8_peer.specs.Steps.{outcome, Luck, Works, Refuses, refused_by_disk, Stepped, done, at_mode, step}
+use Rattle.c8_peer.specs.Steps.{outcome, DiskOutcome, Works, Refuses, refused_by_disk, Stepped, done, at_mode, step}
 use Rattle.c8_peer.specs.Opening.{Opening, NoPlayer, Stands, NotWritten, NoMemory, NotRead, Unfit, Spent, found, opened}
 use Rattle.c8_world.specs.checked.Below.{ArePeersLawful}
 use Rattle.c8_world.specs.World.{World, is_player, peer_of, journal_of, Act, Open, Tick, Say, Give, Leave, Decide, Event, Do, Stop, Happening, Answer, Told, NoSuch, After, call_at_mode, call_at, open_at_mode, give_to, acted, after, CanHappen, Chain, IsReached, Check, Show, Hear, Seen, Fresh, hear_at, Watched, known_by, watch_of}
@@ -41,8 +41,8 @@ calm_by_disk J p q (states.Leave leaver) why = unrefused J p q _ (λ x e. cc e)
 calm_by_disk J p q (states.Decide leaver) why = unrefused J p q _ (λ x e. cc e)
 calm_by_disk J p q states.Checkpoint why = unrefused J p q _ (λ x e. cc e)
 
-calm_done : (J : ℕ → List Record) (p q : ℕ) (s : State) (call : Call) (o : Outcome) (kept : Option Record) (luck : Luck) → EndsCalmly J p q o → AnswersCalmly J p q (done s call o kept luck).reply
-calm_done J p q s call o None luck calm = calm
+calm_done : (J : ℕ → List Record) (p q : ℕ) (s : State) (call : Call) (o : Outcome) (kept : Option Record) (on_disk : DiskOutcome) → EndsCalmly J p q o → AnswersCalmly J p q (done s call o kept on_disk).reply
+calm_done J p q s call o None on_disk calm = calm
 calm_done J p q s call o (Some r) Works calm = calm
 calm_done J p q s call o (Some r) (Refuses why) calm = calm_by_disk J p q call why
 
@@ -50,24 +50,24 @@ calm_done J p q s call o (Some r) (Refuses why) calm = calm_by_disk J p q call w
 abbrev IsCalmAnswer : (ℕ → List Record) → ℕ → ℕ → Answer → Type 0
 IsCalmAnswer J p q answer = (why : Refused) → answer ≡ refused_for why → IsCalm J p q why
 
-calm_mode : (rules : Rules) (room : ℕ) (w : World) (p : ℕ) (call : Call) (luck : Luck) (mode : Mode) → AreInRange rules → IsSound rules room w → IsPlayer rules p → (peer_of w p).mode ≡ mode
-    → IsWorldly rules (journal_of w) w.said call → IsCalmAnswer (journal_of w) p (teller_of call) (call_at_mode rules w p call luck mode).answer
-calm_mode rules room w p call luck states.Open range sound plays up worldly why e =
+calm_mode : (rules : Rules) (room : ℕ) (w : World) (p : ℕ) (call : Call) (on_disk : DiskOutcome) (mode : Mode) → AreInRange rules → IsSound rules room w → IsPlayer rules p → (peer_of w p).mode ≡ mode
+    → IsWorldly rules (journal_of w) w.said call → IsCalmAnswer (journal_of w) p (teller_of call) (call_at_mode rules w p call on_disk mode).answer
+calm_mode rules room w p call on_disk states.Open range sound plays up worldly why e =
     let J : ℕ → List Record = journal_of w in
     let q : ℕ = teller_of call in
     let o : Outcome = outcome rules (told_of rules p (J p)) (known_of rules p (J p)) (peer_of w p).memory call in
-    let at : step rules p (peer_of w p) call luck ≡ done (peer_of w p) call o o.keeps luck = ap (λ (mode : Mode). at_mode (peer_of w p) call o mode luck) up in
+    let at : step rules p (peer_of w p) call on_disk ≡ done (peer_of w p) call o o.keeps on_disk = ap (λ (mode : Mode). at_mode (peer_of w p) call o mode on_disk) up in
     let awake = (sound.peers p plays).awake (λ gone. absurd (cc (up, gone))) in
     let calm : EndsCalmly J p q o = calm_call rules room J w.said p (peer_of w p).memory call range sound.journals plays awake worldly in
-    subst (λ (t : Stepped). AnswersCalmly J p q t.reply) (sym at) (calm_done J p q (peer_of w p) call o o.keeps luck calm) why cc
-calm_mode rules room w p call luck Down range sound plays up worldly why e = absurd (cc e)
-calm_mode rules room w p call luck Away range sound plays up worldly why e = absurd (cc e)
+    subst (λ (t : Stepped). AnswersCalmly J p q t.reply) (sym at) (calm_done J p q (peer_of w p) call o o.keeps on_disk calm) why cc
+calm_mode rules room w p call on_disk Down range sound plays up worldly why e = absurd (cc e)
+calm_mode rules room w p call on_disk Away range sound plays up worldly why e = absurd (cc e)
 
-calm_call_at : (rules : Rules) (room : ℕ) (w : World) (p : ℕ) (call : Call) (luck : Luck) → AreInRange rules → IsSound rules room w → IsWorldly rules (journal_of w) w.said call
-    → IsCalmAnswer (journal_of w) p (teller_of call) (call_at rules w p call luck).answer
-calm_call_at rules room w p call luck range sound worldly =
+calm_call_at : (rules : Rules) (room : ℕ) (w : World) (p : ℕ) (call : Call) (on_disk : DiskOutcome) → AreInRange rules → IsSound rules room w → IsWorldly rules (journal_of w) w.said call
+    → IsCalmAnswer (journal_of w) p (teller_of call) (call_at rules w p call on_disk).answer
+calm_call_at rules room w p call on_disk range sound worldly =
     after_if (λ (a : After). IsCalmAnswer (journal_of w) p (teller_of call) a.answer) (is_player rules p) _ _
-    (λ is. calm_mode rules room w p call luck (peer_of w p).mode range sound (plays_if rules p is) refl worldly)
+    (λ is. calm_mode rules room w p call on_disk (peer_of w p).mode range sound (plays_if rules p is) refl worldly)
     (λ down why e. absurd (cc e))
 
 -- ---- a delivery
@@ -78,20 +78,20 @@ record IsRefusalOf (w : World) (p : ℕ) (o : Option Packet) (why : Refused) : T
   is : o ≡ Some packet
   calm : IsCalm (journal_of w) p packet.head.from why
 
-calm_given : (rules : Rules) (room : ℕ) (w : World) (p number : ℕ) (luck : Luck) (o : Option Packet) (why : Refused) → AreInRange rules → IsSound rules room w → slice_get w.said number ≡ o
-    → (give_to rules w p luck o).answer ≡ refused_for why → IsRefusalOf w p o why
-calm_given rules room w p number luck None why range sound at e = absurd (cc e)
-calm_given rules room w p number luck (Some packet) why range sound at e = record {
+calm_given : (rules : Rules) (room : ℕ) (w : World) (p number : ℕ) (on_disk : DiskOutcome) (o : Option Packet) (why : Refused) → AreInRange rules → IsSound rules room w → slice_get w.said number ≡ o
+    → (give_to rules w p on_disk o).answer ≡ refused_for why → IsRefusalOf w p o why
+calm_given rules room w p number on_disk None why range sound at e = absurd (cc e)
+calm_given rules room w p number on_disk (Some packet) why range sound at e = record {
   packet = packet;
   is = refl;
-  calm = calm_call_at rules room w p (states.Deliver (Ok packet)) luck range sound ((number, at), sound.said packet (number, at)) why e;
+  calm = calm_call_at rules room w p (states.Deliver (Ok packet)) on_disk range sound ((number, at), sound.said packet (number, at)) why e;
 }
 
 given : (rules : Rules) (room : ℕ) (w v : World) (p number : ℕ) (answer : Answer) (why : Refused) → AreInRange rules → IsSound rules room w
     → CanHappen rules room w (Do (Give number p)) answer v → answer ≡ refused_for why → IsRefusalOf w p (slice_get w.said number) why
 unfolding acted
 given rules room w v p number answer why range sound can e =
-    calm_given rules room w p number can.happening.luck (slice_get w.said number) why range sound refl (ap (λ (a : After). a.answer) can.is ∙ e)
+    calm_given rules room w p number can.happening.on_disk (slice_get w.said number) why range sound refl (ap (λ (a : After). a.answer) can.is ∙ e)
 
 pub never_differs : (laws : ArePeersLawful) (rules : Rules) (room : ℕ) (w v : World) (p number : ℕ) (answer : Answer) → AreInRange rules → room < 2 ^ 64 → IsReached rules room w → IsUndropped w p
     → CanHappen rules room w (Do (Give number p)) answer v → answer ≢ refused_for (Known Differs)
@@ -130,13 +130,13 @@ acted_well : (rules : Rules) (room : ℕ) (w : World) (act : Act) (h : Happening
 unfolding acted
 acted_well rules room w (Open p) h range sound =
     after_if (λ (a : After). a.answer ≢ refused_for BadAck) (is_player rules p) _ _ (λ is. opens_otherwise rules room w p h (peer_of w p).mode BadAck) (λ none e. cc e)
-acted_well rules room w (Tick p keys) h range sound = λ e. (calm_call_at rules room w p (states.Tick keys) h.luck range sound tt BadAck e).ack refl
-acted_well rules room w (Say p to what) h range sound = λ e. (calm_call_at rules room w p (states.Say to what) h.luck range sound tt BadAck e).ack refl
-acted_well rules room w (Give number p) h range sound = λ e. (calm_given rules room w p number h.luck (slice_get w.said number) BadAck range sound refl e).calm.ack refl
-acted_well rules room w (Leave leaver) h range sound = λ e. (calm_call_at rules room w 1 (states.Leave leaver) h.luck range sound tt BadAck e).ack refl
-acted_well rules room w (Decide leaver) h range sound = λ e. (calm_call_at rules room w 1 (states.Decide leaver) h.luck range sound tt BadAck e).ack refl
-acted_well rules room w (Check p) h range sound = λ e. (calm_call_at rules room w p states.Checkpoint h.luck range sound tt BadAck e).ack refl
-acted_well rules room w (Show watcher) h range sound = λ e. (calm_call_at rules room w 1 (states.Show watcher) h.luck range sound tt BadAck e).ack refl
+acted_well rules room w (Tick p keys) h range sound = λ e. (calm_call_at rules room w p (states.Tick keys) h.on_disk range sound tt BadAck e).ack refl
+acted_well rules room w (Say p to what) h range sound = λ e. (calm_call_at rules room w p (states.Say to what) h.on_disk range sound tt BadAck e).ack refl
+acted_well rules room w (Give number p) h range sound = λ e. (calm_given rules room w p number h.on_disk (slice_get w.said number) BadAck range sound refl e).calm.ack refl
+acted_well rules room w (Leave leaver) h range sound = λ e. (calm_call_at rules room w 1 (states.Leave leaver) h.on_disk range sound tt BadAck e).ack refl
+acted_well rules room w (Decide leaver) h range sound = λ e. (calm_call_at rules room w 1 (states.Decide leaver) h.on_disk range sound tt BadAck e).ack refl
+acted_well rules room w (Check p) h range sound = λ e. (calm_call_at rules room w p states.Checkpoint h.on_disk range sound tt BadAck e).ack refl
+acted_well rules room w (Show watcher) h range sound = λ e. (calm_call_at rules room w 1 (states.Show watcher) h.on_disk range sound tt BadAck e).ack refl
 acted_well rules room w (Hear number watcher) h range sound = watched_otherwise rules room w watcher (slice_get w.said number) BadAck
 acted_well rules room w (Seen watcher) h range sound = λ e. cc e
 acted_well rules room w (Fresh watcher) h range sound = λ e. cc e
@@ -168,9 +168,9 @@ never_differs_watched laws rules room w v watcher number answer range few reache
 -- ---- while no player is dropped
 
 -- a number without a datagram delivers nothing
-none_given : (rules : Rules) (w : World) (p : ℕ) (luck : Luck) (o : Option Packet) (answer : Answer) (v : World) → o ≡ None → give_to rules w p luck o ≡ record { answer = answer; world = v } → answer ≢ refused_for Desync
-none_given rules w p luck None answer v none is e = let same : NoSuch ≡ answer = ap (λ (a : After). a.answer) is in absurd (cc (same, e))
-none_given rules w p luck (Some packet) answer v none is e = absurd cc
+none_given : (rules : Rules) (w : World) (p : ℕ) (on_disk : DiskOutcome) (o : Option Packet) (answer : Answer) (v : World) → o ≡ None → give_to rules w p on_disk o ≡ record { answer = answer; world = v } → answer ≢ refused_for Desync
+none_given rules w p on_disk None answer v none is e = let same : NoSuch ≡ answer = ap (λ (a : After). a.answer) is in absurd (cc (same, e))
+none_given rules w p on_disk (Some packet) answer v none is e = absurd cc
 
 said_or_not : (o : Option Packet) → (o ≡ None) ⊎ ((packet : Packet) × (o ≡ Some packet))
 said_or_not None = inl refl
@@ -185,7 +185,7 @@ pub calm_desync : (laws : ArePeersLawful) (rules : Rules) (room : ℕ) (w v : Wo
 unfolding acted
 calm_desync laws rules room w v p number answer range few is nobody can =
     ⊎_elim
-    (λ none. none_given rules w p can.happening.luck (slice_get w.said number) answer v none can.is)
+    (λ none. none_given rules w p can.happening.on_disk (slice_get w.said number) answer v none can.is)
     (λ told. never_desync laws rules room w v p number told.0 answer range few is (nobody p) told.1 (nobody told.0.head.from) can)
     (said_or_not (slice_get w.said number))
 

@@ -7,7 +7,7 @@ use Rattle.c8_game.specs.Rules.{Rules, AreInRange}
 use Rattle.c8_wire.specs.Packet.{Packet}
 use Rattle.c8_peer.specs.State as states
 use Rattle.c8_peer.specs.State.{Mode, Down, Away, State, Call, Reply, Opened, Ticked, Delivered, Said, Left, Decided, Checked}
-use Rattle.c8_peer.specs.Steps.{Luck, Stepped, step}
+use Rattle.c8_peer.specs.Steps.{DiskOutcome, Stepped, step}
 use Rattle.c8_peer.specs.Opening.{found, away, opened}
 use Rattle.c8_peer.specs.Replies.{mode_told}
 use Rattle.c8_world.specs.checked.Below.{ArePeersLawful}
@@ -51,14 +51,14 @@ module _ (laws : ArePeersLawful) (rules : Rules) (room p : ℕ) (plays : IsPlaye
         rw test (ap (λ (s : State). s.mode) there)
   ]
 
-  mode_tells : (w : World) (q : ℕ) (call : Call) (luck : Luck) (mode : Mode) → length w.peers ≡ rules.players → IsPlayer rules q → (peer_of w q).mode ≡ mode → Tells w q (call_at_mode rules w q call luck mode)
-  mode_tells w q call luck states.Open nodes q_plays up = goes_on w q (step rules q (peer_of w q) call luck) nodes q_plays (laws.calls_tell rules q (peer_of w q) call luck up)
-  mode_tells w q call luck Down nodes q_plays down = stays w q IsDown (λ mode. refl)
-  mode_tells w q call luck Away nodes q_plays gone = stays w q IsDown (λ mode. refl)
+  mode_tells : (w : World) (q : ℕ) (call : Call) (on_disk : DiskOutcome) (mode : Mode) → length w.peers ≡ rules.players → IsPlayer rules q → (peer_of w q).mode ≡ mode → Tells w q (call_at_mode rules w q call on_disk mode)
+  mode_tells w q call on_disk states.Open nodes q_plays up = goes_on w q (step rules q (peer_of w q) call on_disk) nodes q_plays (laws.calls_tell rules q (peer_of w q) call on_disk up)
+  mode_tells w q call on_disk Down nodes q_plays down = stays w q IsDown (λ mode. refl)
+  mode_tells w q call on_disk Away nodes q_plays gone = stays w q IsDown (λ mode. refl)
 
-  call_tells : (w : World) (q : ℕ) (call : Call) (luck : Luck) → length w.peers ≡ rules.players → Tells w q (call_at rules w q call luck)
-  call_tells w q call luck nodes = elim (cases_Bool (is_player rules q)) [
-    | inl in_game ↦ rw in_game (mode_tells w q call luck (peer_of w q).mode nodes (plays_if rules q in_game) refl)
+  call_tells : (w : World) (q : ℕ) (call : Call) (on_disk : DiskOutcome) → length w.peers ≡ rules.players → Tells w q (call_at rules w q call on_disk)
+  call_tells w q call on_disk nodes = elim (cases_Bool (is_player rules q)) [
+    | inl in_game ↦ rw in_game (mode_tells w q call on_disk (peer_of w q).mode nodes (plays_if rules q in_game) refl)
     | inr absent ↦ rw absent (stays w q IsDown (λ mode. refl))
   ]
 
@@ -80,9 +80,9 @@ module _ (laws : ArePeersLawful) (rules : Rules) (room p : ℕ) (plays : IsPlaye
     | inr absent ↦ rw (absent, stranger q absent) refl
   ]
 
-  give_tells : (w : World) (q : ℕ) (luck : Luck) (o : Option Packet) → length w.peers ≡ rules.players → Tells w q (give_to rules w q luck o)
-  give_tells w q luck None nodes = stays w q NoSuch (λ mode. refl)
-  give_tells w q luck (Some packet) nodes = call_tells w q (states.Deliver (Ok packet)) luck nodes
+  give_tells : (w : World) (q : ℕ) (on_disk : DiskOutcome) (o : Option Packet) → length w.peers ≡ rules.players → Tells w q (give_to rules w q on_disk o)
+  give_tells w q on_disk None nodes = stays w q NoSuch (λ mode. refl)
+  give_tells w q on_disk (Some packet) nodes = call_tells w q (states.Deliver (Ok packet)) on_disk nodes
 
   -- an act of a watcher changes no peer
   watcher_tells : (w u : World) (q : ℕ) (answer : Answer) → u.peers ≡ w.peers → ((mode : Mode) → mode_answered mode answer ≡ mode) → Tells w q (record { answer = answer; world = u })
@@ -96,13 +96,13 @@ module _ (laws : ArePeersLawful) (rules : Rules) (room p : ℕ) (plays : IsPlaye
   acted_tells : (w : World) (act : Act) (h : Happening) → length w.peers ≡ rules.players → Tells w (player_of act) (acted rules room w act h)
   unfolding acted
   acted_tells w (Open q) h nodes = open_tells w q h nodes
-  acted_tells w (Tick q keys) h nodes = call_tells w q (states.Tick keys) h.luck nodes
-  acted_tells w (Say q to what) h nodes = call_tells w q (states.Say to what) h.luck nodes
-  acted_tells w (Give number q) h nodes = give_tells w q h.luck (slice_get w.said number) nodes
-  acted_tells w (Leave leaver) h nodes = call_tells w 1 (states.Leave leaver) h.luck nodes
-  acted_tells w (Decide leaver) h nodes = call_tells w 1 (states.Decide leaver) h.luck nodes
-  acted_tells w (Check q) h nodes = call_tells w q states.Checkpoint h.luck nodes
-  acted_tells w (Show watcher) h nodes = call_tells w 1 (states.Show watcher) h.luck nodes
+  acted_tells w (Tick q keys) h nodes = call_tells w q (states.Tick keys) h.on_disk nodes
+  acted_tells w (Say q to what) h nodes = call_tells w q (states.Say to what) h.on_disk nodes
+  acted_tells w (Give number q) h nodes = give_tells w q h.on_disk (slice_get w.said number) nodes
+  acted_tells w (Leave leaver) h nodes = call_tells w 1 (states.Leave leaver) h.on_disk nodes
+  acted_tells w (Decide leaver) h nodes = call_tells w 1 (states.Decide leaver) h.on_disk nodes
+  acted_tells w (Check q) h nodes = call_tells w q states.Checkpoint h.on_disk nodes
+  acted_tells w (Show watcher) h nodes = call_tells w 1 (states.Show watcher) h.on_disk nodes
   acted_tells w (Hear number watcher) h nodes = hear_tells w watcher (slice_get w.said number)
   acted_tells w (Seen watcher) h nodes = watcher_tells w _ watcher (Spoken (seen_by_watcher rules room w watcher)) refl (λ mode. refl)
   acted_tells w (Fresh watcher) h nodes = watcher_tells w (with_rows w watcher []) watcher Anew refl (λ mode. refl)
@@ -213,17 +213,17 @@ modes_told laws rules room v events answers p range few chain plays =
 told_not_down : (answer : Answer) (reply : Reply) → answer ≡ Told reply → answer ≡ IsDown → ⊥
 told_not_down answer reply told down = let never : Told reply ≡ IsDown = sym told ∙ down in absurd cc
 
-call_comes : (rules : Rules) (w : World) (q : ℕ) (call : Call) (luck : Luck) → is_player rules q ≡ true → (peer_of w q).mode ≡ states.Open → call_at rules w q call luck ≡ stepped w q (step rules q (peer_of w q) call luck)
-call_comes rules w q call luck in_game up =
-    ap (λ (b : Bool). if b then call_at_mode rules w q call luck (peer_of w q).mode else record { answer = IsDown; world = w }) in_game ∙ ap (λ (mode : Mode). call_at_mode rules w q call luck mode) up
+call_comes : (rules : Rules) (w : World) (q : ℕ) (call : Call) (on_disk : DiskOutcome) → is_player rules q ≡ true → (peer_of w q).mode ≡ states.Open → call_at rules w q call on_disk ≡ stepped w q (step rules q (peer_of w q) call on_disk)
+call_comes rules w q call on_disk in_game up =
+    ap (λ (b : Bool). if b then call_at_mode rules w q call on_disk (peer_of w q).mode else record { answer = IsDown; world = w }) in_game ∙ ap (λ (mode : Mode). call_at_mode rules w q call on_disk mode) up
 
-call_not_down : (rules : Rules) (w : World) (q : ℕ) (call : Call) (luck : Luck) → is_player rules q ≡ true → (peer_of w q).mode ≡ states.Open → (call_at rules w q call luck).answer ≡ IsDown → ⊥
-call_not_down rules w q call luck in_game up down =
-    told_not_down (call_at rules w q call luck).answer (step rules q (peer_of w q) call luck).reply (ap (λ (a : After). a.answer) (call_comes rules w q call luck in_game up)) down
+call_not_down : (rules : Rules) (w : World) (q : ℕ) (call : Call) (on_disk : DiskOutcome) → is_player rules q ≡ true → (peer_of w q).mode ≡ states.Open → (call_at rules w q call on_disk).answer ≡ IsDown → ⊥
+call_not_down rules w q call on_disk in_game up down =
+    told_not_down (call_at rules w q call on_disk).answer (step rules q (peer_of w q) call on_disk).reply (ap (λ (a : After). a.answer) (call_comes rules w q call on_disk in_game up)) down
 
-give_not_down : (rules : Rules) (w : World) (q : ℕ) (luck : Luck) (o : Option Packet) → is_player rules q ≡ true → (peer_of w q).mode ≡ states.Open → (give_to rules w q luck o).answer ≡ IsDown → ⊥
-give_not_down rules w q luck None in_game up down = absurd cc
-give_not_down rules w q luck (Some packet) in_game up down = call_not_down rules w q (states.Deliver (Ok packet)) luck in_game up down
+give_not_down : (rules : Rules) (w : World) (q : ℕ) (on_disk : DiskOutcome) (o : Option Packet) → is_player rules q ≡ true → (peer_of w q).mode ≡ states.Open → (give_to rules w q on_disk o).answer ≡ IsDown → ⊥
+give_not_down rules w q on_disk None in_game up down = absurd cc
+give_not_down rules w q on_disk (Some packet) in_game up down = call_not_down rules w q (states.Deliver (Ok packet)) on_disk in_game up down
 
 open_not_down : (rules : Rules) (room : ℕ) (w : World) (q : ℕ) (h : Happening) → is_player rules q ≡ true → (peer_of w q).mode ≡ states.Open → (open_at rules room w q h).answer ≡ IsDown → ⊥
 open_not_down rules room w q h in_game up down = let is : (open_at rules room w q h).answer ≡ IsUp = rw (in_game, up) refl in let never : IsUp ≡ IsDown = sym is ∙ down in absurd cc
@@ -235,13 +235,13 @@ hear_not_down rules room w watcher (Some packet) down = absurd cc
 acted_not_down : (rules : Rules) (room : ℕ) (w : World) (act : Act) (h : Happening) → is_player rules (player_of act) ≡ true → (peer_of w (player_of act)).mode ≡ states.Open → (acted rules room w act h).answer ≡ IsDown → ⊥
 unfolding acted
 acted_not_down rules room w (Open q) h in_game up down = open_not_down rules room w q h in_game up down
-acted_not_down rules room w (Tick q keys) h in_game up down = call_not_down rules w q (states.Tick keys) h.luck in_game up down
-acted_not_down rules room w (Say q to what) h in_game up down = call_not_down rules w q (states.Say to what) h.luck in_game up down
-acted_not_down rules room w (Give number q) h in_game up down = give_not_down rules w q h.luck (slice_get w.said number) in_game up down
-acted_not_down rules room w (Leave leaver) h in_game up down = call_not_down rules w 1 (states.Leave leaver) h.luck in_game up down
-acted_not_down rules room w (Decide leaver) h in_game up down = call_not_down rules w 1 (states.Decide leaver) h.luck in_game up down
-acted_not_down rules room w (Check q) h in_game up down = call_not_down rules w q states.Checkpoint h.luck in_game up down
-acted_not_down rules room w (Show watcher) h in_game up down = call_not_down rules w 1 (states.Show watcher) h.luck in_game up down
+acted_not_down rules room w (Tick q keys) h in_game up down = call_not_down rules w q (states.Tick keys) h.on_disk in_game up down
+acted_not_down rules room w (Say q to what) h in_game up down = call_not_down rules w q (states.Say to what) h.on_disk in_game up down
+acted_not_down rules room w (Give number q) h in_game up down = give_not_down rules w q h.on_disk (slice_get w.said number) in_game up down
+acted_not_down rules room w (Leave leaver) h in_game up down = call_not_down rules w 1 (states.Leave leaver) h.on_disk in_game up down
+acted_not_down rules room w (Decide leaver) h in_game up down = call_not_down rules w 1 (states.Decide leaver) h.on_disk in_game up down
+acted_not_down rules room w (Check q) h in_game up down = call_not_down rules w q states.Checkpoint h.on_disk in_game up down
+acted_not_down rules room w (Show watcher) h in_game up down = call_not_down rules w 1 (states.Show watcher) h.on_disk in_game up down
 acted_not_down rules room w (Hear number watcher) h in_game up down = hear_not_down rules room w watcher (slice_get w.said number) down
 acted_not_down rules room w (Seen watcher) h in_game up down = absurd cc
 acted_not_down rules room w (Fresh watcher) h in_game up down = absurd cc

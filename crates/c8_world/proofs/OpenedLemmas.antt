@@ -26,7 +26,7 @@ use Rattle.c8_world.proofs.Openings.{plays_so}
 use Rattle.c8_world.proofs.TableLemmas.{CanDo, set_renodeed, nodeed, placed, placed_holds, placed_happens, same_happens, taken_at, no_player, with_node, reached_more}
 
 abbrev with_opening : Bool → Opening → Happening
-with_opening finds opening = record { finds = finds; opening = opening; luck = Works; leaves = false }
+with_opening finds opening = record { finds = finds; opening = opening; on_disk = Works; leaves = false }
 
 unread_is_memory : NotRead Failed ≢ NoMemory
 unread_is_memory e = cc e

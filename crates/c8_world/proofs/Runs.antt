@@ -22,7 +22,7 @@ use Rattle.c8_refusals.specs.declared.error.Refused.TheVariants as refusals
 use Rattle.c8_peer.specs.Told.{Told, told_of}
 use Rattle.c8_peer.specs.State as states
 use Rattle.c8_peer.specs.State.{Memory, Mode, Down, Away, State, Call, Outcome}
-use Rattle.c8_peer.specs.Steps.{outcome, Luck, done, at_mode}
+use Rattle.c8_peer.specs.Steps.{outcome, DiskOutcome, done, at_mode}
 use Rattle.c8_peer.specs.Hearing.{is_of_other_wire, refused, unless_misfit, got, differs_from, is_desync, hear_data, hear_message, unless_hand, deliver, hear_from, seen_in}
 use Rattle.c8_peer.specs.Opening.{Opening, NoPlayer, Stands, NotWritten, NoMemory, NotRead, Unfit, Spent, found, MayBecome, last_epoch}
 use Rattle.c8_world.specs.checked.Below.{ArePeersLawful}
@@ -144,22 +144,22 @@ deliver_is rules t k m packet same =
 
 -- ---- an event
 
-abbrev pub given_at : Rules → World → ℕ → Luck → Packet → Mode → After
-given_at rules w p luck packet states.Open =
+abbrev pub given_at : Rules → World → ℕ → DiskOutcome → Packet → Mode → After
+given_at rules w p on_disk packet states.Open =
     stepped w p (done (peer_of w p) (states.Deliver (Ok packet)) (deliver_here rules (told_of rules p (journal_of w p)) (known_of rules p (journal_of w p)) (peer_of w p).memory packet)
-    (deliver_here rules (told_of rules p (journal_of w p)) (known_of rules p (journal_of w p)) (peer_of w p).memory packet).keeps luck)
-given_at rules w p luck packet Down = record { answer = IsDown; world = w }
-given_at rules w p luck packet Away = record { answer = IsDown; world = w }
+    (deliver_here rules (told_of rules p (journal_of w p)) (known_of rules p (journal_of w p)) (peer_of w p).memory packet).keeps on_disk)
+given_at rules w p on_disk packet Down = record { answer = IsDown; world = w }
+given_at rules w p on_disk packet Away = record { answer = IsDown; world = w }
 
-abbrev pub give_here : Rules → World → ℕ → Luck → Option Packet → After
-give_here rules w p luck None = record { answer = NoSuch; world = w }
-give_here rules w p luck (Some packet) = if is_player rules p then given_at rules w p luck packet (peer_of w p).mode else record { answer = IsDown; world = w }
+abbrev pub give_here : Rules → World → ℕ → DiskOutcome → Option Packet → After
+give_here rules w p on_disk None = record { answer = NoSuch; world = w }
+give_here rules w p on_disk (Some packet) = if is_player rules p then given_at rules w p on_disk packet (peer_of w p).mode else record { answer = IsDown; world = w }
 
 abbrev pub acted_here : Rules → ℕ → World → Act → Happening → After
 acted_here rules room w (Open p) h = acted rules room w (Open p) h
 acted_here rules room w (Tick p keys) h = acted rules room w (Tick p keys) h
 acted_here rules room w (Say p to what) h = acted rules room w (Say p to what) h
-acted_here rules room w (Give number p) h = give_here rules w p h.luck (slice_get w.said number)
+acted_here rules room w (Give number p) h = give_here rules w p h.on_disk (slice_get w.said number)
 acted_here rules room w (Leave leaver) h = acted rules room w (Leave leaver) h
 acted_here rules room w (Decide leaver) h = acted rules room w (Decide leaver) h
 acted_here rules room w (Check p) h = acted rules room w (Check p) h
@@ -208,33 +208,33 @@ own_by rules w (Hear number watcher) = None
 own_by rules w (Seen watcher) = None
 own_by rules w (Fresh watcher) = None
 
-given_is : (rules : Rules) (w : World) (p : ℕ) (luck : Luck) (packet : Packet) (mode : Mode) → (peer_of w p).mode ≡ mode
+given_is : (rules : Rules) (w : World) (p : ℕ) (on_disk : DiskOutcome) (packet : Packet) (mode : Mode) → (peer_of w p).mode ≡ mode
     → named_in packet ≡ own_for (told_of rules p (journal_of w p)) (peer_of w p).memory packet
-    → call_at_mode rules w p (states.Deliver (Ok packet)) luck mode ≡ given_at rules w p luck packet mode
-given_is rules w p luck packet states.Open up same =
+    → call_at_mode rules w p (states.Deliver (Ok packet)) on_disk mode ≡ given_at rules w p on_disk packet mode
+given_is rules w p on_disk packet states.Open up same =
     let s : State = peer_of w p in
     let call : Call = states.Deliver (Ok packet) in
     let o : Outcome = outcome rules (told_of rules p s.journal) (known_of rules p s.journal) s.memory call in
-    ap (λ (mode : Mode). stepped w p (at_mode s call o mode luck)) up
-    ∙ ap (λ (o : Outcome). stepped w p (done s call o o.keeps luck)) (deliver_is rules (told_of rules p s.journal) (known_of rules p s.journal) s.memory packet same)
-given_is rules w p luck packet Down up same = refl
-given_is rules w p luck packet Away up same = refl
+    ap (λ (mode : Mode). stepped w p (at_mode s call o mode on_disk)) up
+    ∙ ap (λ (o : Outcome). stepped w p (done s call o o.keeps on_disk)) (deliver_is rules (told_of rules p s.journal) (known_of rules p s.journal) s.memory packet same)
+given_is rules w p on_disk packet Down up same = refl
+given_is rules w p on_disk packet Away up same = refl
 
 choose_after : (b : Bool) (x y z : After) → x ≡ y → (if b then x else z) ≡ (if b then y else z)
 choose_after true x y z same = same
 choose_after false x y z same = refl
 
-give_is : (rules : Rules) (w : World) (p : ℕ) (luck : Luck) (o : Option Packet) → named_of o ≡ own_of rules w p o → give_to rules w p luck o ≡ give_here rules w p luck o
-give_is rules w p luck None same = refl
-give_is rules w p luck (Some packet) same =
-    choose_after (is_player rules p) _ _ _ (given_is rules w p luck packet (peer_of w p).mode refl cc)
+give_is : (rules : Rules) (w : World) (p : ℕ) (on_disk : DiskOutcome) (o : Option Packet) → named_of o ≡ own_of rules w p o → give_to rules w p on_disk o ≡ give_here rules w p on_disk o
+give_is rules w p on_disk None same = refl
+give_is rules w p on_disk (Some packet) same =
+    choose_after (is_player rules p) _ _ _ (given_is rules w p on_disk packet (peer_of w p).mode refl cc)
 
 acted_is : (rules : Rules) (room : ℕ) (w : World) (act : Act) (h : Happening) → named_by w act ≡ own_by rules w act → acted rules room w act h ≡ acted_here rules room w act h
 unfolding acted
 acted_is rules room w (Open p) h same = refl
 acted_is rules room w (Tick p keys) h same = refl
 acted_is rules room w (Say p to what) h same = refl
-acted_is rules room w (Give number p) h same = give_is rules w p h.luck (slice_get w.said number) same
+acted_is rules room w (Give number p) h same = give_is rules w p h.on_disk (slice_get w.said number) same
 acted_is rules room w (Leave leaver) h same = refl
 acted_is rules room w (Decide leaver) h same = refl
 acted_is rules room w (Check p) h same = refl

@@ -19,7 +19,7 @@ use Rattle.c8_world.specs.World.{World, peer_of, Say, Give, Do, Told, NoSuch, gi
 use Rattle.c8_world.specs.Agreement.{IsPlayer}
 use Rattle.c8_world.specs.Nodes.{IsNode, IsSaying, IsAsked}
 use Rattle.c8_world.specs.Table.{TableValue, Holds, HasHappened}
-use Rattle.c8_world.proofs.TableLemmas.{CanDo, stands_is_memory, IsCallOf, same_renodeed, placed_happens, replied_can, down_can, same_happens, node_held, held_at, asked_as, absent_can, no_player, with_luck, with_node}
+use Rattle.c8_world.proofs.TableLemmas.{CanDo, stands_is_memory, IsCallOf, same_renodeed, placed_happens, replied_can, down_can, same_happens, node_held, held_at, asked_as, absent_can, no_player, with_outcome, with_node}
 
 -- ---- the pool
 
@@ -90,7 +90,7 @@ none_happens t self number p view past =
     let many : length (map spelling w.said) ≤ number = subst (λ (xs : List (List ℕ)). length xs ≤ number) holds.said past in
     let can : CanDo t.rules t.room w (Do (Give number p)) NoSuch w = (
       record {
-        happening = with_luck Works;
+        happening = with_outcome Works;
         may = tt;
         is = ap (λ (x : Option Packet). give_to t.rules w p Works x) (not_said w.said number many);
       },
@@ -102,7 +102,7 @@ given_call : (rules : Rules) (room : ℕ) (w : World) (number p : ℕ) (packet :
 unfolding acted
 given_call rules room w number p packet at = record {
   by = refl;
-  is = λ h. ap (λ (x : Option Packet). give_to rules w p h.luck x) at;
+  is = λ h. ap (λ (x : Option Packet). give_to rules w p h.on_disk x) at;
   may = λ h. tt;
 }
 

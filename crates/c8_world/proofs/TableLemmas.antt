@@ -9,9 +9,9 @@ use Rattle.c8_wire.specs.Packet.{Packet}
 use Rattle.c8_wire.specs.Spelling.{spelling}
 use Rattle.c8_peer.specs.State as states
 use Rattle.c8_peer.specs.State.{Mode, Down, Away, State, Call, Reply, Opened, Ticked, Delivered, Said, Left, Decided, Checked}
-use Rattle.c8_peer.specs.Steps.{Luck, Works, step}
+use Rattle.c8_peer.specs.Steps.{DiskOutcome, Works, step}
 use Rattle.c8_peer.specs.Opening.{Stands, NoMemory}
-use Rattle.c8_peer.specs.Peer.{PeerValue, luck_of}
+use Rattle.c8_peer.specs.Peer.{PeerValue, disk_outcome_of}
 use Rattle.c8_peer.specs.TrueChecks.{HasTrueChecks}
 use Rattle.c8_world.specs.declared.answer.Answer as codes
 use Rattle.c8_world.specs.declared.answer.Answer.TheVariants as answers
@@ -136,35 +136,35 @@ placed_happens old new w p s said node act told answer rules_same room_same play
 -- An act is a call of a player's peer in a world.
 pub record IsCallOf (rules : Rules) (room : ℕ) (w : World) (act : Act) (p : ℕ) (call : Call) : Type 0 where
   pub by : player_of act ≡ p
-  pub is : (h : Happening) → acted rules room w act h ≡ call_at rules w p call h.luck
+  pub is : (h : Happening) → acted rules room w act h ≡ call_at rules w p call h.on_disk
   pub may : (h : Happening) → MayAct rules room w act h
 
 -- the disk does this with a record
-abbrev pub with_luck : Luck → Happening
-with_luck luck = record { finds = false; opening = Stands; luck = luck; leaves = false }
+abbrev pub with_outcome : DiskOutcome → Happening
+with_outcome on_disk = record { finds = false; opening = Stands; on_disk = on_disk; leaves = false }
 
-at_open : (rules : Rules) (w : World) (p : ℕ) (call : Call) (luck : Luck) (mode : Mode) → mode ≡ states.Open → call_at_mode rules w p call luck mode ≡ stepped w p (step rules p (peer_of w p) call luck)
-at_open rules w p call luck mode is = rw is refl
+at_open : (rules : Rules) (w : World) (p : ℕ) (call : Call) (on_disk : DiskOutcome) (mode : Mode) → mode ≡ states.Open → call_at_mode rules w p call on_disk mode ≡ stepped w p (step rules p (peer_of w p) call on_disk)
+at_open rules w p call on_disk mode is = rw is refl
 
-not_open : (rules : Rules) (w : World) (p : ℕ) (call : Call) (luck : Luck) (mode : Mode) → mode ≢ states.Open → call_at_mode rules w p call luck mode ≡ record { answer = IsDown; world = w }
-not_open rules w p call luck states.Open is = absurd (is refl)
-not_open rules w p call luck Down is = refl
-not_open rules w p call luck Away is = refl
+not_open : (rules : Rules) (w : World) (p : ℕ) (call : Call) (on_disk : DiskOutcome) (mode : Mode) → mode ≢ states.Open → call_at_mode rules w p call on_disk mode ≡ record { answer = IsDown; world = w }
+not_open rules w p call on_disk states.Open is = absurd (is refl)
+not_open rules w p call on_disk Down is = refl
+not_open rules w p call on_disk Away is = refl
 
 pub stands_is_memory : Stands ≢ NoMemory
 stands_is_memory e = cc e
 
 pub replied_can : (rules : Rules) (room : ℕ) (w : World) (p : ℕ) (act : Act) (call : Call) (reply : Reply) → IsPlayer rules p → IsCallOf rules room w act p call
-    → (peer_of w p).mode ≡ states.Open → (step rules p (peer_of w p) call (luck_of reply)).reply ≡ reply
-    → CanDo rules room w (Do act) (Told reply) (placed w p (step rules p (peer_of w p) call (luck_of reply)).state (said_by reply))
+    → (peer_of w p).mode ≡ states.Open → (step rules p (peer_of w p) call (disk_outcome_of reply)).reply ≡ reply
+    → CanDo rules room w (Do act) (Told reply) (placed w p (step rules p (peer_of w p) call (disk_outcome_of reply)).state (said_by reply))
 replied_can rules room w p act call reply plays is up replies =
-    let t = step rules p (peer_of w p) call (luck_of reply) in (
+    let t = step rules p (peer_of w p) call (disk_outcome_of reply) in (
       record {
-        happening = with_luck (luck_of reply);
-        may = is.may (with_luck (luck_of reply));
-        is = is.is (with_luck (luck_of reply))
-            ∙ ap (λ (b : Bool). cond b (call_at_mode rules w p call (luck_of reply) (peer_of w p).mode) (record { answer = IsDown; world = w })) (plays_so rules p plays)
-            ∙ at_open rules w p call (luck_of reply) (peer_of w p).mode up
+        happening = with_outcome (disk_outcome_of reply);
+        may = is.may (with_outcome (disk_outcome_of reply));
+        is = is.is (with_outcome (disk_outcome_of reply))
+            ∙ ap (λ (b : Bool). cond b (call_at_mode rules w p call (disk_outcome_of reply) (peer_of w p).mode) (record { answer = IsDown; world = w })) (plays_so rules p plays)
+            ∙ at_open rules w p call (disk_outcome_of reply) (peer_of w p).mode up
             ∙ ap (λ (r : Reply). record { answer = Told r; world = placed w p t.state (said_by r) }) replies;
       },
       stands_is_memory,
@@ -174,9 +174,9 @@ pub down_can : (rules : Rules) (room : ℕ) (w : World) (p : ℕ) (act : Act) (c
     → (peer_of w p).mode ≢ states.Open → CanDo rules room w (Do act) IsDown w
 down_can rules room w p act call plays is down = (
   record {
-    happening = with_luck Works;
-    may = is.may (with_luck Works);
-    is = is.is (with_luck Works)
+    happening = with_outcome Works;
+    may = is.may (with_outcome Works);
+    is = is.is (with_outcome Works)
         ∙ ap (λ (b : Bool). cond b (call_at_mode rules w p call Works (peer_of w p).mode) (record { answer = IsDown; world = w })) (plays_so rules p plays)
         ∙ not_open rules w p call Works (peer_of w p).mode down;
   },
@@ -186,9 +186,9 @@ down_can rules room w p act call plays is down = (
 pub absent_can : (rules : Rules) (room : ℕ) (w : World) (p : ℕ) (act : Act) (call : Call) → is_player rules p ≡ false → IsCallOf rules room w act p call → CanDo rules room w (Do act) IsDown w
 absent_can rules room w p act call absent is = (
   record {
-    happening = with_luck Works;
-    may = is.may (with_luck Works);
-    is = is.is (with_luck Works)
+    happening = with_outcome Works;
+    may = is.may (with_outcome Works);
+    is = is.is (with_outcome Works)
         ∙ ap (λ (b : Bool). cond b (call_at_mode rules w p call Works (peer_of w p).mode) (record { answer = IsDown; world = w })) absent;
   },
   stands_is_memory,
@@ -214,9 +214,9 @@ with_node t place node = record t { nodes = slice_set t.nodes place (Some node) 
 module _ (t : TableValue) (place p : ℕ) (node : Node) (act : Act) (call : Call) (at : place + 1 ≡ p) (within : place < length t.nodes)
     (plays : IsPlayer t.rules p) (w : World) (is : IsCallOf t.rules t.room w act p call) (holds : Holds t w) where
   replied : (reply : Reply) (answer : codes.Answer) → IsCalled t.rules t.room p (peer_of w p) call (Some reply) node → said_by reply ≡ []
-      → ((n : ℕ) → answer ≡ reported_reply t.rules p (step t.rules p (peer_of w p) call (luck_of reply)).state n reply) → HasHappened t w (Do act) answer (with_node t place node)
+      → ((n : ℕ) → answer ≡ reported_reply t.rules p (step t.rules p (peer_of w p) call (disk_outcome_of reply)).state n reply) → HasHappened t w (Do act) answer (with_node t place node)
   replied reply answer called quiet reports =
-      placed_happens t (with_node t place node) w p (step t.rules p (peer_of w p) call (luck_of reply)).state (said_by reply) node act (Told reply) answer
+      placed_happens t (with_node t place node) w p (step t.rules p (peer_of w p) call (disk_outcome_of reply)).state (said_by reply) node act (Told reply) answer
       refl refl plays is.by holds (replied_can t.rules t.room w p act call reply plays is called.0 called.1)
       (set_renodeed t.nodes place p node at within) called.2
       (holds.said ∙ ap (λ (xs : List Packet). map spelling xs) (sym (append-nil w.said) ∙ ap (λ (new : List Packet). w.said ++ new) (sym quiet))) (refl, refl)

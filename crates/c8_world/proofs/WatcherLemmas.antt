@@ -22,7 +22,7 @@ use Rattle.c8_world.specs.declared.answer.Answer as codes
 use Rattle.c8_world.specs.declared.answer.Answer.TheVariants as answers
 use Rattle.c8_world.specs.World.{World, Act, Answer, player_of, Show, Hear, Seen, Fresh, Do, Watched, Spoken, Anew, NoSuch, rows_of, watch_of, with_rows, hear_at, seen_by_watcher, acted}
 use Rattle.c8_world.specs.Table.{TableValue, Holds, HasHappened, reported, rows_in, watch_in, IsWatch}
-use Rattle.c8_world.proofs.TableLemmas.{CanDo, stands_is_memory, IsCallOf, same_happens, with_luck, reached_more}
+use Rattle.c8_world.proofs.TableLemmas.{CanDo, stands_is_memory, IsCallOf, same_happens, with_outcome, reached_more}
 use Rattle.c8_world.proofs.SpokenLemmas.{AreRead, said_at, not_said}
 
 pub show_call : (watcher : ℕ) → is_watcher watcher ≡ true → (rules : Rules) (room : ℕ) (w : World) → IsCallOf rules room w (Show watcher) 1 (states.Show watcher)
@@ -50,7 +50,7 @@ unheard_happens t self number watcher watches view past =
     let many : length (map spelling w.said) ≤ number = subst (λ (xs : List (List ℕ)). length xs ≤ number) holds.said past in
     let can : CanDo t.rules t.room w (Do (Hear number watcher)) NoSuch w = (
       record {
-        happening = with_luck Works;
+        happening = with_outcome Works;
         may = watches;
         is = ap (λ (x : Option Packet). hear_at t.rules t.room w watcher x) (not_said w.said number many);
       },
@@ -91,7 +91,7 @@ heard_happens t self number watcher bytes watches view at reads =
     let same : heard ≡ after = ap (λ v. hear v (Ok told.0)) (watch_is t w watcher holds) ∙ ap (hear (watch_in t watcher)) (sym is_read) in
     let can : CanDo t.rules t.room w (Do (Hear number watcher)) (Watched heard.answer) (with_rows w watcher heard.watch.rows) = (
       record {
-        happening = with_luck Works;
+        happening = with_outcome Works;
         may = watches;
         is = ap (λ (x : Option Packet). hear_at t.rules t.room w watcher x) told.1;
       },
@@ -105,7 +105,7 @@ unfolding acted
 fresh_happens t self watcher watches view =
     subst (λ (u : TableValue). (w : World) → Holds u w → HasHappened u w (Do (Fresh watcher)) answers.Anew (with_watch t watcher [])) view
     (λ w holds.
-    let can : CanDo t.rules t.room w (Do (Fresh watcher)) Anew (with_rows w watcher []) = (record { happening = with_luck Works; may = watches; is = refl }, stands_is_memory) in
+    let can : CanDo t.rules t.room w (Do (Fresh watcher)) Anew (with_rows w watcher []) = (record { happening = with_outcome Works; may = watches; is = refl }, stands_is_memory) in
     watched_happens t w (Fresh watcher) watcher [] Anew answers.Anew holds can refl)
 
 -- ---- a watcher acknowledges its rows
@@ -124,7 +124,7 @@ seen_happens t self watcher number size bytes pool watches view numbered grown s
     let count : length t.pool ≡ length w.said = ap (λ (xs : List (List ℕ)). length xs) holds.said ∙ length-map w.said spelling in
     let long : size ≡ length (spelling packet) = sym (length-take-le size bytes fits) ∙ ap (λ (xs : List ℕ). length xs) spelled in
     let last : number ≡ length v.said - 1 = omega (arith, numbered, count, length-append w.said (packet ∷ [])) in
-    let can : CanDo t.rules t.room w (Do (Seen watcher)) (Spoken packet) v = (record { happening = with_luck Works; may = watches; is = refl }, stands_is_memory) in
+    let can : CanDo t.rules t.room w (Do (Seen watcher)) (Spoken packet) v = (record { happening = with_outcome Works; may = watches; is = refl }, stands_is_memory) in
     record {
       told = Spoken packet;
       world = v;

@@ -19,7 +19,7 @@ use Rattle.c8_record.specs.Allowed.{IsAllowed, IsJournal}
 use Rattle.c8_record.specs.checked.JournalLaws.{journal_none, journal_grows}
 use Rattle.c8_peer.specs.State as states
 use Rattle.c8_peer.specs.State.{Memory, Mode, Down, Away, State, Call, Reply, Opened, Ticked, Delivered, Said, Left, Decided, Outcome, fresh_memory, Checked}
-use Rattle.c8_peer.specs.Steps.{outcome, Luck, Works, Refuses, refused_by_disk, Stepped, done, at_mode, step}
+use Rattle.c8_peer.specs.Steps.{outcome, DiskOutcome, Works, Refuses, refused_by_disk, Stepped, done, at_mode, step}
 use Rattle.c8_peer.specs.Opening.{last_epoch, Opening, NoPlayer, Stands, NotWritten, NoMemory, NotRead, Unfit, Spent, found, opening_record, away, opened, MayBecome}
 use Rattle.c8_peer.specs.Lawful.{IsMemory, IsCall}
 use Rattle.c8_peer.specs.Truth.{IsTrue, IsTrueMessage}
@@ -307,9 +307,9 @@ settled_up rules room w p sound plays up = none_or_not (peer_of w p).pending (λ
 no_item : (packet : Packet) → IsAmong [] packet → ⊥
 no_item packet (n, e) = cc e
 
-done_sound : (rules : Rules) (room : ℕ) (w : World) (p : ℕ) (call : Call) (o : Outcome) (kept : Option Record) (luck : Luck) → AreInRange rules → IsSound rules room w → IsPlayer rules p → (peer_of w p).mode ≡ states.Open
-    → Owes rules room w p o → o.keeps ≡ kept → Reaches rules room w (stepped w p (done (peer_of w p) call o kept luck)).world
-done_sound rules room w p call o None luck range sound plays up owes e =
+done_sound : (rules : Rules) (room : ℕ) (w : World) (p : ℕ) (call : Call) (o : Outcome) (kept : Option Record) (on_disk : DiskOutcome) → AreInRange rules → IsSound rules room w → IsPlayer rules p → (peer_of w p).mode ≡ states.Open
+    → Owes rules room w p o → o.keeps ≡ kept → Reaches rules room w (stepped w p (done (peer_of w p) call o kept on_disk)).world
+done_sound rules room w p call o None on_disk range sound plays up owes e =
     placed_same rules room w p (record (peer_of w p) { memory = o.memory }) (said_by o.reply) range sound plays refl
     (record { pending = (sound.peers p plays).pending; awake = λ mode. owes.awake })
     owes.says
@@ -334,15 +334,15 @@ done_sound rules room w p call o (Some r) (Refuses why) range sound plays up owe
 pub stays_as : (rules : Rules) (room : ℕ) (w : World) → IsSound rules room w → Reaches rules room w w
 stays_as rules room w sound = record { sound = sound; grown = λ q plays. begins_same (journal_of w q) }
 
-mode_sound : (laws : ArePeersLawful) (rules : Rules) (room : ℕ) (w : World) (p : ℕ) (call : Call) (luck : Luck) (mode : Mode) → AreInRange rules → IsSound rules room w → IsPlayer rules p → (peer_of w p).mode ≡ mode → IsCall call → IsWorldly rules (journal_of w) w.said call
-    → Reaches rules room w (call_at_mode rules w p call luck mode).world
-mode_sound laws rules room w p call luck states.Open range sound plays up is_call worldly =
+mode_sound : (laws : ArePeersLawful) (rules : Rules) (room : ℕ) (w : World) (p : ℕ) (call : Call) (on_disk : DiskOutcome) (mode : Mode) → AreInRange rules → IsSound rules room w → IsPlayer rules p → (peer_of w p).mode ≡ mode → IsCall call → IsWorldly rules (journal_of w) w.said call
+    → Reaches rules room w (call_at_mode rules w p call on_disk mode).world
+mode_sound laws rules room w p call on_disk states.Open range sound plays up is_call worldly =
     let o : Outcome = outcome rules (told_of rules p (journal_of w p)) (known_of rules p (journal_of w p)) (peer_of w p).memory call in
-    let at : step rules p (peer_of w p) call luck ≡ done (peer_of w p) call o o.keeps luck = ap (λ (mode : Mode). at_mode (peer_of w p) call o mode luck) up in
+    let at : step rules p (peer_of w p) call on_disk ≡ done (peer_of w p) call o o.keeps on_disk = ap (λ (mode : Mode). at_mode (peer_of w p) call o mode on_disk) up in
     subst (λ (t : Stepped). Reaches rules room w (stepped w p t).world) (sym at)
-    (done_sound rules room w p call o o.keeps luck range sound plays up (call_owes laws rules room w p call range sound plays up is_call worldly) refl)
-mode_sound laws rules room w p call luck Down range sound plays up is_call worldly = stays_as rules room w sound
-mode_sound laws rules room w p call luck Away range sound plays up is_call worldly = stays_as rules room w sound
+    (done_sound rules room w p call o o.keeps on_disk range sound plays up (call_owes laws rules room w p call range sound plays up is_call worldly) refl)
+mode_sound laws rules room w p call on_disk Down range sound plays up is_call worldly = stays_as rules room w sound
+mode_sound laws rules room w p call on_disk Away range sound plays up is_call worldly = stays_as rules room w sound
 
 pub plays_if : (rules : Rules) (p : ℕ) → is_player rules p ≡ true → IsPlayer rules p
 plays_if rules p is =
@@ -362,11 +362,11 @@ if_player : (P : After → Type 0) (b : Bool) (x y : After) → (b ≡ true → 
 if_player P true x y when unless = when refl
 if_player P false x y when unless = unless
 
-call_sound : (laws : ArePeersLawful) (rules : Rules) (room : ℕ) (w : World) (p : ℕ) (call : Call) (luck : Luck) → AreInRange rules → IsSound rules room w → IsCall call → IsWorldly rules (journal_of w) w.said call
-    → Reaches rules room w (call_at rules w p call luck).world
-call_sound laws rules room w p call luck range sound is_call worldly =
+call_sound : (laws : ArePeersLawful) (rules : Rules) (room : ℕ) (w : World) (p : ℕ) (call : Call) (on_disk : DiskOutcome) → AreInRange rules → IsSound rules room w → IsCall call → IsWorldly rules (journal_of w) w.said call
+    → Reaches rules room w (call_at rules w p call on_disk).world
+call_sound laws rules room w p call on_disk range sound is_call worldly =
     if_player (λ (a : After). Reaches rules room w a.world) (is_player rules p) _ _
-    (λ is. mode_sound laws rules room w p call luck (peer_of w p).mode range sound (plays_if rules p is) refl is_call worldly)
+    (λ is. mode_sound laws rules room w p call on_disk (peer_of w p).mode range sound (plays_if rules p is) refl is_call worldly)
     (stays_as rules room w sound)
 
 -- ---- what a read finds
@@ -534,11 +534,11 @@ mode_opens laws rules room w p h Away range few sound plays may = open_sound law
 
 -- ---- any event
 
-given_sound : (laws : ArePeersLawful) (rules : Rules) (room : ℕ) (w : World) (p number : ℕ) (luck : Luck) (o : Option Packet) → AreInRange rules → IsSound rules room w → slice_get w.said number ≡ o → Reaches rules room w (give_to rules w p luck o).world
-given_sound laws rules room w p number luck None range sound e = stays_as rules room w sound
-given_sound laws rules room w p number luck (Some packet) range sound e =
+given_sound : (laws : ArePeersLawful) (rules : Rules) (room : ℕ) (w : World) (p number : ℕ) (on_disk : DiskOutcome) (o : Option Packet) → AreInRange rules → IsSound rules room w → slice_get w.said number ≡ o → Reaches rules room w (give_to rules w p on_disk o).world
+given_sound laws rules room w p number on_disk None range sound e = stays_as rules room w sound
+given_sound laws rules room w p number on_disk (Some packet) range sound e =
     let is_said = sound.said packet (number, e) in
-    call_sound laws rules room w p (states.Deliver (Ok packet)) luck range sound is_said.spelled ((number, e), is_said)
+    call_sound laws rules room w p (states.Deliver (Ok packet)) on_disk range sound is_said.spelled ((number, e), is_said)
 
 -- ---- watchers
 
@@ -622,13 +622,13 @@ pub acted_sound : (laws : ArePeersLawful) (rules : Rules) (room : ℕ) (w : Worl
 unfolding acted
 acted_sound laws rules room w (Open p) h range few sound may =
     if_player (λ (a : After). Reaches rules room w a.world) (is_player rules p) _ _ (λ is. mode_opens laws rules room w p h (peer_of w p).mode range few sound (plays_if rules p is) (may is)) (stays_as rules room w sound)
-acted_sound laws rules room w (Tick p keys) h range few sound may = call_sound laws rules room w p (states.Tick keys) h.luck range sound may tt
-acted_sound laws rules room w (Say p to what) h range few sound may = call_sound laws rules room w p (states.Say to what) h.luck range sound tt tt
-acted_sound laws rules room w (Give number p) h range few sound may = given_sound laws rules room w p number h.luck (slice_get w.said number) range sound refl
-acted_sound laws rules room w (Leave leaver) h range few sound may = call_sound laws rules room w 1 (states.Leave leaver) h.luck range sound tt tt
-acted_sound laws rules room w (Decide leaver) h range few sound may = call_sound laws rules room w 1 (states.Decide leaver) h.luck range sound tt tt
-acted_sound laws rules room w (Check p) h range few sound may = call_sound laws rules room w p states.Checkpoint h.luck range sound tt tt
-acted_sound laws rules room w (Show watcher) h range few sound may = call_sound laws rules room w 1 (states.Show watcher) h.luck range sound may tt
+acted_sound laws rules room w (Tick p keys) h range few sound may = call_sound laws rules room w p (states.Tick keys) h.on_disk range sound may tt
+acted_sound laws rules room w (Say p to what) h range few sound may = call_sound laws rules room w p (states.Say to what) h.on_disk range sound tt tt
+acted_sound laws rules room w (Give number p) h range few sound may = given_sound laws rules room w p number h.on_disk (slice_get w.said number) range sound refl
+acted_sound laws rules room w (Leave leaver) h range few sound may = call_sound laws rules room w 1 (states.Leave leaver) h.on_disk range sound tt tt
+acted_sound laws rules room w (Decide leaver) h range few sound may = call_sound laws rules room w 1 (states.Decide leaver) h.on_disk range sound tt tt
+acted_sound laws rules room w (Check p) h range few sound may = call_sound laws rules room w p states.Checkpoint h.on_disk range sound tt tt
+acted_sound laws rules room w (Show watcher) h range few sound may = call_sound laws rules room w 1 (states.Show watcher) h.on_disk range sound may tt
 acted_sound laws rules room w (Hear number watcher) h range few sound may = heard_sound rules room w watcher number (slice_get w.said number) sound refl
 acted_sound laws rules room w (Seen watcher) h range few sound may = told_sound rules room w (seen_by_watcher rules room w watcher) range sound (seen_said rules room w watcher range few sound may)
 acted_sound laws rules room w (Fresh watcher) h range few sound may = watched_sound rules room w watcher [] sound (record { rest = confirmed_rows (known_by rules w 1); is = refl })

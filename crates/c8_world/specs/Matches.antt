@@ -20,7 +20,7 @@ use Rattle.c8_refusals.specs.declared.error.Refused.TheVariants.{Hand, Known}
 use Rattle.c8_peer.specs.declared.heard.Heard.{Heard}
 use Rattle.c8_peer.specs.declared.heard.Heard.TheVariants.{Nothing, Kept, Out}
 use Rattle.c8_peer.specs.State.{Saying, Hello, Welcome, Data, Freeze, Frozen, Cut, Opened, Ticked, Delivered, Said, Left, Decided}
-use Rattle.c8_peer.specs.Steps.{Luck, Works, Refuses}
+use Rattle.c8_peer.specs.Steps.{DiskOutcome, Works, Refuses}
 use Rattle.c8_peer.specs.Opening.{Stands}
 use Rattle.c8_world.specs.World.{World, never_opened, start, journal_of, known_by, with_peer, Open, Tick, Say, Give, Leave, Decide, Event, Do, Stop, Happening, Answer, Told, Stopped, CanHappen, Chain}
 use Rattle.c8_world.specs.Agreement.{AgreeUpTo, refused_for, not_opened_for}
@@ -47,7 +47,7 @@ Leads rules w lines v = Chain rules 0 w (events_of lines) (answers_of lines) v
 
 -- the disk does not fail
 abbrev pub works : Happening
-works = record { finds = false; opening = Stands; luck = Works; leaves = false }
+works = record { finds = false; opening = Stands; on_disk = Works; leaves = false }
 
 abbrev pub done : Event → Answer → Line
 done event answer = record { event = event; happening = works; answer = answer }
@@ -203,10 +203,10 @@ pub record GoesInTurn : Type 0 where
 -- ---- a stop inside a tick
 
 -- Player 1 stops inside a tick: the disk took the record or did not, and the crash left what was pending or did not.
-abbrev pub stops : ℕ → ℕ → Luck → Bool → Line
-stops calls pick luck leaves = record {
+abbrev pub stops : ℕ → ℕ → DiskOutcome → Bool → Line
+stops calls pick on_disk leaves = record {
   event = Stop (Tick 1 0x0020) calls pick;
-  happening = record { finds = false; opening = Stands; luck = luck; leaves = leaves };
+  happening = record { finds = false; opening = Stands; on_disk = on_disk; leaves = leaves };
   answer = Stopped;
 }
 

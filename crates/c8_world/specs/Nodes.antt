@@ -13,7 +13,7 @@ use Rattle.c8_refusals.specs.declared.error.Unsayable.{Unsayable}
 use Rattle.c8_peer.specs.State.{Open, Away, State, Call, Reply, Opened, Ticked, Delivered, Said, Left, Decided, Checked}
 use Rattle.c8_peer.specs.Steps.{Works, step}
 use Rattle.c8_peer.specs.Opening.{Opening, found, opened, MayBecome}
-use Rattle.c8_peer.specs.Peer.{PeerValue, Keeps, luck_of}
+use Rattle.c8_peer.specs.Peer.{PeerValue, Keeps, disk_outcome_of}
 use Rattle.c8_world.specs.declared.answer.Answer.{Answer}
 use Rattle.c8_world.specs.declared.answer.Answer.TheVariants as answers
 use Rattle.c8_world.specs.declared.answer.Counts.{Counts}
@@ -41,7 +41,7 @@ IsNode rules room p (nodes.Away disk) s = (s.mode ≡ Away) × Tells s disk
 abbrev pub IsCalled : Rules → ℕ → ℕ → State → Call → Option Reply → Node → Type 0
 IsCalled rules room p s call None node = (s.mode ≢ Open) × IsNode rules room p node s
 IsCalled rules room p s call (Some reply) node =
-    (s.mode ≡ Open) × ((step rules p s call (luck_of reply)).reply ≡ reply) × IsNode rules room p node (step rules p s call (luck_of reply)).state
+    (s.mode ≡ Open) × ((step rules p s call (disk_outcome_of reply)).reply ≡ reply) × IsNode rules room p node (step rules p s call (disk_outcome_of reply)).state
 
 abbrev pub counts_of : Rules → ℕ → State → Counts
 counts_of rules p s = record { now = ticks s.journal; confirmed = confirmed (known_of rules p s.journal) }

@@ -17,7 +17,7 @@ use Rattle.c8_spectator.specs.declared.error.NotTaken.{NotTaken}
 use Rattle.c8_spectator.specs.declared.taken.Taken.{Taken}
 use Rattle.c8_spectator.specs.Watching.{WatchValue, Watched as HeardWatch, hear, seen}
 use Rattle.c8_peer.specs.State.{none_seen, Mode, Down, Away, State, Saying, Call, Reply, Opened, Ticked, Delivered, Said, Left, Decided, Checked}
-use Rattle.c8_peer.specs.Steps.{Luck, Stepped, step}
+use Rattle.c8_peer.specs.Steps.{DiskOutcome, Stepped, step}
 use Rattle.c8_peer.specs.Opening.{Opening, found, opened, away, MayBecome}
 
 -- ---- the world
@@ -125,7 +125,7 @@ player_of (Fresh watcher) = watcher
 pub record Happening : Type 0 where
   pub finds : Bool
   pub opening : Opening
-  pub luck : Luck
+  pub on_disk : DiskOutcome
   pub leaves : Bool
 
 -- the answer: the peer's reply; or that it is open already, that it is not open, that there is no such datagram, or
@@ -160,14 +160,14 @@ said_by (Checked result) = []
 abbrev pub stepped : World → ℕ → Stepped → After
 stepped w p t = record { answer = Told t.reply; world = record w { peers = slice_set w.peers (p - 1) t.state; said = w.said ++ said_by t.reply } }
 
-abbrev pub call_at_mode : Rules → World → ℕ → Call → Luck → Mode → After
-call_at_mode rules w p call luck calls.Open = stepped w p (step rules p (peer_of w p) call luck)
-call_at_mode rules w p call luck Down = record { answer = IsDown; world = w }
-call_at_mode rules w p call luck Away = record { answer = IsDown; world = w }
+abbrev pub call_at_mode : Rules → World → ℕ → Call → DiskOutcome → Mode → After
+call_at_mode rules w p call on_disk calls.Open = stepped w p (step rules p (peer_of w p) call on_disk)
+call_at_mode rules w p call on_disk Down = record { answer = IsDown; world = w }
+call_at_mode rules w p call on_disk Away = record { answer = IsDown; world = w }
 
 -- a call at a player's peer; a player who is not in the game counts as away
-abbrev pub call_at : Rules → World → ℕ → Call → Luck → After
-call_at rules w p call luck = if is_player rules p then call_at_mode rules w p call luck (peer_of w p).mode else record { answer = IsDown; world = w }
+abbrev pub call_at : Rules → World → ℕ → Call → DiskOutcome → After
+call_at rules w p call on_disk = if is_player rules p then call_at_mode rules w p call on_disk (peer_of w p).mode else record { answer = IsDown; world = w }
 
 abbrev pub open_at_mode : Rules → ℕ → World → ℕ → Happening → Mode → After
 open_at_mode rules room w p h calls.Open = record { answer = IsUp; world = w }
@@ -178,9 +178,9 @@ abbrev pub open_at : Rules → ℕ → World → ℕ → Happening → After
 open_at rules room w p h =
     if is_player rules p then open_at_mode rules room w p h (peer_of w p).mode else record { answer = Told (Opened (Err opens.WrongPlayer)); world = w }
 
-abbrev pub give_to : Rules → World → ℕ → Luck → Option Packet → After
-give_to rules w p luck None = record { answer = NoSuch; world = w }
-give_to rules w p luck (Some packet) = call_at rules w p (calls.Deliver (Ok packet)) luck
+abbrev pub give_to : Rules → World → ℕ → DiskOutcome → Option Packet → After
+give_to rules w p on_disk None = record { answer = NoSuch; world = w }
+give_to rules w p on_disk (Some packet) = call_at rules w p (calls.Deliver (Ok packet)) on_disk
 
 abbrev pub heard_by : World → ℕ → HeardWatch → After
 heard_by w watcher heard = record { answer = Watched heard.answer; world = with_rows w watcher heard.watch.rows }
@@ -195,13 +195,13 @@ seen_by_watcher rules room w watcher = seen (watch_of rules room w watcher)
 
 unfoldable pub acted : Rules → ℕ → World → Act → Happening → After
 acted rules room w (Open p) h = open_at rules room w p h
-acted rules room w (Tick p keys) h = call_at rules w p (calls.Tick keys) h.luck
-acted rules room w (Say p to what) h = call_at rules w p (calls.Say to what) h.luck
-acted rules room w (Give number p) h = give_to rules w p h.luck (slice_get w.said number)
-acted rules room w (Leave leaver) h = call_at rules w 1 (calls.Leave leaver) h.luck
-acted rules room w (Decide leaver) h = call_at rules w 1 (calls.Decide leaver) h.luck
-acted rules room w (Check p) h = call_at rules w p calls.Checkpoint h.luck
-acted rules room w (Show watcher) h = call_at rules w 1 (calls.Show watcher) h.luck
+acted rules room w (Tick p keys) h = call_at rules w p (calls.Tick keys) h.on_disk
+acted rules room w (Say p to what) h = call_at rules w p (calls.Say to what) h.on_disk
+acted rules room w (Give number p) h = give_to rules w p h.on_disk (slice_get w.said number)
+acted rules room w (Leave leaver) h = call_at rules w 1 (calls.Leave leaver) h.on_disk
+acted rules room w (Decide leaver) h = call_at rules w 1 (calls.Decide leaver) h.on_disk
+acted rules room w (Check p) h = call_at rules w p calls.Checkpoint h.on_disk
+acted rules room w (Show watcher) h = call_at rules w 1 (calls.Show watcher) h.on_disk
 acted rules room w (Hear number watcher) h = hear_at rules room w watcher (slice_get w.said number)
 acted rules room w (Seen watcher) h = record { answer = Spoken (seen_by_watcher rules room w watcher); world = record w { said = w.said ++ seen_by_watcher rules room w watcher ∷ [] } }
 acted rules room w (Fresh watcher) h = record { answer = Anew; world = with_rows w watcher [] }

@@ -54,87 +54,27 @@ struct Plan {
 }
 
 /// Plays with the smallest window, without delay and with the longest, and one long play.
+#[rattlefmt::skip]
 const SMALLEST: [Plan; 3] = [
-    Plan {
-        window: 1,
-        delay: 0,
-        seed: 1,
-        ahead: 1,
-        calls: 150,
-        every: 1,
-    },
-    Plan {
-        window: 1,
-        delay: 4,
-        seed: 1,
-        ahead: 1,
-        calls: 150,
-        every: 1,
-    },
-    Plan {
-        window: 1,
-        delay: 0,
-        seed: 1,
-        ahead: 1,
-        calls: 1200,
-        every: 60,
-    },
+    Plan { window: 1, delay: 0, seed: 1, ahead: 1, calls: 150, every: 1 },
+    Plan { window: 1, delay: 4, seed: 1, ahead: 1, calls: 150, every: 1 },
+    Plan { window: 1, delay: 0, seed: 1, ahead: 1, calls: 1200, every: 60 },
 ];
 
 /// The same with the greatest window.
+#[rattlefmt::skip]
 const GREATEST: [Plan; 3] = [
-    Plan {
-        window: 12,
-        delay: 0,
-        seed: 12,
-        ahead: 12,
-        calls: 150,
-        every: 1,
-    },
-    Plan {
-        window: 12,
-        delay: 4,
-        seed: 12,
-        ahead: 12,
-        calls: 150,
-        every: 1,
-    },
-    Plan {
-        window: 12,
-        delay: 0,
-        seed: 12,
-        ahead: 12,
-        calls: 1200,
-        every: 60,
-    },
+    Plan { window: 12, delay: 0, seed: 12, ahead: 12, calls: 150, every: 1 },
+    Plan { window: 12, delay: 4, seed: 12, ahead: 12, calls: 150, every: 1 },
+    Plan { window: 12, delay: 0, seed: 12, ahead: 12, calls: 1200, every: 60 },
 ];
 
 /// Plays that go further ahead than the window.
+#[rattlefmt::skip]
 const FAR: [Plan; 3] = [
-    Plan {
-        window: 1,
-        delay: 0,
-        seed: 7,
-        ahead: 13,
-        calls: 100,
-        every: 1,
-    },
-    Plan {
-        window: 4,
-        delay: 0,
-        seed: 7,
-        ahead: 16,
-        calls: 100,
-        every: 1,
-    },
-    Plan {
-        window: 12,
-        delay: 4,
-        seed: 7,
-        ahead: 24,
-        calls: 100,
-        every: 1,
-    },
+    Plan { window: 1, delay: 0, seed: 7, ahead: 13, calls: 100, every: 1 },
+    Plan { window: 4, delay: 0, seed: 7, ahead: 16, calls: 100, every: 1 },
+    Plan { window: 12, delay: 4, seed: 7, ahead: 24, calls: 100, every: 1 },
 ];
 
 /// How many calls there were of each kind.

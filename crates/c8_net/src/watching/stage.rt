@@ -146,7 +146,7 @@ fn look_on<R: Clock + Wait>(
         if pace.is_game_over() {
             break;
         }
-        let _frames = onlooker.look(enough);
+        pace.see(onlooker.look(enough));
         thread::sleep(rt, Duration::from_millis(VIEWER_PAUSE));
     }
 }

@@ -16,7 +16,7 @@ use Rattle.c8_peer.specs.declared.verdict.Verdict.TheVariants as verdicts
 use Rattle.c8_peer.specs.State.{Memory, Delivered, Outcome, answered, recorded}
 use Rattle.c8_peer.specs.Hearing.{refused, taken}
 use Rattle.c8_peer.specs.Steps.{Works}
-use Rattle.c8_peer.specs.Peer.{luck_of_refusal}
+use Rattle.c8_peer.specs.Peer.{disk_outcome_of_refusal}
 use Rattle.c8_peer.specs.checked.Held.{is_play, is_entry}
 
 -- the memory after a message that nothing refused
@@ -60,4 +60,4 @@ IsLater (verdicts.Keep lent what) = (is_play (value_of lent) ≡ true) × (is_en
 -- The result of judging a delivery: the verdict, or a refusal that does not blame the disk.
 abbrev pub Judges : Outcome → Memory → Memory → Result Verdict Refused → Type 0
 Judges outcome m noted (Ok verdict) = (outcome ≡ by_verdict verdict m noted) × IsLater verdict
-Judges outcome m noted (Err error) = (outcome ≡ refused m error) × (luck_of_refusal error ≡ Works)
+Judges outcome m noted (Err error) = (outcome ≡ refused m error) × (disk_outcome_of_refusal error ≡ Works)

@@ -24,10 +24,7 @@ impl<'g, D: Disk> Peer<'g, D> {
         if self.is_down() {
             return Err(TickError::Down);
         }
-        match judge_tick(self.game, &self.known) {
-            Ok(()) => {}
-            Err(error) => return Err(error),
-        }
+        judge_tick(self.game, &self.known)?;
         let player = self.known.me();
         let start = self.known.count(player);
         let own = Record::Own {
@@ -50,10 +47,7 @@ impl<'g, D: Disk> Peer<'g, D> {
         if self.is_down() {
             return Err(LeaveError::Down);
         }
-        match judge_leave(&self.known, leaver) {
-            Ok(()) => {}
-            Err(error) => return Err(error),
-        }
+        judge_leave(&self.known, leaver)?;
         match self.keep(&Record::Leave { player: leaver }) {
             Ok(()) => Ok(()),
             Err(error) => Err(LeaveError::Disk(error)),
@@ -69,10 +63,7 @@ impl<'g, D: Disk> Peer<'g, D> {
         if self.is_down() {
             return Err(DecideError::Down);
         }
-        let length = match judge_decide(&self.known, &self.memory, leaver) {
-            Ok(length) => length,
-            Err(error) => return Err(error),
-        };
+        let length = judge_decide(&self.known, &self.memory, leaver)?;
         match self.keep(&end_at(leaver, length)) {
             Ok(()) => Ok(length),
             Err(error) => Err(DecideError::Disk(error)),

@@ -44,10 +44,7 @@ impl<'g, D: Disk> Peer<'g, D> {
         if self.known.leaving(self.known.me()) {
             return Err(CheckError::Dropped);
         }
-        match cut(&mut self.checks, &self.known, &self.roll) {
-            Ok(()) => {}
-            Err(error) => return Err(error),
-        }
+        cut(&mut self.checks, &self.known, &self.roll)?;
         let said = next_said(&self.checks);
         let body = next_body(&self.checks, self.known.me());
         match self.journal.append(&body) {

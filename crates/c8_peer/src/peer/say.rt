@@ -35,10 +35,7 @@ impl<'g, D: Disk> Peer<'g, D> {
         if self.is_down() {
             return Err(Unsayable::Down);
         }
-        match judge_saying(&self.known, &self.memory, to, kind) {
-            Ok(()) => {}
-            Err(error) => return Err(error),
-        }
+        judge_saying(&self.known, &self.memory, to, kind)?;
         let body = message(
             &self.known,
             &self.memory,

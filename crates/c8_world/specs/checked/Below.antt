@@ -8,7 +8,7 @@ use Rattle.c8_round.specs.Round.{ChairValue, report_of, with_report, is_ready, H
 use Rattle.c8_record.specs.Allowed.{IsAllowed, IsJournal}
 use Rattle.c8_peer.specs.State.{Memory, State, Call, Said, fresh_memory}
 use Rattle.c8_peer.specs.State.{Open as Up}
-use Rattle.c8_peer.specs.Steps.{Luck, outcome, step}
+use Rattle.c8_peer.specs.Steps.{DiskOutcome, outcome, step}
 use Rattle.c8_peer.specs.Opening.{Opening, opened, last_epoch, opening_record}
 use Rattle.c8_peer.specs.Replies.{mode_told}
 use Rattle.c8_peer.specs.Truth.{IsTrue, CarriesMark}
@@ -46,5 +46,5 @@ pub record ArePeersLawful : Type 0 where
   pub said_spelled : (rules : Rules) (me room : ℕ) (journal : List Record) (m : Memory) (call : Call) (p : Packet) → AreInRange rules → 1 ≤ me → me ≤ rules.players
       → IsJournal rules me room journal → IsMemory rules room me journal m → IsCall call
       → (outcome rules (told_of rules me journal) (known_of rules me journal) m call).reply ≡ Said (Ok p) → IsPacket p
-  pub calls_tell : (rules : Rules) (me : ℕ) (s : State) (call : Call) (luck : Luck) → s.mode ≡ Up → (step rules me s call luck).state.mode ≡ mode_told (step rules me s call luck).reply
+  pub calls_tell : (rules : Rules) (me : ℕ) (s : State) (call : Call) (on_disk : DiskOutcome) → s.mode ≡ Up → (step rules me s call on_disk).state.mode ≡ mode_told (step rules me s call on_disk).reply
   pub openings_tell : (rules : Rules) (room me : ℕ) (s : State) (found : List Record) (opening : Opening) → (opened rules room me s found opening).state.mode ≡ mode_told (opened rules room me s found opening).reply

@@ -15,6 +15,6 @@ returns c = λ m.
     let plays = is_player_of k (cut_of c.args.cut.now).leaver
     (omega (arith, leaver, c.leaver-leaver.ensures.from_two))
     (omega (arith, leaver, c.if-leaver-players.false, c.players.ensures.value)) in
-    let goes_on = cut_goes_on k m c.args.q.number (cut_of c.args.cut.now) c.if-q-ne1.false
+    let goes_on = cut_goes_on k m c.args.sender.number (cut_of c.args.cut.now) c.if-sender-ne1.false
     (λ same. c.if-leaver-me.false (leaver ∙ same ∙ sym c.me.ensures.value)) plays frozen in
     subst (λ (o : Outcome). Judges o m m c.judge_end.result) (sym goes_on) (rw leaver at (c.judge_end.ensures m))

@@ -1,4 +1,4 @@
-use Rattle.std.specs.Prelude.{◌≡◌}
+use Rattle.std.specs.Prelude.{◌≡◌, length}
 use Rattle.c8_spectator.specs.Growth.{IsStillWatched}
 use Rattle.c8_watch.specs.Published.{IsShown}
 use Rattle.c8_watch.specs.Turns.{AreTurns}
@@ -10,4 +10,5 @@ invariant-loop-turn g l = record {
   turns : AreTurns g.W.Wire l.turn l.initial.spectator l.spectator l.initial.wire l.wire;
   still : IsStillWatched l.initial.spectator l.spectator;
   shown : IsShown l.spectator l.fn.pen l.pen;
+  published : l.published ≡ length l.pen.rows;
 }

@@ -1,6 +1,6 @@
 use Rattle.std.proofs.Common.{ℕ, Result, ap}
 use Rattle.c8_refusals.specs.declared.error.DecideError.{DecideError}
-use Rattle.c8_peer.specs.Peer.{luck_of}
+use Rattle.c8_peer.specs.Peer.{disk_outcome_of}
 use Rattle.c8_peer.specs.State.{Decide, Decided}
 use Rattle.c8_live.proofs.session.Session.peer_cuts.Goals as goal
 
@@ -18,5 +18,5 @@ returns-clause-stopped g c why is =
       call = Decide c.args.leaver.number;
       reply = Decided c.decide-answer.result;
       answered = c.decide-answer.ensures;
-      refused = ap (λ (r : Result ℕ DecideError). luck_of (Decided r)) is;
+      refused = ap (λ (r : Result ℕ DecideError). disk_outcome_of (Decided r)) is;
     }

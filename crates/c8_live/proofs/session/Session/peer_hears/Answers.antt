@@ -2,7 +2,7 @@ use Rattle.std.proofs.Common.{Result, Ok, ap}
 use Rattle.c8_wire.specs.Lent.{packet_of}
 use Rattle.c8_refusals.specs.declared.error.Refused.{Refused}
 use Rattle.c8_peer.specs.declared.heard.Heard.{Heard}
-use Rattle.c8_peer.specs.Peer.{luck_of}
+use Rattle.c8_peer.specs.Peer.{disk_outcome_of}
 use Rattle.c8_peer.specs.State.{Deliver, Delivered}
 use Rattle.c8_live.proofs.session.Session.peer_hears.Goals as goal
 
@@ -20,5 +20,5 @@ returns-clause-stopped g c why is =
       call = Deliver (Ok (packet_of c.args.datagram.now));
       reply = Delivered c.deliver_datagram-answer.result;
       answered = c.deliver_datagram-answer.ensures;
-      refused = ap (λ (r : Result Heard Refused). luck_of (Delivered r)) is;
+      refused = ap (λ (r : Result Heard Refused). disk_outcome_of (Delivered r)) is;
     }

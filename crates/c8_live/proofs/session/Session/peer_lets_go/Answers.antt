@@ -1,6 +1,6 @@
 use Rattle.std.proofs.Common.{Result, ap}
 use Rattle.c8_refusals.specs.declared.error.LeaveError.{LeaveError}
-use Rattle.c8_peer.specs.Peer.{luck_of}
+use Rattle.c8_peer.specs.Peer.{disk_outcome_of}
 use Rattle.c8_peer.specs.State.{Leave, Left}
 use Rattle.c8_live.proofs.session.Session.peer_lets_go.Goals as goal
 
@@ -18,5 +18,5 @@ returns-clause-stopped g c why is =
       call = Leave c.args.leaver.number;
       reply = Left c.leave.result;
       answered = c.leave.ensures;
-      refused = ap (λ (r : Result (Unit {0}) LeaveError). luck_of (Left r)) is;
+      refused = ap (λ (r : Result (Unit {0}) LeaveError). disk_outcome_of (Left r)) is;
     }

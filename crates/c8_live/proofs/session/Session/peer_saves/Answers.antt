@@ -1,7 +1,7 @@
 use Rattle.std.proofs.Common.{Result, ap, arith}
 use Rattle.c8_peer.specs.declared.check.Check.{Check}
 use Rattle.c8_refusals.specs.declared.error.CheckError.{CheckError}
-use Rattle.c8_peer.specs.Peer.{luck_of}
+use Rattle.c8_peer.specs.Peer.{disk_outcome_of}
 use Rattle.c8_peer.specs.State.{Checkpoint, Checked}
 use Rattle.c8_live.proofs.session.Session.peer_saves.Goals as goal
 
@@ -20,5 +20,5 @@ returns-clause-stopped g c why is =
       call = Checkpoint;
       reply = Checked c.checkpoint.result;
       answered = c.checkpoint.ensures;
-      refused = ap (λ (r : Result Check CheckError). luck_of (Checked r)) is;
+      refused = ap (λ (r : Result Check CheckError). disk_outcome_of (Checked r)) is;
     }

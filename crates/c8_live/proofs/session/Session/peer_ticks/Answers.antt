@@ -1,6 +1,6 @@
 use Rattle.std.proofs.Common.{Result, ap, arith}
 use Rattle.c8_refusals.specs.declared.error.TickError.{TickError}
-use Rattle.c8_peer.specs.Peer.{luck_of}
+use Rattle.c8_peer.specs.Peer.{disk_outcome_of}
 use Rattle.c8_peer.specs.State.{Tick, Ticked}
 use Rattle.c8_live.proofs.session.Session.peer_ticks.Goals as goal
 
@@ -19,7 +19,7 @@ returns-clause-stopped g c why is =
       call = Tick c.args.keys.0;
       reply = Ticked c.tick.result;
       answered = c.tick.ensures;
-      refused = ap (λ (r : Result (Unit {0}) TickError). luck_of (Ticked r)) is;
+      refused = ap (λ (r : Result (Unit {0}) TickError). disk_outcome_of (Ticked r)) is;
     }
 
 pub returns-clause-entered : goal.returns-clause-entered

@@ -8,7 +8,7 @@ use Rattle.c8_peer.proofs.peer.Peer.decide.Goals as goal
 pub keep-requires-clause-allowed : goal.keep-requires-clause-allowed
 keep-requires-clause-allowed g c =
     let is = c.end_at.ensures in
-    let r : Record = records.Cut c.args.leaver.number c.in-Ok.length c.in-Ok.length [] in
+    let r : Record = records.Cut c.args.leaver.number c.in_ok-length.length c.in_ok-length.length [] in
     rw is (allowed_outside r c.self.view_is
-    (may_record c.self.inside.game.now c.self.inside.room c.self.inside.journal c.self.inside.known c.self.inside.memory c.self.invariant.0 (Decide c.args.leaver.number) tt c.self.inside.memory (Decided (Ok c.in-Ok.length)) r
-    c.in-Ok.ensures.judged))
+    (may_record c.self.inside.game.now c.self.inside.room c.self.inside.journal c.self.inside.known c.self.inside.memory c.self.invariant.0 (Decide c.args.leaver.number) tt c.self.inside.memory (Decided (Ok c.in_ok-length.length)) r
+    c.in_ok-length.ensures.judged))

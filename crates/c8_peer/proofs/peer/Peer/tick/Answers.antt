@@ -7,7 +7,7 @@ use Rattle.c8_peer.proofs.peer.Peer.tick.Goals as goal
 pub keep-requires-clause-allowed : goal.keep-requires-clause-allowed
 keep-requires-clause-allowed g c =
     let r : Record = Own c.me-player.result.number c.count-start.result c.args.keys.0 in
-    let comes = c.in-Ok.ensures.judged c.self.inside.memory c.args.keys.0 in
+    let comes = c.in_ok-judge_tick.ensures.judged c.self.inside.memory c.args.keys.0 in
     let count = rw c.me-player.ensures.value at c.count-start.ensures.value in
     let fits : c.args.keys.0 < 2 ^ 16 = omega arith in
     allowed_outside r c.self.view_is

@@ -1,4 +1,5 @@
 use Rattle.std.proofs.Common.{ℕ, List, [], ◌∷◌, ◌++◌, ◌+◌, ◌≡◌, sym, ap, ◌∙◌, arith}
+use Rattle.c8_machine.specs.State.{state}
 use Rattle.c8_digest.specs.declared.marks.FrameMark.{FrameMark}
 use Rattle.c8_digest.specs.StateBytes.{mark_of}
 use Rattle.c8_digest.specs.Marks.{kept}
@@ -39,8 +40,8 @@ loop-frame-preserved c =
           let base : state_at c.confirm.new.self 0 ≡ run_since rules from (rows_below k (frame + 1)) = base_is rules from k c.confirm.new.self (frame + 1) (run from ran) (c.confirm.ensures.rules ∙ inv.rules) (c.confirm.ensures.first ∙ ap (λ (n : ℕ). n + 1) inv.first) sure in
           elim c.if-frame-eq0.branch [
             | then-frame-eq0 w ↦
-                w.marks-is ∙ w.put.ensures ∙ ap (λ (marks : List FrameMark). kept (marks ++ record { frame = frame + 1; mark = w.mark.result } ∷ [])) before
-                ∙ ap (λ (mark : List ℕ). kept (marks_since rules from k frame ++ record { frame = frame + 1; mark = mark } ∷ [])) (w.mark.ensures ∙ ap mark_of (w.base.ensures ∙ base))
+                w.marks-is ∙ w.put_of.ensures ∙ ap (λ (marks : List FrameMark). kept (marks ++ record { frame = frame + 1; mark = mark_of (state w.base.result.now) } ∷ [])) before
+                ∙ ap (λ (mark : List ℕ). kept (marks_since rules from k frame ++ record { frame = frame + 1; mark = mark } ∷ [])) (ap mark_of (w.base.ensures ∙ base))
                 ∙ sym (next_mark c.marks_are_the_last_sixteen.ensures.last rules from k frame (omega (arith, starts, first)) w.if-frame-eq0.true)
             | else-frame-eq0 w ↦ w.marks-is ∙ before ∙ sym (no_mark rules from k frame w.if-frame-eq0.false)
           ];
