@@ -155,8 +155,8 @@ impl<B: Room> Book<B> {
         is_part(&self.notes, entry.player, &entry.notes)
     }
 
-    /// Picks one of the packets that were said, and returns its number and a copy. `None` if nothing was said, and so
-    /// nothing by the part's player.
+    /// Picks one of the packets that were said, and returns its number and a copy. `None` if nothing was said: then
+    /// the part's player has said nothing either.
     fn pick(&mut self, tokens: &Tokens, part: Part, choice: u64) -> (Part, Option<(u64, Packet)>)
         requires tokens { tokens.now ≡ B.ether }
         requires ether { part.ether ≡ B.ether }

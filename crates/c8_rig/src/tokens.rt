@@ -10,7 +10,7 @@ use atomic_table::{Seat, Table};
 use std::alloc::{AllocError, Global};
 use std::marker::{Brand, Model};
 
-/// The one word of a table. Its value means nothing: a step is a look at it.
+/// The one word of a table. Its value means nothing: each step of the rule is one load of it.
 const WORD: usize = 0;
 
 /// The table that the tokens of one ether belong to.

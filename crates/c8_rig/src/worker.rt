@@ -1,4 +1,4 @@
-//! A peer that plays by chance, with a note of all that it does.
+//! A peer that plays by chance, with a note of each call that says or changes something.
 ghost use Rattle.std.specs.Prelude.{◌≡◌, ◌≤◌, ◌<◌, ◌+◌, [], IfSome, IfErr, ℕ};
 ghost use Rattle.c8_log.specs.Slots.{kept};
 ghost use Rattle.c8_record.specs.Body.{records_of};

@@ -5,7 +5,7 @@ pub const RIG_ENDING: &str =
     "Tests peers under real threads, on this machine. Each player opens its peer on an empty disk in
 memory, and then makes turns, drawn by a generator of the seed and its number. In a turn it enters
 keys, says something, hears something that was said (once, late or again), or takes part in dropping
-a player. Nothing else is between the threads. They race, so two runs with one seed differ in what
+a player. They exchange nothing else. They race, so two runs with one seed differ in what
 happens when, but not in the verdict. Player 1 drops a player in one of 64 of its turns: in matches of
 about twenty turns mostly all stay, in matches of hundreds few. If memory runs out for a player's
 note, that player makes no more turns.

@@ -40,7 +40,7 @@ impl Counts {
         self.is_over.store(true, Ordering::SeqCst);
     }
 
-    /// Returns how many notes the log has.
+    /// Returns how many notes the players have reported, each after its last whole turn.
     fn all(&self) -> u64 {
         let mut all: u64 = 0;
         for notes in &self.notes {
@@ -49,7 +49,7 @@ impl Counts {
         all
     }
 
-    /// Writes once a second how many notes the log has, as `12345 notes`, until the match is over. The error is the
+    /// Writes once a second how many notes the players have reported, as `12345 notes`, until the match is over. The error is the
     /// writer's.
     pub(crate) fn tell<R: Clock + Wait, E: Write>(&self, rt: &R, out: &mut E) -> io::Result<()> {
         let mut due = soon(rt);

@@ -9,11 +9,12 @@ use std::sync::atomic::{AtomicU64, Ordering};
 use std::thread::Threads;
 use std::time::{Clock, Duration};
 
-/// A clock on which a second goes by between two looks.
+/// A clock on which this many seconds go by between two looks.
 #[derive(Drop)]
 struct Hasty<'r, R> {
     rt: &'r R,
-    looks: AtomicU64,
+    step: u64,
+    seconds: AtomicU64,
 }
 
 impl<'r, R: Wait> Wait for Hasty<'r, R> {}
@@ -30,7 +31,7 @@ impl<'r, R: AllocGlobal> Alloc for Hasty<'r, R> {
 
 impl<'r, R: Clock> Clock for Hasty<'r, R> {
     fn monotonic(&self) -> io::Result<Duration> {
-        Ok(Duration::from_secs(self.looks.fetch_add(1, Ordering::SeqCst)))
+        Ok(Duration::from_secs(self.seconds.fetch_add(self.step, Ordering::SeqCst)))
     }
 
     fn since_1970(&self) -> io::Result<Duration> {
@@ -45,17 +46,20 @@ impl<'r, R: Clock> Clock for Hasty<'r, R> {
 /// Many turns, so that the match is not over before the second look, after 5 milliseconds.
 const TURNS: u16 = 10_000;
 
-/// The most notes of a match of two: an opening and a note a turn.
+/// The most notes of a match of two: an opening and a note a turn; and how many are surely reported before it ends.
 const MOST: u64 = 20_002;
 
+const SOME: u64 = 100;
+
 /// What is written while a match is played.
-fn told<R>(rt: &R, progress: bool) -> Vec<u8>
+fn told<R>(rt: &R, progress: bool, step: u64) -> Vec<u8>
 where
     R: Clock + Threads + Wait + Sync + AllocGlobal,
 {
     let clock = Hasty {
         rt,
-        looks: AtomicU64::new(0),
+        step,
+        seconds: AtomicU64::new(0),
     };
     let (mut out, mut refused) = (Vec::new(rt.alloc()), Vec::new(rt.alloc()));
     let asked = Asked {
@@ -98,11 +102,12 @@ fn last_count(told: &[u8]) -> Option<u64> {
 
 #[test]
 fn the_notes_are_counted_while_the_log_grows(rt: HostRuntime) {
-    let last = last_count(&told(&rt, true)).unwrap_or(0);
-    assert!(rt; last > 0 && last <= MOST);
+    let last = last_count(&told(&rt, true, 1)).unwrap_or(0);
+    assert!(rt; last > SOME && last <= MOST);
 }
 
 #[test]
-fn nothing_is_counted_unasked(rt: HostRuntime) {
-    assert!(rt; told(&rt, false).is_empty());
+fn nothing_is_counted_unasked_or_within_a_second(rt: HostRuntime) {
+    assert!(rt; told(&rt, false, 1).is_empty());
+    assert!(rt; told(&rt, true, 0).is_empty());
 }

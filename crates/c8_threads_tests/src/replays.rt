@@ -91,10 +91,18 @@ fn is_read(alloc: Global, script: &[u8], log: &[Note]) -> bool {
     is_so
 }
 
+/// Whether a writer with room for four bytes refuses the script of a log.
+fn is_refused(log: &[Note]) -> bool {
+    let mut bytes = [0; 4];
+    let mut room = bytes.as_mut_slice();
+    write_script(&mut room, log).is_err()
+}
+
 /// Whether the script of a log has its acts, and leads to the end of these peers.
 fn is_replayed(alloc: Global, game: &str, log: &[Note], peers: &[Peer<'_, MemDisk>]) -> bool {
     let mut script = Vec::new(alloc);
-    write_script(&mut script, log).is_ok()
+    is_refused(log)
+        && write_script(&mut script, log).is_ok()
         && is_read(alloc, &script, log)
         && is_played(alloc, game, &script, peers)
 }
