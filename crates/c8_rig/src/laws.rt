@@ -41,8 +41,8 @@ pub fn moments_of_a_log_agree()
     any_two_moments_agree();
 }
 
-/// How a peer plays on with a note of each of its calls: no call (`still`), one call of each kind but a checkpoint, and
-/// one list after another (`joined`).
+/// How a peer plays on with a note of each of its calls: no call (`still`), one call of each kind but a checkpoint and a
+/// saying to a watcher, and one list after another (`joined`).
 pub fn peers_play_on<D: Disk>()
     ensures still { (e : EntryValue) (p : PeerValue D) → HasPlayed D.Disk e p e p }
     ensures ticks { (e : EntryValue) (old new : PeerValue D) (player keys : ℕ) (reply : Reply)

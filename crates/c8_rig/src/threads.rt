@@ -34,8 +34,8 @@ struct Played<'g> {
 
 /// Plays a match in room 0. Each player has a thread of its own and an empty disk, and all share one ether. Each makes
 /// `turns` turns, which a generator draws from the seed and the player's number, unless the gate ends it earlier or memory
-/// runs out for a note of it, which is no error. If the system starts no thread, the players play one after another. The
-/// error is that memory ran out elsewhere, or that an opening was refused.
+/// runs out for the note of a turn, which is no error. If the system starts no thread, the players play one after another.
+/// The error is that memory ran out for anything else, or that an opening was refused.
 pub fn rig<'g, R: Threads + Wait + Sync, G: Watch + Sync>(
     rt: &R,
     alloc: Global,

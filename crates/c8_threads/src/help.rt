@@ -7,8 +7,8 @@ memory, and then makes turns, drawn by a generator of the seed and its number. I
 keys, says something, hears something that was said (once, late or again), or takes part in dropping
 a player. They exchange nothing else. They race, so two runs with one seed differ in what
 happens when, but not in the verdict. Player 1 drops a player in one of 64 of its turns: in matches of
-about twenty turns mostly all stay, in matches of hundreds few. If memory runs out for a player's
-note, that player makes no more turns.
+about twenty turns mostly all stay, in matches of hundreds few. If memory runs out for the note
+of a turn, its player makes no more turns.
 
 Prints 'lawful yes' if the notes of each player are its part of one log, and then 'agree yes' if all
 players that were not dropped agree on the frames that they have confirmed. It is proved that neither
