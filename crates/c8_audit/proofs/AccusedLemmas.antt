@@ -1,17 +1,14 @@
 -- The verdicts on the journals of an honest match.
-use Rattle.std.proofs.Common.{◌≡◌, ◌≢◌, ℕ, ◌+◌, ◌-◌, ◌^◌, ◌<◌, ◌≤◌, ◌⊎◌, inl, inr, ⊎_elim, List, [], ◌∷◌, ◌++◌, length, Bool, true, false, Option, Some, None, refl, sym, ap, subst, ◌∙◌, arith}
+use Rattle.std.proofs.Common.{◌≡◌, ℕ, ◌^◌, ◌<◌, ◌≤◌, ◌⊎◌, inl, inr, List, [], Bool, true, false, Option, Some, None, refl, sym, ap, subst, ◌∙◌, arith}
 use Rattle.std.specs.Prelude.{option_map}
 use Rattle.std.specs.List.{slice_get}
 use Rattle.std.proofs.lemmas.Bool.{both_ways}
 use Rattle.c8_game.specs.Rules.{Rules, AreInRange}
-use Rattle.c8_game.specs.declared.row.Row.{Row}
-use Rattle.c8_digest.specs.Origin.{Origin}
 use Rattle.c8_roll.specs.Roll.{IsOnTheWay}
-use Rattle.c8_check.specs.Checks.{checks_of}
 use Rattle.c8_known.specs.Journal.{Record, held, has_leave, cut_of}
 use Rattle.c8_known.specs.Known.{PlayerValue, KnownValue, player_in, known_of, Plays}
 use Rattle.c8_known.specs.Confirmed.{input_of, confirmed, row, rows_below}
-use Rattle.c8_known.specs.Growth.{Begins, IsStillKnown, IsStillKnownOf}
+use Rattle.c8_known.specs.Growth.{Begins, IsStillKnown}
 use Rattle.c8_known.specs.checked.BeginsLaws.{begins_get}
 use Rattle.c8_known.specs.checked.ConfirmedLaws.{confirmed_is, confirmed_rises, some_value, input_stays, row_stays, map_same}
 use Rattle.c8_known.specs.checked.OneMore.{player_known}
@@ -23,8 +20,8 @@ use Rattle.c8_peer.specs.State.{State}
 use Rattle.c8_peer.specs.TrueChecks.{HasTrueLast}
 use Rattle.c8_world.specs.World.{World, peer_of, journal_of, known_by, IsReached}
 use Rattle.c8_world.specs.Agreement.{IsPlayer, AreSameUpTo}
-use Rattle.c8_audit.specs.Journals.{Readings, Evidence, Seen, AllSeen, seen_of, seen_in, IsGiven, dropped_by, is_dropped, cut_by, cut_in, Stays}
-use Rattle.c8_audit.specs.Honest.{WasReadTwice, IsHonest}
+use Rattle.c8_audit.specs.Journals.{Readings, Evidence, Seen, seen_of, seen_in, IsGiven, dropped_by, is_dropped, cut_by, cut_in}
+use Rattle.c8_audit.specs.Honest.{IsHonest}
 use Rattle.c8_audit.specs.Verdicts.{IsEntered, AreEntered, AreTrue, AreAgreed}
 use Rattle.c8_audit.specs.checked.Below.{AreWorldsLawful}
 use Rattle.c8_audit.proofs.AgreedLemmas.{same_up_to}

@@ -1,5 +1,5 @@
 -- Players who differ in no frame agree.
-use Rattle.std.proofs.Common.{◌≡◌, ◌≢◌, ℕ, ◌+◌, ◌<◌, ◌≤◌, ◌⊎◌, inl, inr, List, [], ◌∷◌, map, Option, Some, None, refl, sym, ap, subst, ◌∙◌, arith}
+use Rattle.std.proofs.Common.{◌≡◌, ◌≢◌, ℕ, ◌<◌, ◌≤◌, ◌⊎◌, inl, inr, List, [], ◌∷◌, Some, refl, sym, ap, ◌∙◌, arith}
 use Rattle.std.proofs.lemmas.Bool.{cases_lt, cases_eq}
 use Rattle.c8_game.specs.Rules.{Rules}
 use Rattle.c8_game.specs.declared.row.Keys.{Keys}
@@ -9,7 +9,7 @@ use Rattle.c8_known.specs.Known.{KnownValue}
 use Rattle.c8_known.specs.Confirmed.{confirmed, row, rows_below}
 use Rattle.c8_known.specs.checked.ConfirmedLaws.{map_same}
 use Rattle.c8_world.specs.Agreement.{AreSameUpTo}
-use Rattle.c8_audit.specs.Journals.{Seen, AllSeen, IsGiven, Stays}
+use Rattle.c8_audit.specs.Journals.{Seen, AllSeen, Stays}
 use Rattle.c8_audit.specs.Verdicts.{AreAgreed, IsDifference}
 
 pub same_up_to : (rules : Rules) (a b : KnownValue) (n : ℕ) → rows_below a n ≡ rows_below b n → AreSameUpTo rules a b n

@@ -4,7 +4,7 @@ use Rattle.std.proofs.lemmas.Bool.{cases_lt}
 use Rattle.c8_game.specs.Rules.{Rules}
 use Rattle.c8_known.specs.Confirmed.{confirmed}
 use Rattle.c8_audit.specs.Counts.{lesser_of, IsCountBelow, IsLesserBelow}
-use Rattle.c8_audit.specs.Journals.{Seen, AllSeen, IsGiven, AreOfGame, Stays}
+use Rattle.c8_audit.specs.Journals.{Seen, AllSeen, AreOfGame, Stays}
 use Rattle.c8_audit.specs.Search.{IsStayer}
 use Rattle.c8_audit.specs.Verdicts.{IsLeastCount}
 

@@ -1,5 +1,5 @@
 -- An input was entered, or it was not.
-use Rattle.std.proofs.Common.{◌≡◌, ◌≢◌, ℕ, ◌+◌, ◌<◌, ◌≤◌, ◌⊎◌, inl, inr, ⊎_elim, Option, Some, None, refl, sym, ap, subst, ◌∙◌, arith}
+use Rattle.std.proofs.Common.{◌≡◌, ◌≢◌, ℕ, ◌<◌, ◌≤◌, ◌⊎◌, inl, inr, ⊎_elim, Option, Some, None, refl, sym, ap, subst, ◌∙◌, arith}
 use Rattle.std.specs.List.{slice_get}
 use Rattle.std.proofs.lemmas.Bool.{cases_lt, cases_eq}
 use Rattle.c8_game.specs.Rules.{Rules}
@@ -7,8 +7,8 @@ use Rattle.c8_known.specs.Known.{KnownValue, player_in, Plays}
 use Rattle.c8_known.specs.Confirmed.{input_of, confirmed}
 use Rattle.c8_known.specs.checked.ConfirmedLaws.{confirmed_is, some_value}
 use Rattle.c8_audit.specs.Frames.{WasEntered}
-use Rattle.c8_audit.specs.Journals.{Seen, AllSeen, IsGiven, cut_in, AreOfGame}
-use Rattle.c8_audit.specs.Verdicts.{IsEntered, AreEntered, IsUnentered}
+use Rattle.c8_audit.specs.Journals.{AllSeen, cut_in, AreOfGame}
+use Rattle.c8_audit.specs.Verdicts.{AreEntered, IsUnentered}
 use Rattle.c8_audit.proofs.GivenLemmas.{plays_first}
 
 some_same : {X : Type 0} (x y : X) → Some x ≡ Some y → x ≡ y

@@ -17,7 +17,7 @@ use Rattle.c8_audit.proofs.AccusedLemmas.{of_reading_at}
 use Rattle.c8_audit.proofs.ReadingLemmas.{some_same}
 use Rattle.c8_audit.specs.Gathered.{with_file, seen_or, with_journal, IsGathered, AreGathered}
 use Rattle.c8_audit.specs.Images.{readings_of, names_player, if_of, only_in, or_else, evidence_in, IsReadTwice}
-use Rattle.c8_audit.specs.Journals.{Readings, Evidence, AllSeen, Seen, seen_of, seen_in, AreOfGame, IsGiven, dropped_by, Stays}
+use Rattle.c8_audit.specs.Journals.{Readings, Evidence, Seen, seen_of, IsGiven, dropped_by}
 use Rattle.c8_audit.specs.Read.{seen, seen_at, all_seen}
 use Rattle.c8_audit.specs.declared.journal.Journal.{Journal}
 

@@ -1,28 +1,25 @@
 -- An honest match is never accused: all its readings have a place in one world.
-use Rattle.std.proofs.Common.{◌≡◌, ◌≢◌, ℕ, zero, suc, ◌+◌, ◌-◌, ◌^◌, ◌<◌, ◌≤◌, ◌⊎◌, inl, inr, ⊎_elim, List, [], ◌∷◌, ◌++◌, length, Bool, true, false, Option, Some, None, refl, sym, ap, subst, ◌∙◌, arith, slice_index_or, slice_set}
-use Rattle.std.specs.Prelude.{nat_le, ◌&&◌, if◌then◌else◌, option_to_list, option_map}
+use Rattle.std.proofs.Common.{◌≡◌, ◌≢◌, ℕ, zero, suc, ◌-◌, ◌<◌, ◌≤◌, ◌⊎◌, inl, inr, List, [], ◌∷◌, ◌++◌, length, Bool, true, false, Option, Some, None, refl, sym, ap, subst, ◌∙◌, arith}
+use Rattle.std.specs.Prelude.{if◌then◌else◌, option_to_list}
 use Rattle.std.specs.List.{slice_get}
-use Rattle.std.proofs.lemmas.Bool.{cases_eq, cases_lt, both_ways}
+use Rattle.std.proofs.lemmas.Bool.{cases_eq, cases_lt}
 use Rattle.std.proofs.lemmas.Bool.Decides.{nat_tests}
 use Rattle.std.proofs.lemmas.List.{append-nil, length-set, length-replicate, get_or-set_same, get_or-set_other, get_or-replicate, get_or_past}
-use Rattle.c8_game.specs.Rules.{Rules, AreInRange}
-use Rattle.c8_known.specs.Journal.{Record, Head, Epoch, Own, Got, Freeze, Leave, Cut, State as StateRecord, Check, player_of}
+use Rattle.c8_game.specs.Rules.{Rules}
+use Rattle.c8_known.specs.Journal.{Record, Head, Epoch, Own, Got, Freeze, Leave, Cut, State as StateRecord, Check}
 use Rattle.c8_known.specs.Known.{KnownValue, known_of, with_record, NamesPlayer}
-use Rattle.c8_known.specs.Growth.{Begins, IsStillKnown}
-use Rattle.c8_known.specs.checked.BeginsLaws.{begins_same, begins_more, begins_append}
+use Rattle.c8_known.specs.Growth.{Begins}
+use Rattle.c8_known.specs.checked.BeginsLaws.{begins_same, begins_more}
 use Rattle.c8_known.specs.checked.OneMore.{one_more}
-use Rattle.c8_record.specs.Allowed.{IsJournal, IsOpening}
-use Rattle.c8_record.specs.checked.JournalLaws.{journal_grows}
-use Rattle.c8_peer.specs.State as states
+use Rattle.c8_record.specs.Allowed.{IsOpening}
 use Rattle.c8_peer.specs.State.{State}
 use Rattle.c8_peer.specs.Steps.{Works}
 use Rattle.c8_peer.specs.Opening.{NoMemory, found, away}
-use Rattle.c8_peer.specs.TrueChecks.{HasTrueChecks}
-use Rattle.c8_world.specs.World.{World, never_opened, start, is_player, peer_of, journal_of, known_by, with_peer, Give, Event, Stop, Happening, Answer, Stopped, After, give_to, acted, crashed, after, CanHappen, Chain, IsReached}
-use Rattle.c8_world.specs.Agreement.{IsPlayer, Agree, AreEntered}
-use Rattle.c8_audit.specs.Journals.{Readings, Evidence}
+use Rattle.c8_world.specs.World.{World, never_opened, start, is_player, peer_of, journal_of, with_peer, Give, Event, Stop, Happening, Answer, Stopped, After, give_to, acted, crashed, CanHappen, Chain, IsReached}
+use Rattle.c8_world.specs.Agreement.{IsPlayer}
+use Rattle.c8_audit.specs.Journals.{Readings}
 use Rattle.c8_audit.specs.Honest.{WasReadTwice}
-use Rattle.c8_audit.proofs.StepLemmas.{HasMoved, moved_chain}
+use Rattle.c8_audit.proofs.StepLemmas.{moved_chain}
 use Rattle.c8_audit.proofs.FateLemmas.{IsSettled, Grows, all_grow, found_grows, IsOpeningOf, Waits, Keeps, Lacks, HasOpening, lacks_read, Fares, all_fare, same_next, never_shorter}
 
 -- ---- reached worlds

@@ -1,20 +1,19 @@
 -- The marks of a checkpoint, one by one.
-use Rattle.std.proofs.Common.{◌≡◌, ◌≢◌, ℕ, zero, suc, ◌+◌, ◌-◌, ◌*◌, ◌/◌, ◌%◌, ◌<◌, ◌≤◌, List, [], ◌∷◌, ◌++◌, length, map, take, drop, min, refl, sym, ap, subst, ◌∙◌, arith}
+use Rattle.std.proofs.Common.{◌≡◌, ℕ, zero, suc, ◌+◌, ◌-◌, ◌*◌, ◌/◌, ◌<◌, List, ◌++◌, length, map, drop, min, refl, sym, ap, ◌∙◌, arith}
 use Rattle.std.specs.List.{range_with_len}
 use Rattle.std.proofs.lemmas.List.{map-append}
 use Rattle.std.proofs.lemmas.List.FromFn.{length-map-range_with_len}
 use Rattle.std.proofs.Math.Seq.{drop-append_seam}
-use Rattle.std.proofs.lemmas.Bool.{cases_lt}
 use Rattle.c8_game.specs.Rules.{Rules}
 use Rattle.c8_machine.specs.Serial.{serial}
 use Rattle.c8_digest.specs.declared.marks.FrameMark.{FrameMark}
 use Rattle.c8_digest.specs.StateBytes.{mark_of}
-use Rattle.c8_digest.specs.Marks.{mark_step, mark_length, most_marks, marks_after, forgotten_after, kept, marks_in}
+use Rattle.c8_digest.specs.Marks.{mark_step, most_marks, marks_after, forgotten_after, kept, marks_in}
 use Rattle.c8_known.specs.Known.{KnownValue}
 use Rattle.c8_known.specs.Confirmed.{rows_below}
 use Rattle.c8_known.specs.checked.ConfirmedLaws.{range_more}
 use Rattle.c8_roll.specs.Roll.{mark_after, marks_up_to}
-use Rattle.c8_audit.specs.Marked.{HasMark, HaveMarksBelow}
+use Rattle.c8_audit.specs.Marked.{HaveMarksBelow}
 
 -- ---- maps over two ranges
 

@@ -1,12 +1,11 @@
 -- The records that two readings of a file keep.
-use Rattle.std.proofs.Common.{◌≡◌, ◌≢◌, ℕ, zero, suc, ◌+◌, ◌<◌, ◌≤◌, List, [], ◌∷◌, ◌++◌, length, map, true, Option, Some, None, refl, sym, ap, subst, ◌∙◌, arith, eq-eqb}
+use Rattle.std.proofs.Common.{◌≡◌, ℕ, suc, ◌<◌, ◌≤◌, List, [], ◌∷◌, length, true, Option, Some, None, refl, sym, ap, subst, ◌∙◌, arith, eq-eqb}
 use Rattle.std.specs.List.{slice_get}
 use Rattle.std.proofs.lemmas.List.{append-nil, map-append}
-use Rattle.std.proofs.lemmas.Option.{slice_get_within}
 use Rattle.c8_game.specs.Rules.{Rules, id_of}
 use Rattle.c8_known.specs.Growth.{Begins}
 use Rattle.c8_known.specs.checked.BeginsLaws.{begins_get}
-use Rattle.c8_known.specs.Journal.{Record, Head, player_of}
+use Rattle.c8_known.specs.Journal.{Head, player_of}
 use Rattle.c8_record.specs.Body.{record_of, records_of}
 use Rattle.c8_record.specs.Replay.{BeginsWithHead}
 use Rattle.c8_record.specs.checked.BodyLaws.{reads_back}

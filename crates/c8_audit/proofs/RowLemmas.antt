@@ -1,5 +1,5 @@
 -- The inputs of a row.
-use Rattle.std.proofs.Common.{◌≡◌, ℕ, zero, suc, ◌+◌, ◌<◌, List, [], ◌∷◌, map, Some, sym, ap, refl, ◌∙◌, arith, slice_index_or}
+use Rattle.std.proofs.Common.{◌≡◌, ℕ, zero, suc, ◌+◌, ◌<◌, [], ◌∷◌, map, Some, sym, ap, refl, ◌∙◌, arith, slice_index_or}
 use Rattle.c8_game.specs.declared.row.Keys.{Keys}
 use Rattle.c8_known.specs.Known.{KnownValue, player_in, Plays}
 use Rattle.c8_known.specs.Confirmed.{input_of, confirmed, or_empty, row}

@@ -1,17 +1,16 @@
 -- What each step of one peer keeps, a list of events keeps.
-use Rattle.std.proofs.Common.{◌≡◌, ◌≢◌, ℕ, ◌-◌, ◌<◌, ◌≤◌, inl, inr, List, [], ◌∷◌, ◌++◌, length, Bool, true, false, cond, Option, Some, None, Ok, refl, sym, ap, subst, ◌∙◌, arith, slice_set, slice_index_or}
-use Rattle.std.specs.Prelude.{nat_le, ◌&&◌}
+use Rattle.std.proofs.Common.{◌≡◌, ◌≢◌, ℕ, ◌-◌, inl, inr, List, [], ◌∷◌, ◌++◌, length, Bool, true, false, cond, Option, Some, None, Ok, refl, sym, subst, ◌∙◌, arith, slice_set, slice_index_or}
+use Rattle.std.specs.Prelude.{nat_le}
 use Rattle.std.specs.List.{slice_get}
 use Rattle.std.proofs.lemmas.Bool.{cases_eq, leb-true, and_parts}
 use Rattle.std.proofs.lemmas.List.{length-set, get_or-set_same, get_or-set_other}
 use Rattle.c8_game.specs.Rules.{Rules}
 use Rattle.c8_wire.specs.Packet.{Packet}
-use Rattle.c8_known.specs.Journal.{Record}
 use Rattle.c8_peer.specs.State as states
 use Rattle.c8_peer.specs.State.{Mode, Down, Away, State, Call}
 use Rattle.c8_peer.specs.Steps.{DiskOutcome, step}
 use Rattle.c8_peer.specs.Opening.{Opening, found, away, opened}
-use Rattle.c8_world.specs.World.{World, never_opened, is_player, peer_of, Act, Open, Tick, Say, Give, Leave, Decide, Check, Show, Hear, Seen, Fresh, Event, Do, Stop, player_of, Happening, Answer, After, call_at_mode, call_at, open_at_mode, give_to, hear_at, acted, crashed, after, CanHappen, Chain}
+use Rattle.c8_world.specs.World.{World, never_opened, is_player, peer_of, Act, Open, Tick, Say, Give, Leave, Decide, Check, Show, Hear, Seen, Fresh, Event, Do, Stop, player_of, Happening, Answer, After, call_at_mode, call_at, open_at_mode, give_to, hear_at, acted, crashed, after, Chain}
 use Rattle.c8_world.specs.Agreement.{IsPlayer}
 
 -- A relation between an earlier and a later state of player p's peer that holds for each step of it.

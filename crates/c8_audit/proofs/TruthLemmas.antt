@@ -1,13 +1,13 @@
 -- True checkpoints, journal by journal.
-use Rattle.std.proofs.Common.{◌≡◌, ℕ, ◌+◌, ◌<◌, ◌≤◌, inl, inr, Bool, true, false, Option, Some, None, refl, sym, ap, subst, ◌∙◌, arith}
+use Rattle.std.proofs.Common.{◌≡◌, ℕ, ◌<◌, ◌≤◌, inl, inr, Bool, true, Option, Some, sym, subst, ◌∙◌, arith}
 use Rattle.std.specs.Prelude.{◌↔◌}
 use Rattle.std.proofs.lemmas.Bool.{cases_lt}
 use Rattle.c8_game.specs.Rules.{Rules}
 use Rattle.c8_digest.specs.Origin.{Origin}
 use Rattle.c8_roll.specs.Roll.{IsOnTheWay}
-use Rattle.c8_audit.specs.Journals.{Seen, AllSeen, IsGiven, AreOfGame}
+use Rattle.c8_audit.specs.Journals.{Seen, AllSeen, AreOfGame}
 use Rattle.c8_audit.specs.Marked.{IsTrueAt}
-use Rattle.c8_audit.specs.Verdicts.{AreTrue, IsUntrue, IsFirstUntrue}
+use Rattle.c8_audit.specs.Verdicts.{AreTrue, IsUntrue}
 
 some_same : {X : Type 0} (x y : X) → Some x ≡ Some y → x ≡ y
 some_same x y same = cc

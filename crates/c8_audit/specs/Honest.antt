@@ -1,5 +1,5 @@
 -- The readings of an honest match's journals, and readings that are journals of a world.
-use Rattle.std.specs.Prelude.{◌≡◌, ℕ, List, Bool, Option, Some}
+use Rattle.std.specs.Prelude.{◌≡◌, ℕ, List, Bool, Some}
 use Rattle.c8_game.specs.Rules.{Rules}
 use Rattle.c8_known.specs.Growth.{Begins}
 use Rattle.c8_peer.specs.Opening.{found}

@@ -1,5 +1,5 @@
 -- The journals that files keep, by the bytes of two readings of each file.
-use Rattle.std.specs.Prelude.{◌≡◌, ◌⊎◌, ℕ, ◌≤◌, ◌==◌, List, [], ◌∷◌, Bool, true, false, Option, Some, None, if◌then◌else◌}
+use Rattle.std.specs.Prelude.{◌⊎◌, ℕ, ◌≤◌, ◌==◌, List, [], ◌∷◌, Bool, true, false, Option, Some, None}
 use Rattle.c8_game.specs.Rules.{Rules}
 use Rattle.c8_known.specs.Growth.{Begins}
 use Rattle.c8_known.specs.Journal.{Record, player_of}

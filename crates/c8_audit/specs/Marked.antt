@@ -1,5 +1,5 @@
 -- The marks of a checkpoint, frame by frame.
-use Rattle.std.specs.Prelude.{◌≡◌, ℕ, ◌+◌, ◌*◌, ◌<◌, ◌≤◌, List, take, drop, Option, Some, None}
+use Rattle.std.specs.Prelude.{◌≡◌, ℕ, ◌+◌, ◌*◌, ◌<◌, List, take, drop, Option, Some, None}
 use Rattle.c8_game.specs.Rules.{Rules}
 use Rattle.c8_machine.specs.Serial.{serial}
 use Rattle.c8_digest.specs.StateBytes.{mark_of}

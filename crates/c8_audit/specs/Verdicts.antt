@@ -1,6 +1,6 @@
 -- When each verdict of an audit is yes: the inputs in the journals were entered, the checkpoints are true, the players
 -- agree. And the least fault, if a verdict is no.
-use Rattle.std.specs.Prelude.{◌≡◌, ◌≢◌, ℕ, ◌<◌, ◌≤◌, ◌⊎◌, List, Option, Some}
+use Rattle.std.specs.Prelude.{◌≡◌, ◌≢◌, ℕ, ◌<◌, ◌≤◌, ◌⊎◌, Option, Some}
 use Rattle.std.specs.List.{slice_get}
 use Rattle.c8_game.specs.Rules.{Rules}
 use Rattle.c8_digest.specs.Origin.{Origin}

@@ -1,8 +1,7 @@
-use Rattle.std.proofs.Common.{◌≡◌, ℕ, ◌+◌, ◌<◌, Option, Some, None, sym, subst, arith}
+use Rattle.std.proofs.Common.{ℕ, ◌+◌, Option, sym, subst}
 use Rattle.c8_audit.specs.Counts.{IsLesserBelow}
-use Rattle.c8_audit.specs.Journals.{Seen}
 use Rattle.c8_audit.specs.Read.{all_seen}
-use Rattle.c8_audit.proofs.CountLemmas.{lesser_next, count_at_end}
+use Rattle.c8_audit.proofs.CountLemmas.{lesser_next}
 use Rattle.c8_audit.proofs.count.least_count.Goals as goal
 
 pub loop-number-preserved : goal.loop-number-preserved

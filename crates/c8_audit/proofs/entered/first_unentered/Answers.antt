@@ -10,4 +10,4 @@ first_never-requires-clause-by c =
 
 pub first_never-requires-clause-own : goal.first_never-requires-clause-own
 first_never-requires-clause-own c =
-    plays_later c.requires.0 (all_seen c.args.journals.now) c.args.player.number (seen c.in-Some-Some.own.now) c.requires.1 c.args.player.from_one (sym c.in-Some-Some.ensures')
+    rw c.later.ensures (plays_later c.requires.0 (all_seen c.args.journals.now) c.args.player.number (seen c.in-Some-Some.own.now) c.requires.1 c.args.player.from_one (sym c.in-Some-Some.ensures'))

@@ -1,8 +1,7 @@
 use Rattle.std.proofs.Common.{◌≡◌, ◌<◌, ℕ, List, length, map, take, Vec, Global, refl, sym, ap, ◌∙◌, subst, arith, Some}
-use Rattle.std.specs.List.{slice_get}
 use Rattle.std.proofs.lemmas.List.{length-map, take_all}
-use Rattle.c8_audit.specs.Gathered.{IsGathered, AreGathered, with_file}
-use Rattle.c8_audit.specs.Images.{evidence_in, IsUnread}
+use Rattle.c8_audit.specs.Gathered.{AreGathered}
+use Rattle.c8_audit.specs.Images.{evidence_in}
 use Rattle.c8_audit.proofs.FileLemmas.{item_of, gathered_none, gathered_next, gathered_all}
 use Rattle.c8_audit.proofs.files.gather.Goals as goal
 

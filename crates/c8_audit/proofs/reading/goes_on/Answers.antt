@@ -1,6 +1,5 @@
-use Rattle.std.proofs.Common.{◌≡◌, ℕ, List, Some, refl, sym, arith, ◌∙◌, ◌<◌}
-use Rattle.std.specs.List.{slice_get}
-use Rattle.c8_known.specs.checked.BeginsLaws.{begins_get, begins_length}
+use Rattle.std.proofs.Common.{ℕ, List, refl, sym, arith, ◌∙◌}
+use Rattle.c8_known.specs.checked.BeginsLaws.{begins_get}
 use Rattle.c8_log.specs.Slots.{kept}
 use Rattle.c8_audit.proofs.ReadingLemmas.{begins_by_items, some_same}
 use Rattle.c8_audit.proofs.reading.goes_on.Goals as goal

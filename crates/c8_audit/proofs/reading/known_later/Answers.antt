@@ -1,4 +1,4 @@
-use Rattle.std.proofs.Common.{inr, refl}
+use Rattle.std.proofs.Common.{inr}
 use Rattle.c8_audit.proofs.reading.known_later.Goals as goal
 
 pub returns-in-Err-clause-unread : goal.returns-in-Err-clause-unread

@@ -1,4 +1,4 @@
-use Rattle.std.proofs.Common.{◌≡◌, arith, ◌<◌, ◌≤◌, ℕ}
+use Rattle.std.proofs.Common.{◌≡◌, arith}
 use Rattle.c8_audit.specs.Read.{all_seen}
 use Rattle.c8_audit.proofs.TruthLemmas.{true_at_end}
 use Rattle.c8_audit.proofs.truth.first_untrue.Goals as goal

@@ -1,5 +1,4 @@
-use Rattle.std.proofs.Common.{◌≡◌, ℕ, ◌+◌, ◌<◌, ◌≤◌, inl, inr, ⊎_elim, refl, sym, ap, ◌∙◌, subst, arith, true}
-use Rattle.std.proofs.lemmas.Bool.{cases_lt}
+use Rattle.std.proofs.Common.{◌≡◌, ◌+◌, refl, sym, ap, ◌∙◌, subst, arith}
 use Rattle.c8_game.specs.Rules.{joined}
 use Rattle.c8_known.specs.Confirmed.{row, rows_below}
 use Rattle.c8_digest.specs.StateBytes.{mark_of}
