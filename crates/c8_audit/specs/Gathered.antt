@@ -2,11 +2,12 @@
 use Rattle.std.specs.Prelude.{◌≡◌, ℕ, ◌≤◌, ◌==◌, List, Bool, true, false, Option, Some, None}
 use Rattle.std.specs.List.{slice_get}
 use Rattle.c8_game.specs.Rules.{Rules}
-use Rattle.c8_audit.specs.Images.{only_in, or_else, IsReadTwice, IsUnread}
+use Rattle.c8_audit.specs.Images.{first_bytes, later_bytes, only_in, or_else, IsReadTwice, IsUnread}
 use Rattle.c8_audit.specs.Journals.{Readings, Evidence, AllSeen, Seen, seen_in, AreOfGame, Stays}
 use Rattle.c8_audit.specs.Read.{seen, all_seen}
 use Rattle.c8_audit.specs.declared.error.GatherError.{GatherError}
 use Rattle.c8_audit.specs.declared.error.GatherError.TheVariants.{File, Journals}
+use Rattle.c8_audit.specs.declared.files.Twice.{Twice}
 use Rattle.c8_audit.specs.declared.journal.Journal.{Journal}
 
 -- the readings with one more file
@@ -34,6 +35,6 @@ pub record AreGathered (rules : Rules) (e : Evidence) (journals : List (Option J
   pub one : (s : Seen) × Stays (all_seen journals) 1 s
 
 -- why the journals cannot be judged
-abbrev pub IsNotGathered : Rules → List (List ℕ) → List (List ℕ) → GatherError → Type 0
-IsNotGathered rules firsts laters (File place why) = (first : List ℕ) × (later : List ℕ) × (slice_get firsts place ≡ Some first) × (slice_get laters place ≡ Some later) × IsUnread rules first later why
-IsNotGathered rules firsts laters Journals = Unit {0}
+abbrev pub IsNotGathered : Rules → List Twice → GatherError → Type 0
+IsNotGathered rules files (File place why) = (file : Twice) × (slice_get files place ≡ Some file) × IsUnread rules (first_bytes file) (later_bytes file) why
+IsNotGathered rules files Journals = Unit {0}

@@ -1,5 +1,6 @@
 -- The journals that files keep, by the bytes of two readings of each file.
-use Rattle.std.specs.Prelude.{◌⊎◌, ℕ, ◌≤◌, ◌==◌, List, [], ◌∷◌, Bool, true, false, Option, Some, None}
+use Rattle.std.specs.Prelude.{◌⊎◌, ℕ, ◌≤◌, ◌==◌, List, [], ◌∷◌, Bool, true, false, Option, Some, None, Vec}
+use Rattle.std.specs.Global.{Global}
 use Rattle.c8_game.specs.Rules.{Rules}
 use Rattle.c8_known.specs.Growth.{Begins}
 use Rattle.c8_known.specs.Journal.{Record, player_of}
@@ -8,8 +9,21 @@ use Rattle.c8_record.specs.Allowed.{IsJournal}
 use Rattle.c8_record.specs.Body.{records_of}
 use Rattle.c8_image.specs.Journal.{IsRefusalOfJournal}
 use Rattle.c8_audit.specs.Journals.{Readings, Evidence}
+use Rattle.c8_audit.specs.declared.files.Twice.{Twice}
 use Rattle.c8_audit.specs.declared.error.Unread.{Unread}
 use Rattle.c8_audit.specs.declared.error.Unread.TheVariants.{Journal, Changed}
+
+-- the bytes of a file's first reading
+abbrev pub first_bytes : Twice → List ℕ
+first_bytes file = file.first.items
+
+abbrev pub items_or : List ℕ → Option (Vec ℕ Global) → List ℕ
+items_or first None = first
+items_or first (Some later) = later.items
+
+-- the bytes of its second reading
+abbrev pub later_bytes : Twice → List ℕ
+later_bytes file = items_or (first_bytes file) file.later
 
 -- the records that two readings of a file keep
 abbrev pub readings_of : List ℕ → List ℕ → Readings

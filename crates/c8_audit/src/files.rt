@@ -1,8 +1,8 @@
 //! Reads the journals of a match from two readings of each file.
 
-ghost use Rattle.std.specs.Prelude.{◌≡◌, ◌≤◌, ◌↔◌, ℕ, length, map, Some, true, IfOk, IfErr, OnOk};
+ghost use Rattle.std.specs.Prelude.{◌≡◌, ◌≤◌, ◌↔◌, ℕ, map, Some, true, IfOk, IfErr, OnOk};
 ghost use Rattle.c8_audit.specs.Gathered.{IsGathered, AreGathered, IsNotGathered, with_file, with_journal};
-ghost use Rattle.c8_audit.specs.Images.{evidence_in, IsUnread};
+ghost use Rattle.c8_audit.specs.Images.{first_bytes, later_bytes, evidence_in, IsUnread};
 ghost use Rattle.c8_audit.specs.Journals.{Evidence, Seen};
 ghost use Rattle.c8_audit.specs.Read.{all_seen};
 
@@ -12,6 +12,25 @@ use crate::reading::{Reading, read_twice};
 use c8_game::{Game, MOST_PLAYERS, Player};
 use c8_log::kept_len;
 use std::alloc::Global;
+
+/// The bytes of a file, read twice.
+#[derive(Drop)]
+pub struct Twice {
+    pub first: Vec<u8>,
+    /// `None` if the second reading found the same bytes as the first.
+    pub later: Option<Vec<u8>>,
+}
+
+impl Twice {
+    /// Makes the second reading the first one.
+    pub fn step(&mut self)
+        ensures first { self.new.first.items ≡ later_bytes self.old }
+    {
+        if let Some(later) = self.later.take() {
+            self.first = later;
+        }
+    }
+}
 
 /// The journals of a match.
 #[derive(Drop)]
@@ -26,21 +45,13 @@ pub struct Gathered {
     is_mixed: bool,
 }
 
-/// Reads the journals from the bytes of files. `firsts` has the first reading of each file, `laters` the second. A file
-/// without a record is skipped. The first faulty file gives the error `File`, with its place. If no file is at fault,
-/// the error is `Journals` if two journals are of one player or of different rooms, or if player 1's is missing.
-pub fn gather(
-    alloc: Global,
-    game: &Game,
-    firsts: &[Vec<u8>],
-    laters: &[Vec<u8>],
-) -> Result<Gathered, GatherError>
-    requires { length firsts.now ≡ length laters.now }
+/// Reads the journals from the bytes of files. A file without a record is skipped. The first faulty file gives the error
+/// `File`, with its place. If no file is at fault, the error is `Journals` if two journals are of one player or of
+/// different rooms, or if player 1's is missing.
+pub fn gather(alloc: Global, game: &Game, files: &[Twice]) -> Result<Gathered, GatherError>
     ensures gathered { IfOk result (λ gathered. AreGathered game.now
-        (evidence_in (map (λ file. file.items) firsts.now) (map (λ file. file.items) laters.now))
-        gathered.journals) }
-    ensures refused { IfErr result (λ error. IsNotGathered game.now
-        (map (λ file. file.items) firsts.now) (map (λ file. file.items) laters.now) error) }
+        (evidence_in (map first_bytes files.now) (map later_bytes files.now)) gathered.journals) }
+    ensures refused { IfErr result (λ error. IsNotGathered game.now files.now error) }
 {
     // For the proof: a game has at most four players.
     let _players = game.players();
@@ -50,8 +61,8 @@ pub fn gather(
         room: None,
         is_mixed: false,
     };
-    for place in 0..firsts.len() {
-        match gathered.add(alloc, game, &firsts[place], &laters[place]) {
+    for place in 0..files.len() {
+        match gathered.add(alloc, game, &files[place]) {
             Ok(()) => {}
             Err(why) => return Err(GatherError::File(place, why)),
         }
@@ -71,16 +82,16 @@ fn is_given(journals: &[Option<Journal>], player: Player) -> bool
 
 impl Gathered {
     /// Reads the journal of one more file.
-    fn add(&mut self, alloc: Global, game: &Game, first: &[u8], later: &[u8]) -> Result<(), Unread>
-        ensures unread { IfErr result (λ why. IsUnread game.now first.now later.now why) }
+    fn add(&mut self, alloc: Global, game: &Game, file: &Twice) -> Result<(), Unread>
+        ensures unread { IfErr result (λ why. IsUnread game.now (first_bytes file.now) (later_bytes file.now) why) }
         ensures gathered { OnOk result ((e : Evidence) → IsGathered game.now e self.old.journals
-            → IsGathered game.now (with_file e first.now later.now) self.new.journals) }
+            → IsGathered game.now (with_file e (first_bytes file.now) (later_bytes file.now)) self.new.journals) }
     {
-        if kept_len(first) == 0 {
+        if kept_len(&file.first) == 0 {
             self.empty = self.empty.saturating_add(1);
             return Ok(());
         }
-        let Reading { room, journal } = read_twice(alloc, game, first, later)?;
+        let Reading { room, journal } = read_twice(alloc, game, file)?;
         self.is_mixed |= self.room.is_some_and(|other| other != room);
         self.room = Some(room);
         if !put(&mut self.journals, journal) {

@@ -28,7 +28,7 @@ pub use count::{digest_of, least_count};
 pub use entered::cut_of;
 pub use error::{GatherError, Unread};
 pub use fault::{Fault, Question};
-pub use files::{Gathered, gather};
+pub use files::{Gathered, Twice, gather};
 pub use journal::{Journal, journal_of};
 pub use search::PLAYERS_END;
 pub use tallies::{Tally, tally_of};

@@ -3,11 +3,12 @@
 ghost use Rattle.std.specs.Prelude.{◌≡◌, ◌↔◌, true, IfOk, IfErr};
 ghost use Rattle.c8_known.specs.Growth.{Begins};
 ghost use Rattle.c8_log.specs.Slots.{kept};
-ghost use Rattle.c8_audit.specs.Images.{IsReadTwice, names_player, readings_of, IsUnread};
+ghost use Rattle.c8_audit.specs.Images.{first_bytes, later_bytes, IsReadTwice, names_player, readings_of, IsUnread};
 ghost use Rattle.c8_audit.specs.Journals.{seen_of};
 ghost use Rattle.c8_audit.specs.Read.{seen, IsLater};
 
 use crate::error::Unread;
+use crate::files::Twice;
 use crate::journal::Journal;
 use crate::tallies::{Tally, tally_of};
 use c8_check::Checks;
@@ -26,25 +27,22 @@ pub(crate) struct Reading {
 
 /// Reads a journal from two readings of its file. Errors are checked in this order: the first reading is refused, the
 /// second one is refused, `Changed`.
-pub(crate) fn read_twice(
-    alloc: Global,
-    game: &Game,
-    first: &[u8],
-    later: &[u8],
-) -> Result<Reading, Unread>
+pub(crate) fn read_twice(alloc: Global, game: &Game, file: &Twice) -> Result<Reading, Unread>
     ensures read { IfOk result (λ reading. IsReadTwice game.now reading.room
-        reading.journal.first.me (readings_of first.now later.now)) }
+        reading.journal.first.me (readings_of (first_bytes file.now) (later_bytes file.now))) }
     ensures seen { IfOk result (λ reading. seen reading.journal
-        ≡ seen_of game.now reading.journal.first.me (readings_of first.now later.now)) }
+        ≡ seen_of game.now reading.journal.first.me
+        (readings_of (first_bytes file.now) (later_bytes file.now))) }
     ensures named { IfOk result (λ reading. names_player reading.journal.first.me
-        (readings_of first.now later.now).first ≡ true) }
-    ensures unread { IfErr result (λ error. IsUnread game.now first.now later.now error) }
+        (readings_of (first_bytes file.now) (later_bytes file.now)).first ≡ true) }
+    ensures unread { IfErr result
+        (λ error. IsUnread game.now (first_bytes file.now) (later_bytes file.now) error) }
 {
-    let one = match journal_in(alloc, game, None, first) {
+    let one = match journal_in(alloc, game, None, &file.first) {
         Ok(one) => one,
         Err(error) => return Err(Unread::Journal(error)),
     };
-    let later = known_later(alloc, game, one.room, first, later)?;
+    let later = known_later(alloc, game, one.room, file)?;
     // For the proof: the knowledge is sound.
     let _me = one.known.me();
     let KeptJournal {
@@ -52,38 +50,26 @@ pub(crate) fn read_twice(
         known,
         checks,
     } = one;
-    Ok(joined(room, known, checks, later, tally_of(first)))
+    Ok(joined(room, known, checks, later, tally_of(&file.first)))
 }
 
-/// Reads what the second reading makes known. Returns `None` if it has the same bytes as the first.
-fn known_later(
-    alloc: Global,
-    game: &Game,
-    room: u64,
-    first: &[u8],
-    later: &[u8],
-) -> Result<Option<Known>, Unread>
-    ensures later { IfOk result (λ known. IsLater game.now room first.now later.now known) }
-    ensures unread { IfErr result (λ error. IsUnread game.now first.now later.now error) }
+/// Reads what the second reading makes known. Returns `None` if it found the same bytes as the first.
+fn known_later(alloc: Global, game: &Game, room: u64, file: &Twice) -> Result<Option<Known>, Unread>
+    ensures later { IfOk result (λ known. IsLater game.now room (first_bytes file.now) (later_bytes file.now) known) }
+    ensures unread { IfErr result
+        (λ error. IsUnread game.now (first_bytes file.now) (later_bytes file.now) error) }
 {
-    if are_same(first, later) {
+    let Some(later) = &file.later else {
         return Ok(None);
-    }
+    };
     let known = match known_in(alloc, game, Some(room), later) {
         Ok(known) => known,
         Err(error) => return Err(Unread::Journal(error)),
     };
-    if !goes_on(first, later) {
+    if !goes_on(&file.first, later) {
         return Err(Unread::Changed);
     }
     Ok(Some(known))
-}
-
-/// Returns whether two readings have the same bytes.
-fn are_same(first: &[u8], later: &[u8]) -> bool
-    ensures { (result ≡ true) ↔ (first.now ≡ later.now) }
-{
-    first == later
 }
 
 /// Joins what two readings of a journal say.

@@ -1,16 +1,16 @@
 //! `c8play audit`: judges the journals of a match.
 
-ghost use Rattle.std.specs.Prelude.{◌≡◌, length, vec_len, IfOk};
+ghost use Rattle.std.specs.Prelude.{IfOk};
 ghost use Rattle.c8_audit.specs.Journals.{Seen, AreOfGame, Stays};
 ghost use Rattle.c8_audit.specs.Read.{all_seen};
 
 use crate::error::AuditFault;
 use crate::report::write_audit;
-use c8_audit::{GatherError, Gathered, Unread, gather};
+use c8_audit::{GatherError, Gathered, Twice, Unread, gather};
 use c8_command::{Site, Status, Text, TextError, read_file};
 use c8_front::{is_explained, word_of};
 use c8_game::{Game, GameError};
-use c8_image::{JournalError, read_image};
+use c8_image::{JournalError, read_again, read_image};
 use c8_keys::game_site;
 use clap::ArgMatches;
 use std::alloc::Global;
@@ -46,15 +46,15 @@ pub fn audit_given<R: Files + AllocGlobal, W: Write, E: Write>(
             return text_fault(error).tell_at(explain.then_some(Site::File(path)), refused);
         }
     };
-    let firsts = match read_images(rt, files) {
-        Ok(firsts) => firsts,
+    let mut readings = match read_files(rt, files) {
+        Ok(readings) => readings,
         Err(unjudged) => return refuse(files, unjudged, explain, refused),
     };
     let game = match Game::read(rt.alloc(), &text) {
         Ok(game) => game,
         Err(error) => return refuse_game(rt.alloc(), path, &text, error, explain, refused),
     };
-    match gather_files(rt, &game, files, firsts) {
+    match gather_files(rt, &game, files, &mut readings) {
         Ok(gathered) => judge_all(&game, &gathered, explain, out, refused),
         Err(unjudged) => refuse(files, unjudged, explain, refused),
     }
@@ -78,20 +78,34 @@ fn judge_all<W: Write, E: Write>(
 }
 
 /// Reads all files once.
-fn read_images<R: Files + AllocGlobal>(rt: &R, files: &[&str]) -> Result<Vec<Vec<u8>>, Unjudged>
-    ensures { IfOk result (λ images. vec_len images ≡ length files.now) }
-{
-    let mut images = Vec::new(rt.alloc());
+fn read_files<R: Files + AllocGlobal>(rt: &R, files: &[&str]) -> Result<Vec<Twice>, Unjudged> {
+    let mut readings = Vec::new(rt.alloc());
     for place in 0..files.len() {
-        let image = match read_image(rt, files[place]) {
-            Ok(image) => image,
+        let first = match read_image(rt, files[place]) {
+            Ok(first) => first,
             Err(error) => return Err(at(place, image_fault(error))),
         };
-        if images.push(image).is_err() {
+        if readings.push(Twice { first, later: None }).is_err() {
             return Err(at(place, AuditFault::Journal(JournalError::Memory)));
         }
     }
-    Ok(images)
+    Ok(readings)
+}
+
+/// Reads all files once more.
+fn read_later<R: Files + AllocGlobal>(
+    rt: &R,
+    files: &[&str],
+    readings: &mut [Twice],
+) -> Result<(), Unjudged> {
+    for (place, (file, reading)) in files.iter().zip(readings).enumerate() {
+        reading.step();
+        match read_again(rt, file, &reading.first) {
+            Ok(later) => reading.later = later,
+            Err(error) => return Err(at(place, image_fault(error))),
+        }
+    }
+    Ok(())
 }
 
 /// Reads all files once more, and gathers the journals that they keep. If one lost records meanwhile, all are read again.
@@ -99,9 +113,8 @@ fn gather_files<R: Files + AllocGlobal>(
     rt: &R,
     game: &Game,
     files: &[&str],
-    mut firsts: Vec<Vec<u8>>,
+    readings: &mut [Twice],
 ) -> Result<Gathered, Unjudged>
-    requires { vec_len firsts ≡ length files.now }
     ensures of_game { IfOk result (λ gathered.
         AreOfGame game.now (all_seen gathered.journals)) }
     ensures one { IfOk result (λ gathered.
@@ -109,8 +122,8 @@ fn gather_files<R: Files + AllocGlobal>(
 {
     let mut lost = 0;
     for _try in 0..MOST_TRIES {
-        let laters = read_images(rt, files)?;
-        match gather(rt.alloc(), game, &firsts, &laters) {
+        read_later(rt, files, readings)?;
+        match gather(rt.alloc(), game, readings) {
             Ok(gathered) => return Ok(gathered),
             Err(GatherError::Journals) => {
                 return Err(Unjudged {
@@ -123,7 +136,6 @@ fn gather_files<R: Files + AllocGlobal>(
             }
             Err(GatherError::File(place, Unread::Changed)) => lost = place,
         }
-        firsts = laters;
     }
     let sentence = "a journal that lost records while it was read";
     Err(at(lost, AuditFault::Disk(sentence)))
