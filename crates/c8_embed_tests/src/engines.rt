@@ -4,7 +4,7 @@ use c8_disk::MemDisk;
 use c8_embed::Engine;
 use c8_game::{Game, Keys, Player, Row};
 use c8_peer::Check;
-use std::alloc::{AllocError, Global};
+use std::alloc::Global;
 use std::process::Abort;
 
 const GAME: &[u8] =
@@ -31,6 +31,25 @@ fn after(state: u64, row: &Row) -> u64 {
         .wrapping_add(u64::from(two.0))
 }
 
+/// The states of a machine that has not run.
+fn first_state(alloc: Global) -> Option<Vec<u64>> {
+    let mut states = Vec::with_capacity(alloc, 100).ok()?;
+    states.push(1).ok()?;
+    Some(states)
+}
+
+fn engine<'g>(
+    alloc: Global,
+    game: &'g Game,
+    number: u8,
+    patience: Option<u64>,
+    interval: u32,
+) -> Option<Engine<'g, MemDisk>> {
+    let me = Player::new(number)?;
+    let disk = MemDisk::new(alloc, 100_000, 4000).ok()?;
+    Engine::open(alloc, disk, game, me, 7, patience, interval).ok()
+}
+
 impl<'g> Side<'g> {
     fn open(alloc: Global, game: &'g Game, number: u8) -> Option<Side<'g>> {
         Side::open_with(alloc, game, number, None, 0)
@@ -43,13 +62,8 @@ impl<'g> Side<'g> {
         patience: Option<u64>,
         interval: u32,
     ) -> Option<Side<'g>> {
-        let disk = MemDisk::new(alloc, 100_000, 4000).ok()?;
-        let me = Player::new(number)?;
-        let Ok(engine) = Engine::open(alloc, disk, game, me, 7, patience, interval) else {
-            return None;
-        };
-        let mut states = Vec::with_capacity(alloc, 100).ok()?;
-        states.push(1).ok()?;
+        let states = first_state(alloc)?;
+        let engine = engine(alloc, game, number, patience, interval)?;
         Some(Side {
             engine,
             states,
@@ -110,37 +124,45 @@ fn turn(side: &mut Side<'_>, other: &mut Side<'_>, keys: u16, sent: &mut u32) ->
     side.run_all()
 }
 
-/// Both sides of a match that was played to its end, with a test of their machines by `depth`.
-fn played<'g>(alloc: Global, game: &'g Game, depth: u32) -> Option<(Side<'g>, Side<'g>)> {
-    let mut one = Side::open(alloc, game, 1)?;
-    let mut two = Side::open(alloc, game, 2)?;
+/// Plays a match to its end, with a test of both machines by `depth`. Returns whether it ended.
+fn play(one: &mut Side<'_>, two: &mut Side<'_>, depth: u32) -> bool {
     one.engine.check(depth);
     two.engine.check(depth);
     let mut sent = 0;
     for number in 0..2000_u16 {
         if one.engine.is_over() && two.engine.is_over() {
-            return Some((one, two));
+            return true;
         }
-        turn(&mut one, &mut two, number.wrapping_mul(7), &mut sent)?;
-        turn(&mut two, &mut one, number.wrapping_mul(13), &mut sent)?;
+        let turns = turn(one, two, number.wrapping_mul(7), &mut sent).is_some()
+            && turn(two, one, number.wrapping_mul(13), &mut sent).is_some();
+        if !turns {
+            return false;
+        }
     }
-    None
+    false
 }
 
-fn game(alloc: Global) -> Result<Game, AllocError> {
-    Game::read(alloc, GAME).map_err(|_| AllocError)
+fn game(alloc: Global) -> Option<Game> {
+    Game::read(alloc, GAME).ok()
 }
 
 /// What both sides have after a match: the frames, the same state, the run of the confirmed rows.
+fn agrees(one: &Side<'_>, two: &Side<'_>) -> bool {
+    one.engine.peer().confirmed() == 60
+        && two.engine.peer().confirmed() == 60
+        && one.states.len() == 61
+        && two.states.len() == 61
+        && one.states.last() == two.states.last()
+        && one.states.last() == Some(&one.confirmed_run())
+        && one.rollbacks > 0
+        && two.rollbacks > 0
+}
+
 fn agree(rt: &impl Abort, alloc: Global, depth: u32) {
     let game = game(alloc).expect(rt, "a game");
-    let (one, two) = played(alloc, &game, depth).expect(rt, "a match");
-    assert_eq!(rt; one.engine.peer().confirmed(), 60);
-    assert_eq!(rt; two.engine.peer().confirmed(), 60);
-    assert_eq!(rt; one.states.len(), 61);
-    assert_eq!(rt; one.states.last(), two.states.last());
-    assert_eq!(rt; one.states.last(), Some(&one.confirmed_run()));
-    assert!(rt; one.rollbacks > 0 && two.rollbacks > 0);
+    let mut one = Side::open(alloc, &game, 1).expect(rt, "a side");
+    let mut two = Side::open(alloc, &game, 2).expect(rt, "a side");
+    assert!(rt; play(&mut one, &mut two, depth) && agrees(&one, &two));
 }
 
 #[test]
@@ -158,17 +180,22 @@ fn a_test_rolls_back_and_changes_nothing(rt: HostRuntime) {
 fn a_test_goes_back_by_its_depth(rt: HostRuntime) {
     let game = game(rt.alloc()).expect(&rt, "a game");
     let mut side = Side::open(rt.alloc(), &game, 1).expect(&rt, "a side");
+    assert!(&rt; goes_back(&mut side));
+}
+
+fn goes_back(side: &mut Side<'_>) -> bool {
     side.engine.check(2);
     let _first = side.engine.tick(Keys(9));
-    assert_eq!(&rt; side.engine.step(100).count, 1);
+    let mut well = side.engine.step(100).count == 1;
     for number in 1..5 {
         let _refused = side.engine.tick(Keys(number));
         let stepped = side.engine.step(100);
-        assert_eq!(&rt; stepped.from, u32::from(number).saturating_sub(2).max(1));
-        assert_eq!(&rt; stepped.from + stepped.count, u32::from(number) + 1);
+        let end = stepped.from.saturating_add(stepped.count);
+        let start = u32::from(number).saturating_sub(2).max(1);
+        well &= stepped.from == start && end == u32::from(number) + 1;
     }
     side.engine.check(0);
-    assert_eq!(&rt; side.engine.step(100).count, 0);
+    well && side.engine.step(100).count == 0
 }
 
 /// Player 1 drops a player who was silent for as many turns as its patience, and no sooner.
@@ -176,22 +203,34 @@ fn a_test_goes_back_by_its_depth(rt: HostRuntime) {
 fn a_silent_player_is_dropped(rt: HostRuntime) {
     let game = game(rt.alloc()).expect(&rt, "a game");
     let mut side = Side::open_with(rt.alloc(), &game, 1, Some(5), 0).expect(&rt, "a side");
-    let two = Player::new(2).expect(&rt, "a player");
-    let mut out = [0; 174];
-    for number in 1..9_u64 {
-        assert!(&rt; side.engine.turn().is_ok());
-        while_due(&mut side, &mut out);
-        assert_eq!(&rt; side.engine.peer().leaving(two), number >= 5);
-    }
+    assert!(&rt; drops(&mut side));
 }
 
-/// Asks for the datagrams of a turn until there is none.
-fn while_due(side: &mut Side<'_>, out: &mut [u8; 174]) {
+fn drops(side: &mut Side<'_>) -> bool {
+    let mut well = true;
+    for number in 1..9_u64 {
+        well &= turn_alone(side);
+        let dropped = match Player::new(2) {
+            Some(two) => side.engine.peer().leaving(two),
+            None => false,
+        };
+        well &= dropped == (number >= 5);
+    }
+    well
+}
+
+/// Makes a turn, and loses its datagrams. Returns whether it was made.
+fn turn_alone(side: &mut Side<'_>) -> bool {
+    if side.engine.turn().is_err() {
+        return false;
+    }
+    let mut out = [0; 174];
     for _ in 0..20 {
-        if side.engine.next_datagram(out).is_none() {
+        if side.engine.next_datagram(&mut out).is_none() {
             break;
         }
     }
+    true
 }
 
 /// A match is not over for a player whose last inputs another player has not acknowledged.
@@ -200,20 +239,23 @@ fn no_end_without_acknowledgements(rt: HostRuntime) {
     let game = game(rt.alloc()).expect(&rt, "a game");
     let mut one = Side::open(rt.alloc(), &game, 1).expect(&rt, "a side");
     let mut two = Side::open(rt.alloc(), &game, 2).expect(&rt, "a side");
-    let mut out = [0; 174];
-    let mut sent = 0;
+    assert!(&rt; play_unheard(&mut one, &mut two));
+    assert!(&rt; one.engine.peer().confirmed() == 60 && !one.engine.is_over());
+}
+
+/// Plays a match in which the first side's last inputs are lost. Returns whether all its turns were made.
+fn play_unheard(one: &mut Side<'_>, two: &mut Side<'_>) -> bool {
+    let (mut well, mut sent) = (true, 0);
     for number in 0..400 {
         if one.engine.peer().now() < 58 {
-            let _sent = turn(&mut one, &mut two, number, &mut sent);
+            let _sent = turn(one, two, number, &mut sent);
         } else {
             let _refused = one.engine.tick(Keys(number));
-            assert!(&rt; one.engine.turn().is_ok());
-            while_due(&mut one, &mut out);
+            well &= turn_alone(one);
         }
-        let _sent = turn(&mut two, &mut one, number, &mut sent);
+        let _sent = turn(two, one, number, &mut sent);
     }
-    assert_eq!(&rt; one.engine.peer().confirmed(), 60);
-    assert!(&rt; !one.engine.is_over());
+    well
 }
 
 /// No checkpoint is begun before as many frames are confirmed as its interval says.
@@ -222,11 +264,15 @@ fn a_checkpoint_waits_for_its_interval(rt: HostRuntime) {
     let game = game(rt.alloc()).expect(&rt, "a game");
     let mut one = Side::open_with(rt.alloc(), &game, 1, None, 30).expect(&rt, "a side");
     let mut two = Side::open(rt.alloc(), &game, 2).expect(&rt, "a side");
+    assert!(&rt; waits(&mut one, &mut two));
+}
+
+fn waits(one: &mut Side<'_>, two: &mut Side<'_>) -> bool {
     let mut sent = 0;
     for number in 0..20 {
-        let _sent = turn(&mut one, &mut two, number, &mut sent);
-        let _sent = turn(&mut two, &mut one, number, &mut sent);
+        let _sent = turn(one, two, number, &mut sent);
+        let _sent = turn(two, one, number, &mut sent);
     }
-    assert!(&rt; one.engine.peer().confirmed() > 5 && one.engine.peer().confirmed() < 30);
-    assert_eq!(&rt; one.engine.checkpoint(), Ok(Check::Piece(0)));
+    let confirmed = one.engine.peer().confirmed();
+    confirmed > 5 && confirmed < 30 && one.engine.checkpoint() == Ok(Check::Piece(0))
 }

@@ -61,9 +61,13 @@ pub(crate) fn call_machine(
 
 /// Whether the state bytes of a machine are read as the same machine.
 fn is_read_again(machine: &Machine) -> bool {
-    let mut bytes = [0x55; STATE_LENGTH];
+    let (mut bytes, mut others) = ([0x55; STATE_LENGTH], [0xaa; STATE_LENGTH]);
     state_bytes(machine, &mut bytes);
-    read_state(&bytes) == Some(*machine)
+    let Some(again) = read_state(&bytes) else {
+        return false;
+    };
+    state_bytes(&again, &mut others);
+    bytes.as_slice() == others.as_slice()
 }
 
 /// Prints what changed of a state, and ends the line.
