@@ -73,47 +73,42 @@ fn is_read_again(machine: &Machine) -> bool {
 /// Prints what changed of a state, and ends the line.
 fn write_changes(before: &Machine, after: &Machine, text: &mut Vec<u8>) -> io::Result<()> {
     write_cells("V", before.registers(), after.registers(), text)?;
-    write_number(
-        "I",
-        u64::from(before.address()),
-        u64::from(after.address()),
-        text,
-    )?;
-    write_number(
-        "counter",
-        u64::from(before.counter()),
-        u64::from(after.counter()),
-        text,
-    )?;
-    write_number(
-        "timer",
-        u64::from(before.timer()),
-        u64::from(after.timer()),
-        text,
-    )?;
-    write_number(
-        "tone",
-        u64::from(before.tone()),
-        u64::from(after.tone()),
-        text,
-    )?;
-    write_number(
-        "keys",
-        u64::from(before.keys().0),
-        u64::from(after.keys().0),
-        text,
-    )?;
-    write_number("draws", before.draws(), after.draws(), text)?;
+    let numbers = numbers_of(before).into_iter().zip(numbers_of(after));
+    for (name, (old, new)) in NUMBERS.iter().zip(numbers) {
+        if old != new {
+            write!(text, " {name} {new:x}")?;
+        }
+    }
+    write_stack(before, after, text)?;
+    write_halts(before, after, text)?;
+    write_cells("memory", before.memory(), after.memory(), text)?;
+    write_rows(before, after, text)?;
+    writeln!(text)
+}
+
+/// The names of the numbers of a state.
+const NUMBERS: [&str; 6] = ["I", "counter", "timer", "tone", "keys", "draws"];
+
+fn numbers_of(machine: &Machine) -> [u64; 6] {
+    [
+        u64::from(machine.address()),
+        u64::from(machine.counter()),
+        u64::from(machine.timer()),
+        u64::from(machine.tone()),
+        u64::from(machine.keys().0),
+        machine.draws(),
+    ]
+}
+
+/// Prints the return addresses if they changed.
+fn write_stack(before: &Machine, after: &Machine, text: &mut Vec<u8>) -> io::Result<()> {
     if before.stack() != after.stack() {
         write!(text, " stack")?;
         for place in after.stack() {
             write!(text, " {place:03x}")?;
         }
     }
-    write_halts(before, after, text)?;
-    write_cells("memory", before.memory(), after.memory(), text)?;
-    write_rows(before, after, text)?;
-    writeln!(text)
+    Ok(())
 }
 
 /// Prints whether the machine now waits for a key, goes on, or has stopped.
@@ -128,14 +123,6 @@ fn write_halts(before: &Machine, after: &Machine, text: &mut Vec<u8>) -> io::Res
         && let Some(stop) = after.stopped()
     {
         write!(text, " stopped {}", stop.number())?;
-    }
-    Ok(())
-}
-
-/// Prints a number in hexadecimal if it changed.
-fn write_number(name: &str, before: u64, after: u64, text: &mut Vec<u8>) -> io::Result<()> {
-    if before != after {
-        write!(text, " {name} {after:x}")?;
     }
     Ok(())
 }
