@@ -4,8 +4,8 @@ use crate::help::{ENDING, SIM_ENDING};
 use c8_audit_command::{audit_command, audit_given};
 use c8_command::Status;
 use c8_front::{
-    Terminals, is_explained, run_command, show_command, status_at, tell, with_explain, with_place,
-    word_of, words_in,
+    Terminals, is_explained, run_command, show_command, status_at, tell, with_command,
+    with_explain, with_place, word_of, words_in,
 };
 use c8_host::{host_command, host_given, join_command, join_given};
 use c8_keys::run_files;
@@ -78,19 +78,24 @@ fn command<'a>(alloc: Global) -> Result<Command<'a>, AllocError> {
         .after_help(ENDING)
         .subcommand_required(true)
         .arg_required_else_help(true);
-    let command = command.subcommand(run_command(alloc)?)?;
-    let command = command.subcommand(peer_command(alloc)?)?;
-    let command = command.subcommand(play_command(alloc)?)?;
-    let command = command.subcommand(host_command(alloc)?)?;
-    let command = command.subcommand(join_command(alloc)?)?;
-    let command = command.subcommand(watch_command(alloc)?)?;
-    let command = command.subcommand(replay_command(alloc)?)?;
-    let command = command.subcommand(audit_command(alloc)?)?;
-    let command = command.subcommand(sim_command(alloc)?)?;
-    let command = command.subcommand(rig_command(alloc)?)?;
-    let command = command.subcommand(show_command(alloc)?)?;
-    let command = command.subcommand(secret_command(alloc)?)?;
-    command.subcommand(game_command(alloc)?)
+    let command = with_command(command, run_command(alloc))?;
+    let command = with_matches(alloc, command)?;
+    let command = with_command(command, replay_command(alloc))?;
+    let command = with_command(command, audit_command(alloc))?;
+    let command = with_command(command, sim_command(alloc))?;
+    let command = with_command(command, rig_command(alloc))?;
+    let command = with_command(command, show_command(alloc))?;
+    let command = with_command(command, secret_command(alloc))?;
+    with_command(command, game_command(alloc))
+}
+
+/// Adds the commands for a match with others.
+fn with_matches<'a>(alloc: Global, command: Command<'a>) -> Result<Command<'a>, AllocError> {
+    let command = with_command(command, peer_command(alloc))?;
+    let command = with_command(command, play_command(alloc))?;
+    let command = with_command(command, host_command(alloc))?;
+    let command = with_command(command, join_command(alloc))?;
+    with_command(command, watch_command(alloc))
 }
 
 fn sim_command<'a>(alloc: Global) -> Result<Command<'a>, AllocError> {
@@ -99,11 +104,11 @@ fn sim_command<'a>(alloc: Global) -> Result<Command<'a>, AllocError> {
         .after_help(SIM_ENDING);
     let command = with_place(alloc, command, "GAME", "The path of the game's text")?;
     let script = "The path of the script: one event a line";
+    let command = with_place(alloc, command, "SCRIPT", script)?;
     let journals = Arg::new(alloc, "journals")
         .long("journals")
         .value_name("DIR")
         .help("Writes each player's journal to the folder DIR at the end, as journal1 and so on");
-    let command = with_place(alloc, command, "SCRIPT", script)?;
     with_explain(alloc, command.arg(journals)?)
 }
 
@@ -121,37 +126,57 @@ where
     I: Read + Drop,
 {
     match matches.subcommand() {
-        Some(("run", given)) => {
-            let (game, keys) = (word_of(given, "GAME"), word_of(given, "KEYS"));
-            run_files(rt, game, keys, is_explained(given), out, refused)
-        }
         Some(("peer", given)) => peer_given(rt, given, input, terminals, out, refused),
         Some(("play", given)) => play_given(rt, given, out, refused),
         Some(("host", given)) => host_given(rt, given, out, refused),
         Some(("join", given)) => join_given(rt, given, input, terminals, out, refused),
         Some(("watch", given)) => watch_given(rt, given, terminals, out, refused),
-        Some(("replay", given)) => replay_given(rt, given, out, refused),
-        Some(("audit", given)) => audit_given(rt, given, out, refused),
-        Some(("sim", given)) => {
-            let (game, script) = (word_of(given, "GAME"), word_of(given, "SCRIPT"));
-            let journals = given.get_str("journals");
-            sim_files(
-                rt,
-                game,
-                script,
-                journals,
-                is_explained(given),
-                out,
-                refused,
-            )
+        Some((name, given)) => carry_out_alone(rt, name, given, out, refused),
+        None => Ok(Status::CommandLine),
+    }
+}
+
+/// Does what a command asks for that needs no other program.
+fn carry_out_alone<R, W: Write, E: Write + Send>(
+    rt: &R,
+    name: &str,
+    given: &ArgMatches,
+    out: &mut W,
+    refused: &mut E,
+) -> io::Result<Status>
+where
+    R: Files<File = File> + Net + Clock + Threads + Wait + Sync + AllocGlobal,
+{
+    match name {
+        "run" => {
+            let (game, keys) = (word_of(given, "GAME"), word_of(given, "KEYS"));
+            run_files(rt, game, keys, is_explained(given), out, refused)
         }
-        Some(("rig", given)) => rig_given(rt, given, out, refused),
-        Some(("show", given)) => {
+        "replay" => replay_given(rt, given, out, refused),
+        "audit" => audit_given(rt, given, out, refused),
+        "sim" => sim_given(rt, given, out, refused),
+        "rig" => rig_given(rt, given, out, refused),
+        "show" => {
             let word = word_of(given, "HEX");
             show(rt.alloc(), word, is_explained(given), out, refused)
         }
-        Some(("secret", _)) => secret_given(rt, out, refused),
-        Some(("game", given)) => game_given(rt, given, out, refused),
+        "secret" => secret_given(rt, out, refused),
+        "game" => game_given(rt, given, out, refused),
         _ => Ok(Status::CommandLine),
     }
+}
+
+fn sim_given<R, W: Write, E: Write>(
+    rt: &R,
+    given: &ArgMatches,
+    out: &mut W,
+    refused: &mut E,
+) -> io::Result<Status>
+where
+    R: Files<File = File> + AllocGlobal,
+{
+    let (game, script) = (word_of(given, "GAME"), word_of(given, "SCRIPT"));
+    let journals = given.get_str("journals");
+    let explain = is_explained(given);
+    sim_files(rt, game, script, journals, explain, out, refused)
 }

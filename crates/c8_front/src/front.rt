@@ -94,6 +94,14 @@ pub fn line_of<'a>(alloc: Global, command: Command<'a>) -> Result<Command<'a>, A
         .subcommand(command)
 }
 
+/// Adds a subcommand. The error is that there was no memory for it.
+pub fn with_command<'a>(
+    command: Command<'a>,
+    added: Result<Command<'a>, AllocError>,
+) -> Result<Command<'a>, AllocError> {
+    command.subcommand(added?)
+}
+
 /// The word that was given for a required argument.
 pub fn word_of<'a>(given: &ArgMatches<'a>, name: &str) -> &'a str {
     given.get_str(name).unwrap_or("")

@@ -11,6 +11,7 @@ mod stderr;
 pub use commands::{run_command, show_command};
 pub use files::is_same_file;
 pub use front::{
-    Terminals, is_explained, line_of, status_at, tell, with_explain, with_place, word_of, words_in,
+    Terminals, is_explained, line_of, status_at, tell, with_command, with_explain, with_place,
+    word_of, words_in,
 };
 pub use stderr::Unhurried;

@@ -2,7 +2,7 @@
 
 use crate::help::{HOST_ENDING, JOIN_ENDING};
 use c8_front::{with_explain, with_place};
-use c8_net::number;
+use c8_net::{file, number};
 use clap::{Arg, ArgAction, Command, value_parser};
 use std::alloc::{AllocError, Global};
 
@@ -61,24 +61,22 @@ fn with_play<'a>(
     command: Command<'a>,
     secret: &'a str,
 ) -> Result<Command<'a>, AllocError> {
-    let secret = Arg::new(alloc, "secret")
-        .long("secret")
-        .value_name("FILE")
-        .help(secret);
-    let journal = Arg::new(alloc, "journal")
-        .long("journal")
-        .value_name("FILE")
-        .help("The path of the own journal, created if it is missing [default: none]");
-    let hold = Arg::new(alloc, "hold")
-        .long("hold")
-        .value_name("N")
-        .help("How many frames a stroke counts for if the terminal reports no releases")
-        .value_parser(value_parser!(u8).range(1..))
-        .default_value("9");
+    let command = command.arg(file(alloc, "secret", secret))?;
+    let journal = "The path of the own journal, created if it is missing [default: none]";
+    let command = command.arg(file(alloc, "journal", journal))?;
+    let command = command.arg(hold_of(alloc))?;
     let mute = Arg::new(alloc, "mute")
         .long("mute")
         .help("Rings no bell when a tone begins")
         .action(ArgAction::SetTrue);
-    let command = command.arg(secret)?.arg(journal)?.arg(hold)?.arg(mute)?;
-    with_explain(alloc, command)
+    with_explain(alloc, command.arg(mute)?)
+}
+
+fn hold_of<'a>(alloc: Global) -> Arg<'a> {
+    Arg::new(alloc, "hold")
+        .long("hold")
+        .value_name("N")
+        .help("How many frames a stroke counts for if the terminal reports no releases")
+        .value_parser(value_parser!(u8).range(1..))
+        .default_value("9")
 }

@@ -62,27 +62,68 @@ where
         writeln!(refused, "error: host wants a terminal")?;
         return Ok(Status::CommandLine);
     };
+    match invited(rt, given, refused) {
+        Ok(Ok((wanted, note))) => {
+            let console = console.with_note(note.as_bytes());
+            play(rt, given, &wanted, console, out, refused)
+        }
+        Ok(Err(status)) => Ok(status),
+        Err(error) => Err(error),
+    }
+}
+
+/// The match that a host invites to, and the note on the screen; the invitation is written. Returns the status if the
+/// secret's file fails.
+fn invited<R, E>(
+    rt: &R,
+    given: &ArgMatches<'_>,
+    refused: &mut E,
+) -> io::Result<Result<(Match, String), Status>>
+where
+    R: Files<File = File> + AllocGlobal,
+    E: Write,
+{
     let secret = secret_path(rt.alloc(), given)?;
     let room = match made(rt, secret.as_str()) {
         Ok(drawn) => number_of(given, "room").unwrap_or(drawn),
         Err(error) => {
             let site = is_explained(given).then_some(Site::File(secret.as_str()));
-            return Refusal::DISK.tell_at(site, &error, refused);
+            return Ok(Err(Refusal::DISK.tell_at(site, &error, refused)?));
         }
     };
     let port = given.get_one::<u16>("port").unwrap_or(4001);
-    let lines = lines_of(rt, given, secret.as_str(), port, room)?;
+    let note = invite(rt, given, secret.as_str(), port, room, refused)?;
+    let wanted = hosted(rt.alloc(), secret, port, room)?;
+    Ok(Ok((wanted, note)))
+}
+
+/// Writes the invitation, and returns the note on the screen.
+fn invite<R, E>(
+    rt: &R,
+    given: &ArgMatches<'_>,
+    secret: &str,
+    port: u16,
+    room: u64,
+    refused: &mut E,
+) -> io::Result<String>
+where
+    R: Files<File = File> + AllocGlobal,
+    E: Write,
+{
+    let lines = lines_of(rt, given, secret, port, room)?;
     refused.write_all(lines.as_bytes())?;
-    let note = note(rt.alloc(), lines.as_str())?;
-    let wanted = Match {
+    Ok(note(rt.alloc(), lines.as_str())?)
+}
+
+/// The match of a host.
+fn hosted(alloc: Global, secret: String, port: u16, room: u64) -> Result<Match, AllocError> {
+    Ok(Match {
         player: Player::CHAIR,
-        local: format!(in rt.alloc(); "0.0.0.0:{port}")?,
-        remote: format!(in rt.alloc(); "{NONE}")?,
+        local: format!(in alloc; "0.0.0.0:{port}")?,
+        remote: format!(in alloc; "{NONE}")?,
         room,
         secret,
-    };
-    let console = console.with_note(note.as_bytes());
-    play(rt, given, &wanted, console, out, refused)
+    })
 }
 
 /// Runs `join` as the command line asks, and plays as player 2. If the secret's file is missing, it reads the digits from
@@ -108,20 +149,44 @@ where
         writeln!(refused, "error: join wants a terminal")?;
         return Ok(Status::CommandLine);
     };
+    match joined(rt, given, input, terminals, refused) {
+        Ok(Ok(wanted)) => play(rt, given, &wanted, console, out, refused),
+        Ok(Err(status)) => Ok(status),
+        Err(error) => Err(error),
+    }
+}
+
+/// The match that a friend joins. Returns the status if the secret is refused, or its file fails.
+fn joined<R, I, E>(
+    rt: &R,
+    given: &ArgMatches<'_>,
+    input: I,
+    terminals: Terminals,
+    refused: &mut E,
+) -> io::Result<Result<Match, Status>>
+where
+    R: Files<File = File> + AllocGlobal,
+    I: Read + Drop,
+    E: Write,
+{
     let secret = secret_path(rt.alloc(), given)?;
     if let Some(status) = ask(rt, given, secret.as_str(), input, terminals, refused)? {
-        return Ok(status);
+        return Ok(Err(status));
     }
+    Ok(Ok(met(rt.alloc(), given, secret)?))
+}
+
+/// The match of a friend who joins.
+fn met(alloc: Global, given: &ArgMatches<'_>, secret: String) -> Result<Match, AllocError> {
     let address = word_of(given, "ADDRESS");
     let port = given.get_one::<u16>("port").unwrap_or(0);
-    let wanted = Match {
+    Ok(Match {
         player: Player { number: 2 },
-        local: format!(in rt.alloc(); "{}:{port}", all_for(address))?,
-        remote: format!(in rt.alloc(); "{address}")?,
+        local: format!(in alloc; "{}:{port}", all_for(address))?,
+        remote: format!(in alloc; "{address}")?,
         room: number_of(given, "ROOM").unwrap_or(0),
         secret,
-    };
-    play(rt, given, &wanted, console, out, refused)
+    })
 }
 
 /// Asks for the digits of the secret if its file is missing, and makes the file. Returns the status if that is refused.
@@ -178,10 +243,10 @@ where
     E: Write,
 {
     let words = words_of(rt.alloc(), given, wanted)?;
-    let command = play_command(rt.alloc())?;
-    let matches = match command.try_get_matches_from(words.as_slice()) {
-        Ok(matches) => matches,
-        Err(error) => return tell(&error, out, refused),
+    let matches = match matches_in(rt.alloc(), words.as_slice()) {
+        Ok(Ok(matches)) => matches,
+        Ok(Err(error)) => return tell(&error, out, refused),
+        Err(error) => return Err(error.into()),
     };
     let asked = Asked {
         says_end: true,
@@ -191,7 +256,30 @@ where
     };
     let hold = given.get_one::<u8>("hold").unwrap_or(9).max(1);
     let pace = Pace { rate: RATE, hold };
-    let status = perform_given(rt, &asked, Live { console, pace }, out, refused)?;
+    play_asked(rt, &asked, Live { console, pace }, out, refused)
+}
+
+/// What a command line of `play` asks for.
+fn matches_in<'a>(
+    alloc: Global,
+    words: &'a [String],
+) -> Result<Result<ArgMatches<'a>, clap::Error>, AllocError> {
+    Ok(play_command(alloc)?.try_get_matches_from(words))
+}
+
+fn play_asked<R, W, E>(
+    rt: &R,
+    asked: &Asked<'_, '_>,
+    live: Live<Terminal<'_, R>>,
+    out: &mut W,
+    refused: &mut E,
+) -> io::Result<Status>
+where
+    R: Files<File = File> + Net + Clock + AllocGlobal,
+    W: Write,
+    E: Write,
+{
+    let status = perform_given(rt, asked, live, out, refused)?;
     if status == Status::Done && !asked.has_no_journal() {
         let (game, journal) = (asked.game, asked.journal);
         writeln!(
@@ -208,6 +296,17 @@ fn words_of(
     given: &ArgMatches<'_>,
     wanted: &Match,
 ) -> Result<Vec<String>, AllocError> {
+    let mut words = Vec::new(alloc);
+    add_words(alloc, given, wanted, &mut words)?;
+    Ok(words)
+}
+
+fn add_words(
+    alloc: Global,
+    given: &ArgMatches<'_>,
+    wanted: &Match,
+    words: &mut Vec<String>,
+) -> Result<(), AllocError> {
     let Match {
         player,
         local,
@@ -216,7 +315,6 @@ fn words_of(
         secret,
     } = wanted;
     let journal = given.get_str("journal").unwrap_or(NONE);
-    let mut words = Vec::new(alloc);
     words.push(format!(in alloc; "play")?)?;
     words.push(format!(in alloc; "--room={room}")?)?;
     words.push(format!(in alloc; "--secret={secret}")?)?;
@@ -225,7 +323,7 @@ fn words_of(
     words.push(format!(in alloc; "{journal}")?)?;
     words.push(format!(in alloc; "{local}")?)?;
     words.push(format!(in alloc; "{remote}")?)?;
-    Ok(words)
+    Ok(())
 }
 
 /// The path of the secret: the one that is given, or that of the game with `.secret` behind it.

@@ -71,15 +71,16 @@ pub fn peer_command<'a>(alloc: Global) -> Result<Command<'a>, AllocError> {
             "Plays a game with others over UDP, and prints the machine after the confirmed frames",
         )
         .after_help(PEER_ENDING);
+    let command = with_room(alloc, with_players(alloc, command)?)?;
     let turns = number(
         alloc,
         "turns",
         "Ends after N turns, of at least a millisecond each",
     );
+    let command = command.arg(turns.default_value("100000"))?;
     let progress =
         "Says each second, on standard error, how far the game is, and then how it ended";
-    let command = with_players(alloc, command)?;
-    with_options(alloc, command, turns.default_value("100000"), progress)
+    with_options(alloc, command, progress)
 }
 
 /// Adds the arguments of `peer`: game, player, journal and addresses.
@@ -101,20 +102,18 @@ fn with_players<'a>(alloc: Global, command: Command<'a>) -> Result<Command<'a>, 
     command.arg(remote)
 }
 
-/// Adds the options of a command that plays a match, with its own option of turns and its own help for `--progress`.
+/// Adds the option `--room`.
+pub fn with_room<'a>(alloc: Global, command: Command<'a>) -> Result<Command<'a>, AllocError> {
+    let room = "The number of the match, the same for all its players [default: 0]";
+    command.arg(number(alloc, "room", room))
+}
+
+/// Adds the options of a command that plays a match, but for `--room` and `--turns`; with its own help for `--progress`.
 pub fn with_options<'a>(
     alloc: Global,
     command: Command<'a>,
-    turns: Arg<'a>,
     progress: &'a str,
 ) -> Result<Command<'a>, AllocError> {
-    let room = number(
-        alloc,
-        "room",
-        "The number of the match, the same for all its players [default: 0]",
-    );
-    let command = command.arg(room)?;
-    let command = command.arg(turns)?;
     let patience = "Player 1 drops a player after N silent turns [default: never]";
     let command = command.arg(number(alloc, "patience", patience))?;
     let stop = "Ends once N frames are confirmed [default: never]";
@@ -151,7 +150,7 @@ fn with_watcher<'a>(
 }
 
 /// An option that takes the path of a file.
-pub(crate) fn file<'a>(alloc: Global, name: &'a str, help: &'a str) -> Arg<'a> {
+pub fn file<'a>(alloc: Global, name: &'a str, help: &'a str) -> Arg<'a> {
     Arg::new(alloc, name)
         .long(name)
         .value_name("FILE")

@@ -20,7 +20,9 @@ mod seals;
 mod stage;
 mod watching;
 
-pub use arguments::{Asked, asked_for, number, number_of, peer_command, with_options};
+pub use arguments::{
+    Asked, asked_for, file, number, number_of, peer_command, with_options, with_room,
+};
 pub use command::{peer, peer_given, perform, perform_given, refuse};
 pub use error::{PeerError, Unopened};
 pub use fault::{Fault, game_at};

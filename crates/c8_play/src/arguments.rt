@@ -4,7 +4,7 @@ use crate::desk::Pace;
 use crate::help::PLAY_ENDING;
 use c8_front::{with_place, word_of};
 use c8_game::Player;
-use c8_net::{number, with_options};
+use c8_net::{number, with_options, with_room};
 use clap::{Arg, ArgAction, ArgMatches, Command, value_parser};
 use std::alloc::{AllocError, Global};
 
@@ -22,14 +22,12 @@ pub fn play_command<'a>(alloc: Global) -> Result<Command<'a>, AllocError> {
     let command = Command::new(alloc, "play")
         .about("Plays a game at the keyboard, alone or with others over UDP")
         .after_help(PLAY_ENDING);
-    let turns = number(
-        alloc,
-        "turns",
-        "Ends after N turns, one a frame [default: no end]",
-    );
+    let command = with_room(alloc, with_players(alloc, command)?)?;
+    let turns = "Ends after N turns, one a frame [default: no end]";
+    let command = command.arg(number(alloc, "turns", turns))?;
     let progress =
         "Says at the end, on standard error, how late frames were, and how the match ended";
-    let command = with_options(alloc, with_players(alloc, command)?, turns, progress)?;
+    let command = with_options(alloc, command, progress)?;
     let rate = Arg::new(alloc, "rate")
         .long("rate")
         .value_name("N")
@@ -43,11 +41,12 @@ pub fn play_command<'a>(alloc: Global) -> Result<Command<'a>, AllocError> {
         .help("How many frames a stroke counts for if the terminal reports no releases")
         .value_parser(value_parser!(u8).range(1..))
         .default_value("9");
+    let command = command.arg(hold)?;
     let mute = Arg::new(alloc, "mute")
         .long("mute")
         .help("Rings no bell when a tone begins")
         .action(ArgAction::SetTrue);
-    command.arg(hold)?.arg(mute)
+    command.arg(mute)
 }
 
 /// Adds the arguments that say who plays what.

@@ -20,11 +20,12 @@ pub fn game_command<'a>(alloc: Global) -> Result<Command<'a>, AllocError> {
         .value_name("N=LIST")
         .help("The keys of player N, as hexadecimal digits; once for each player")
         .action(ArgAction::Append);
+    let command = command.arg(keys)?;
     let list = Arg::new(alloc, "list")
         .long("list")
         .help("Lists the instructions instead")
         .action(ArgAction::SetTrue);
-    with_explain(alloc, command.arg(keys)?.arg(list)?)
+    with_explain(alloc, command.arg(list)?)
 }
 
 /// Adds the options for the numbers of a game.
@@ -32,12 +33,15 @@ fn with_numbers<'a>(alloc: Global, command: Command<'a>) -> Result<Command<'a>, 
     let players = option(alloc, "players", "How many players, 2 to 4")
         .value_parser(value_parser!(u8).range(2..5))
         .default_value("2");
+    let command = command.arg(players)?;
     let ipf = option(alloc, "ipf", "Instructions a frame, 1 to 100")
         .value_parser(value_parser!(u8).range(1..101))
         .default_value("10");
+    let command = command.arg(ipf)?;
     let frames = option(alloc, "frames", "Frames of the game, 1 to 262144")
         .value_parser(value_parser!(u32).range(1..262_145))
         .default_value("36000");
+    let command = command.arg(frames)?;
     let delay = option(
         alloc,
         "delay",
@@ -45,6 +49,7 @@ fn with_numbers<'a>(alloc: Global, command: Command<'a>) -> Result<Command<'a>, 
     )
     .value_parser(value_parser!(u8).range(0..5))
     .default_value("2");
+    let command = command.arg(delay)?;
     let window = option(
         alloc,
         "window",
@@ -52,14 +57,15 @@ fn with_numbers<'a>(alloc: Global, command: Command<'a>) -> Result<Command<'a>, 
     )
     .value_parser(value_parser!(u8).range(1..13))
     .default_value("8");
-    let command = command.arg(players)?.arg(ipf)?.arg(frames)?;
+    let command = command.arg(window)?;
     let seed = option(alloc, "seed", "The seed of the random bytes")
         .value_parser(value_parser!(u64))
         .default_value("0");
+    let command = command.arg(seed)?;
     let wire = option(alloc, "wire", "The version of the datagrams, 1 or 2")
         .value_parser(value_parser!(u8).range(1..3))
         .default_value("1");
-    command.arg(delay)?.arg(window)?.arg(seed)?.arg(wire)
+    command.arg(wire)
 }
 
 fn option<'a>(alloc: Global, name: &'a str, help: &'a str) -> Arg<'a> {

@@ -75,13 +75,14 @@ fn with_screen<'a>(alloc: Global, command: Command<'a>) -> Result<Command<'a>, A
         .action(ArgAction::SetTrue)
         .conflicts_with("keys")?
         .conflicts_with("page")?;
+    let command = command.arg(screen)?;
     let rate = Arg::new(alloc, "rate")
         .long("rate")
         .value_name("N")
         .help("With --screen: how many frames a second, 1 to 120")
         .value_parser(value_parser!(u8).range(1..121))
         .default_value("60");
-    command.arg(screen)?.arg(rate)
+    command.arg(rate)
 }
 
 /// An option that takes a number.

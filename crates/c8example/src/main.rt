@@ -51,45 +51,61 @@ impl Wire for Lossy {
     }
 }
 
-/// The session of a player, with its journal in memory.
-fn session_of<'g>(alloc: Global, game: &'g Game, number: u8) -> Option<Session<'g, MemDisk>> {
+/// A player's session, with its journal in memory, and its end of the way to the other player.
+#[derive(Drop)]
+struct Side<'g> {
+    session: Session<'g, MemDisk>,
+    wire: Lossy,
+}
+
+/// The side of a player with one end of the way.
+fn side_of<'g>(alloc: Global, game: &'g Game, number: u8, wire: Lossy) -> Option<Side<'g>> {
+    let session = session_of(alloc, game, Player::new(number)?)?;
+    Some(Side { session, wire })
+}
+
+fn session_of<'g>(alloc: Global, game: &'g Game, player: Player) -> Option<Session<'g, MemDisk>> {
     let disk = MemDisk::new(alloc, 100_000, 4000).ok()?;
     let room = 7;
-    match Peer::open(alloc, disk, game, Player::new(number)?, room) {
-        Ok(peer) => Some(Session::new(peer, game, None, 0)),
-        Err(_) => None,
-    }
+    let peer = Peer::open(alloc, disk, game, player, room).ok()?;
+    Some(Session::new(peer, game, None, 0))
+}
+
+/// The two ends of the way between the players.
+fn ends(alloc: Global) -> Option<(Lossy, Lossy)> {
+    let (to_two, from_one) = inlet(alloc, 64).ok()?;
+    let (to_one, from_two) = inlet(alloc, 64).ok()?;
+    Some((end(to_two, from_two), end(to_one, from_one)))
+}
+
+fn end(out: Putter, back: Taker) -> Lossy {
+    Lossy { out, back, sent: 0 }
 }
 
 /// Plays the game to its end, and prints what each player has. `None` if there is no memory or an output fails.
 fn play<W: Write>(alloc: Global, out: &mut W) -> Option<()> {
     let game = Game::read(alloc, GAME).ok()?;
-    let (to_two, from_one) = inlet(alloc, 64).ok()?;
-    let (to_one, from_two) = inlet(alloc, 64).ok()?;
-    let mut left = Lossy {
-        out: to_two,
-        back: from_two,
-        sent: 0,
-    };
-    let mut right = Lossy {
-        out: to_one,
-        back: from_one,
-        sent: 0,
-    };
-    let mut one = session_of(alloc, &game, 1)?;
-    let mut two = session_of(alloc, &game, 2)?;
+    let (left, right) = ends(alloc)?;
+    let mut one = side_of(alloc, &game, 1, left)?;
+    let mut two = side_of(alloc, &game, 2, right)?;
+    meet(&mut one, &mut two, out)
+}
+
+fn meet<W: Write>(one: &mut Side<'_>, two: &mut Side<'_>, out: &mut W) -> Option<()> {
     for turn in 0..10_000_u16 {
-        if one.is_over() && two.is_over() {
+        if one.session.is_over() && two.session.is_over() {
             break;
         }
-        one.turn(Some(Keys(turn / 7)), &mut left).ok()?;
-        two.turn(Some(Keys(turn * 3)), &mut right).ok()?;
+        one.session.turn(Some(Keys(turn / 7)), &mut one.wire).ok()?;
+        two.session.turn(Some(Keys(turn * 3)), &mut two.wire).ok()?;
     }
-    for session in [&one, &two] {
-        let (frames, machine) = session.peer().base();
-        write_report(out, frames, machine).ok()?;
-    }
-    Some(())
+    report(&one.session, out)?;
+    report(&two.session, out)
+}
+
+fn report<W: Write>(session: &Session<'_, MemDisk>, out: &mut W) -> Option<()> {
+    let (frames, machine) = session.peer().base();
+    write_report(out, frames, machine).ok()
 }
 
 fn main(rt: HostRuntime) -> ExitCode {

@@ -3,12 +3,14 @@
 #![tactic(auto)]
 
 use c8_command::Status;
-use c8_front::{Terminals, Unhurried, line_of, status_at, tell, words_in};
+use c8_front::{Terminals, Unhurried, line_of, status_at, tell, with_command, words_in};
 use c8_host::{host_command, host_given, join_command, join_given};
 use c8_net::{peer_command, peer_given, watch_command, watch_given};
 use c8_play::{play_command, play_given};
 use c8_program::{game_command, game_given};
 use c8_secret::{secret_command, secret_given};
+use clap::{ArgMatches, Command};
+use std::alloc::{AllocError, Global};
 use std::env::Args;
 use std::fs::File;
 use std::io::{IsTerminal, Read, Write};
@@ -49,24 +51,44 @@ where
     let Some(words) = words_in(alloc, args, refused)? else {
         return Ok(Status::CommandLine);
     };
-    let command = line_of(alloc, peer_command(alloc)?)?;
-    let command = command.subcommand(play_command(alloc)?)?;
-    let command = command.subcommand(host_command(alloc)?)?;
-    let command = command.subcommand(join_command(alloc)?)?;
-    let command = command.subcommand(watch_command(alloc)?)?;
-    let command = command.subcommand(secret_command(alloc)?)?;
-    let command = command.subcommand(game_command(alloc)?)?;
-    match command.try_get_matches_from(words.as_slice()) {
-        Ok(matches) => match matches.subcommand() {
-            Some(("peer", given)) => peer_given(rt, given, input, terminals, out, refused),
-            Some(("play", given)) => play_given(rt, given, out, refused),
-            Some(("host", given)) => host_given(rt, given, out, refused),
-            Some(("join", given)) => join_given(rt, given, input, terminals, out, refused),
-            Some(("watch", given)) => watch_given(rt, given, terminals, out, refused),
-            Some(("secret", _)) => secret_given(rt, out, refused),
-            Some(("game", given)) => game_given(rt, given, out, refused),
-            _ => Ok(Status::CommandLine),
-        },
+    match command(alloc)?.try_get_matches_from(words.as_slice()) {
+        Ok(matches) => carry_out(rt, &matches, input, out, terminals, refused),
         Err(error) => tell(&error, out, refused),
+    }
+}
+
+/// The command line of the program.
+fn command<'a>(alloc: Global) -> Result<Command<'a>, AllocError> {
+    let command = line_of(alloc, peer_command(alloc)?)?;
+    let command = with_command(command, play_command(alloc))?;
+    let command = with_command(command, host_command(alloc))?;
+    let command = with_command(command, join_command(alloc))?;
+    let command = with_command(command, watch_command(alloc))?;
+    let command = with_command(command, secret_command(alloc))?;
+    with_command(command, game_command(alloc))
+}
+
+/// Does what a command line without a mistake asks for.
+fn carry_out<R, I, W: Write, E: Write + Send>(
+    rt: &R,
+    matches: &ArgMatches,
+    input: I,
+    out: &mut W,
+    terminals: Terminals,
+    refused: &mut E,
+) -> io::Result<Status>
+where
+    R: Files<File = File> + Net + Clock + Threads + Wait + Sync + AllocGlobal,
+    I: Read + Drop,
+{
+    match matches.subcommand() {
+        Some(("peer", given)) => peer_given(rt, given, input, terminals, out, refused),
+        Some(("play", given)) => play_given(rt, given, out, refused),
+        Some(("host", given)) => host_given(rt, given, out, refused),
+        Some(("join", given)) => join_given(rt, given, input, terminals, out, refused),
+        Some(("watch", given)) => watch_given(rt, given, terminals, out, refused),
+        Some(("secret", _)) => secret_given(rt, out, refused),
+        Some(("game", given)) => game_given(rt, given, out, refused),
+        _ => Ok(Status::CommandLine),
     }
 }

@@ -9,7 +9,7 @@ use std::rt::Files;
 use std::sync::Wait;
 use std::thread::Threads;
 use std::time::Clock;
-use std::{fs, io};
+use std::{fs, io, mem};
 
 /// The input of a command, and its expected output.
 #[derive(Drop)]
@@ -59,37 +59,66 @@ impl Command {
 }
 
 /// Runs a command, and describes what differs.
-pub fn differences<R>(rt: &R, command: Command) -> io::Result<Vec<u8>>
+pub fn differences<R>(rt: &R, command: &mut Command) -> io::Result<Vec<u8>>
+where
+    R: Files<File = File> + Net + Clock + Threads + Wait + Sync + AllocGlobal,
+{
+    let mut told = Vec::new(rt.alloc());
+    describe(rt, command, &mut told)?;
+    Ok(told)
+}
+
+fn describe<R>(rt: &R, command: &mut Command, told: &mut Vec<u8>) -> io::Result<()>
 where
     R: Files<File = File> + Net + Clock + Threads + Wait + Sync + AllocGlobal,
 {
     for (name, text) in &command.files {
         fs::write(rt, name.as_str(), text.as_slice())?;
     }
-    let (mut printed, mut refused) = (Vec::new(rt.alloc()), Vec::new(rt.alloc()));
-    let args = Ok(command.words.into_iter());
-    let input = command.input.as_slice();
-    let status = c8_cli::answer(
-        rt,
-        args,
-        input,
-        &mut printed,
-        Terminals::NONE,
-        &mut refused,
-    ).code();
-    let mut told = Vec::new(rt.alloc());
-    compare(&mut told, "printed", &command.printed, &printed)?;
-    if !command.refuses_somehow {
-        compare(&mut told, "refused", &command.refused, &refused)?;
-    } else if refused.is_empty() {
-        writeln!(told, "wanted refused some, came none")?;
-    }
-    compare_numbers(&mut told, "status", command.status, usize::from(status))?;
+    let came = run(rt, command);
+    came.compare(command, told)?;
     for (name, length) in &command.lengths {
         let came = fs::read(rt, name.as_str())?.len();
-        compare_numbers(&mut told, "length", *length, came)?;
+        compare_numbers(told, "length", *length, came)?;
     }
-    Ok(told)
+    Ok(())
+}
+
+/// What a command wrote, and its exit status.
+#[derive(Drop)]
+struct Came {
+    printed: Vec<u8>,
+    refused: Vec<u8>,
+    status: u8,
+}
+
+fn run<R>(rt: &R, command: &mut Command) -> Came
+where
+    R: Files<File = File> + Net + Clock + Threads + Wait + Sync + AllocGlobal,
+{
+    let args = Ok(mem::replace(&mut command.words, Vec::new(rt.alloc())).into_iter());
+    let (mut printed, mut refused) = (Vec::new(rt.alloc()), Vec::new(rt.alloc()));
+    let input = command.input.as_slice();
+    let none = Terminals::NONE;
+    let status = c8_cli::answer(rt, args, input, &mut printed, none, &mut refused).code();
+    Came {
+        printed,
+        refused,
+        status,
+    }
+}
+
+impl Came {
+    /// Describes what differs from what a command expects.
+    fn compare(&self, command: &Command, told: &mut Vec<u8>) -> io::Result<()> {
+        compare(told, "printed", &command.printed, &self.printed)?;
+        if !command.refuses_somehow {
+            compare(told, "refused", &command.refused, &self.refused)?;
+        } else if self.refused.is_empty() {
+            writeln!(told, "wanted refused some, came none")?;
+        }
+        compare_numbers(told, "status", command.status, usize::from(self.status))
+    }
 }
 
 /// Describes two texts if they differ.

@@ -46,8 +46,8 @@ where
     R: Files<File = File> + Net + Clock + Threads + Wait + Sync + AllocGlobal,
 {
     let mut told = Vec::new(rt.alloc());
-    for (place, command) in commands?.into_iter().enumerate() {
-        let found = differences(rt, command)?;
+    for (place, mut command) in commands?.into_iter().enumerate() {
+        let found = differences(rt, &mut command)?;
         if !found.is_empty() {
             writeln!(told, "command {}", place.saturating_add(1))?;
             told.write_all(&found)?;
