@@ -1,5 +1,5 @@
-//! The tests of c8_disk and c8_log that no case can be: disks in files of a system that stands in, and crashes
-//! beside the rule for them.
+//! The tests of c8_disk and c8_log that no case can be: disks in files of a system that stands in, a disk that lends no
+//! bytes, and crashes beside the rule for them.
 #![tactic(auto)]
 
 #[cfg(test)]
@@ -10,3 +10,5 @@ mod disk;
 mod file;
 #[cfg(test)]
 mod texts;
+#[cfg(test)]
+mod unlent;
