@@ -10,7 +10,7 @@ mod error;
 mod help;
 mod report;
 
-pub use arguments::audit_command;
+pub use arguments::AUDIT;
 pub use command::audit_given;
 pub use error::AuditFault;
 pub use report::write_audit;

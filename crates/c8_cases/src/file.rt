@@ -82,23 +82,43 @@ fn run_case(
     let Some([front @ .., last]) = script.sections.get(begin..end) else {
         return Ok(copied);
     };
-    let first = front.first().unwrap_or(last).first;
-    let game = game_in(alloc, script, (first, last.last), b"game")?;
-    let other = game_in(alloc, script, (first, last.last), b"game other")?;
+    let commands = (front.first().unwrap_or(last).first, last.last);
+    let game = game_in(alloc, script, commands, b"game")?;
+    let other = game_in(alloc, script, commands, b"game other")?;
     let case = Case {
         alloc,
         script,
-        first,
+        first: commands.0,
         game: game.as_ref(),
         other: other.as_ref(),
     };
-    let mut stage = Stage::new(alloc, case.game, case.other)?;
-    let mut out = Answers::new(alloc);
-    let mut copied = copied;
+    run_sections(name, case, (begin, end, copied), ran)
+}
+
+/// The same in the games of a case.
+fn run_sections(
+    name: &str,
+    case: Case<'_, '_, '_>,
+    (begin, end, copied): (usize, usize, usize),
+    ran: &mut Ran,
+) -> io::Result<usize> {
+    let mut stage = Stage::new(case.alloc, case.game, case.other)?;
+    run_sections_on(name, case, (begin, end, copied), &mut stage, ran)
+}
+
+fn run_sections_on<'g>(
+    name: &str,
+    case: Case<'g, '_, '_>,
+    (begin, end, copied): (usize, usize, usize),
+    stage: &mut Stage<'g>,
+    ran: &mut Ran,
+) -> io::Result<usize> {
+    let script = case.script;
+    let (mut out, mut copied) = (Answers::new(case.alloc), copied);
     for place in begin..end {
         if let Some(section) = script.sections.get(place).copied() {
             copy(script, copied, section.rule.saturating_add(1), ran)?;
-            run_section(name, case, section, &mut stage, &mut out, ran)?;
+            run_section(name, case, section, stage, &mut out, ran)?;
             copied = section.end;
         }
     }

@@ -31,9 +31,31 @@ impl<'g, 's, 't> Case<'g, 's, 't> {
             return Ok(false);
         };
         let all = words_in(self.alloc, script.line(command.line))?;
-        let block = script.block(command);
         let (words, many) = without_times(&all);
-        let (mut last, mut count) = (Vec::new(self.alloc), 0usize);
+        let mut last = Vec::new(self.alloc);
+        self.perform_times(
+            (place, many),
+            words,
+            script.block(command),
+            stage,
+            out,
+            &mut last,
+            text,
+        )
+    }
+
+    /// Does it many times. `last` is what it printed last.
+    fn perform_times(
+        self,
+        (place, many): (usize, usize),
+        words: &[&str],
+        block: &[&[u8]],
+        stage: &mut Stage<'g>,
+        out: &mut Answers,
+        last: &mut Vec<u8>,
+        text: &mut Vec<u8>,
+    ) -> io::Result<bool> {
+        let mut count = 0usize;
         for turn in 0..many {
             out.text.clear();
             match self.perform_once((place, turn), words, block, stage, out) {
@@ -41,16 +63,16 @@ impl<'g, 's, 't> Case<'g, 's, 't> {
                 Err(error) if error.kind() == ErrorKind::InvalidInput => return Ok(false),
                 Err(error) => return Err(error),
             }
-            if count > 0 && last == out.text {
+            if count > 0 && *last == out.text {
                 count = count.saturating_add(1);
             } else {
-                add(text, &last, count)?;
+                add(text, last, count)?;
                 last.clear();
                 last.extend_from_slice(&out.text)?;
                 count = 1;
             }
         }
-        add(text, &last, count)?;
+        add(text, last, count)?;
         Ok(many > 0)
     }
 
@@ -82,11 +104,16 @@ impl<'g, 's, 't> Case<'g, 's, 't> {
     /// A stage after the commands up to a place.
     pub(crate) fn replayed(self, place: usize) -> io::Result<Stage<'g>> {
         let mut stage = Stage::new(self.alloc, self.game, self.other)?;
+        self.replay_to(place, &mut stage)?;
+        Ok(stage)
+    }
+
+    fn replay_to(self, place: usize, stage: &mut Stage<'g>) -> io::Result<()> {
         let script = self.script;
         for command in script.commands(self.first, place) {
-            self.replay(*command, &mut stage)?;
+            self.replay(*command, stage)?;
         }
-        Ok(stage)
+        Ok(())
     }
 
     /// Does what a command says, and prints nothing.

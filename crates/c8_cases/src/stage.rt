@@ -12,6 +12,7 @@ use c8_part_cases::{
     write_at,
 };
 use c8_peer::{Kind, Peer};
+use c8_wire::Watcher;
 use std::alloc::{AllocError, Global};
 use std::io;
 
@@ -62,30 +63,61 @@ impl<'g> Stage<'g> {
         block: &[&[u8]],
         out: &mut Answers,
     ) -> io::Result<()> {
-        match words {
-            ["game"] | ["game", "other"] => self.judge_game(block, out),
-            ["why"] => out.explain(),
-            ["meet"] => self.meet(),
-            ["disk", at @ ("1" | "2" | "3" | "4"), capacity, calls] => {
-                self.put(player_in(at)?, count_in(capacity)?, count_in(calls)?)
-            }
-            ["watch" | "show" | "seen", ..] => self.watch(words, out),
-            ["deliver", seat @ ("5" | "6"), "said", number, change @ ..] => {
-                let letter = self.said(size_in(number)?, change)?;
-                self.watchers.hear(watcher_in(seat)?, letter.bytes(), out)
-            }
-            [
-                verb @ ("look" | "begin_again"),
-                seat @ ("5" | "6"),
-                rest @ ..,
-            ] => { self.watchers.call(verb, watcher_in(seat)?, rest, out) }
-            [verb @ ("open" | "carry" | "say" | "deliver"), at, rest @ ..] => {
+        let [verb, rest @ ..] = words else {
+            return Err(unreadable());
+        };
+        match *verb {
+            "game" => self.judge_game(block, out),
+            "why" => out.explain(),
+            "meet" => self.meet(),
+            "watch" | "show" | "seen" => self.watch(words, out),
+            "disk" => match rest {
+                [at, capacity, calls] if player_in(at).is_ok() => {
+                    self.put(player_in(at)?, count_in(capacity)?, count_in(calls)?)
+                }
+                _ => self.desk.perform(words, block, out),
+            },
+            _ if is_of_seats(verb) => self.perform_seated(verb, rest, block, out),
+            _ => self.desk.perform(words, block, out),
+        }
+    }
+
+    /// Does what a command says of a player or a watcher.
+    fn perform_seated(
+        &mut self,
+        verb: &str,
+        words: &[&str],
+        block: &[&[u8]],
+        out: &mut Answers,
+    ) -> io::Result<()> {
+        let [at, rest @ ..] = words else {
+            return Err(unreadable());
+        };
+        if let Ok(seat) = watcher_in(at) {
+            return self.perform_watching(verb, seat, rest, out);
+        }
+        match verb {
+            "open" | "carry" | "say" | "deliver" => {
                 self.perform_at(verb, player_in(at)?, rest, block, out)
             }
-            [verb, at, rest @ ..] if is_of_peers(verb) => {
-                self.perform_alone(verb, player_in(at)?, rest, block, out)
+            _ => self.perform_alone(verb, player_in(at)?, rest, block, out),
+        }
+    }
+
+    /// Does what a command says of a watcher that is open.
+    fn perform_watching(
+        &mut self,
+        verb: &str,
+        seat: Watcher,
+        words: &[&str],
+        out: &mut Answers,
+    ) -> io::Result<()> {
+        match (verb, words) {
+            ("deliver", ["said", number, change @ ..]) => {
+                let letter = self.said(size_in(number)?, change)?;
+                self.watchers.hear(seat, letter.bytes(), out)
             }
-            _ => self.desk.perform(words, block, out),
+            _ => self.watchers.call(verb, seat, words, out),
         }
     }
 
@@ -199,24 +231,18 @@ impl<'g> Stage<'g> {
         };
         match (verb, rest) {
             ("write", [place, bytes @ ..]) => {
-                let bytes = bytes_in(alloc, bytes, block, 0)?;
-                write_at(node.bare()?, place_in(place)?, &bytes, out)?;
+                let place = place_in(place)?;
+                write_at(node.bare()?, place, &bytes_in(alloc, bytes, block, 0)?, out)
             }
             ("add", bytes) => {
                 let bytes = bytes_in(alloc, bytes, block, SLOT_LENGTH)?;
-                add_slot(node.bare()?, &bytes, out)?;
+                add_slot(node.bare()?, &bytes, out)
             }
-            ("close", []) => node.close(),
-            ("crash", [pick]) => node.crash(number_in(pick)?),
-            ("arm", how) => node.arm(arm_in(how)?),
-            ("length", []) => out.tell(node.image().len())?,
-            ("journal", which) => journal(node.image(), which, out)?,
-            _ => match &mut node.peer {
-                Some(peer) => call(peer, verb, rest, out)?,
-                None => out.tell("no peer")?,
-            },
+            ("arm", how) => Ok(node.arm(arm_in(how)?)),
+            ("length", []) => out.tell(node.image().len()),
+            ("journal", which) => journal(node.image(), which, out),
+            _ => call_node(node, verb, rest, out),
         }
-        Ok(())
     }
 
     /// Prints why a text is no game.
@@ -343,11 +369,24 @@ impl<'g> Stage<'g> {
     }
 }
 
-/// Whether a verb is of a player's disk or peer alone.
-fn is_of_peers(verb: &str) -> bool {
+/// Closes a player's disk or crashes it, or makes a call of the peer.
+fn call_node(node: &mut Node<'_>, verb: &str, words: &[&str], out: &mut Answers) -> io::Result<()> {
+    match (verb, words) {
+        ("close", []) => Ok(node.close()),
+        ("crash", [pick]) => Ok(node.crash(number_in(pick)?)),
+        _ => match &mut node.peer {
+            Some(peer) => call(peer, verb, words, out),
+            None => out.tell("no peer"),
+        },
+    }
+}
+
+/// Whether a verb is of a player's disk or peer, or of a watcher.
+fn is_of_seats(verb: &str) -> bool {
     match verb {
+        "open" | "carry" | "say" | "deliver" | "look" | "begin_again" => true,
         "write" | "add" | "close" | "crash" | "arm" | "length" | "journal" => true,
-        "look" | "tick" | "leave" | "decide" | "checkpoint" => true,
+        "tick" | "leave" | "decide" | "checkpoint" => true,
         _ => false,
     }
 }

@@ -1,23 +1,23 @@
 //! The command line.
 
 use crate::help::{ENDING, SIM_ENDING};
-use c8_audit_command::{audit_command, audit_given};
+use c8_audit_command::{AUDIT, audit_given};
 use c8_command::Status;
 use c8_front::{
-    Terminals, is_explained, run_command, show_command, status_at, tell, with_command,
-    with_explain, with_place, word_of, words_in,
+    Argument, Form, Outline, RUN, SHOW, Terminals, is_explained, status_at, tell, with_commands,
+    word_of, words_in,
 };
-use c8_host::{host_command, host_given, join_command, join_given};
+use c8_host::{HOST, JOIN, host_given, join_given};
 use c8_keys::run_files;
-use c8_net::{peer_command, peer_given, watch_command, watch_given};
-use c8_play::{play_command, play_given};
-use c8_program::{game_command, game_given};
-use c8_replay::{replay_command, replay_given};
+use c8_net::{PEER, WATCH, peer_given, watch_given};
+use c8_play::{PLAY, play_given};
+use c8_program::{GAME, game_given};
+use c8_replay::{REPLAY, replay_given};
 use c8_script::sim_files;
-use c8_secret::{secret_command, secret_given};
+use c8_secret::{SECRET, secret_given};
 use c8_show::show;
-use c8_threads::{rig_command, rig_given};
-use clap::{Arg, ArgMatches, Command};
+use c8_threads::{RIG, rig_given};
+use clap::{ArgMatches, Command};
 use std::alloc::{AllocError, Global};
 use std::env::Args;
 use std::fs::File;
@@ -72,45 +72,44 @@ where
 
 /// The command line of the program.
 fn command<'a>(alloc: Global) -> Result<Command<'a>, AllocError> {
-    let command = Command::new(alloc, "c8play")
+    let line = Command::new(alloc, "c8play")
         .about("Plays CHIP-8 programs, alone or with others, and shows what a datagram says")
         .version("0.1.0")
         .after_help(ENDING)
         .subcommand_required(true)
         .arg_required_else_help(true);
-    let command = with_command(command, run_command(alloc))?;
-    let command = with_matches(alloc, command)?;
-    let command = with_command(command, replay_command(alloc))?;
-    let command = with_command(command, audit_command(alloc))?;
-    let command = with_command(command, sim_command(alloc))?;
-    let command = with_command(command, rig_command(alloc))?;
-    let command = with_command(command, show_command(alloc))?;
-    let command = with_command(command, secret_command(alloc))?;
-    with_command(command, game_command(alloc))
+    let commands = [
+        &RUN, &PEER, &PLAY, &HOST, &JOIN, &WATCH, &REPLAY, &AUDIT, &SIM, &RIG, &SHOW, &SECRET,
+        &GAME,
+    ];
+    with_commands(alloc, line, &commands)
 }
 
-/// Adds the commands for a match with others.
-fn with_matches<'a>(alloc: Global, command: Command<'a>) -> Result<Command<'a>, AllocError> {
-    let command = with_command(command, peer_command(alloc))?;
-    let command = with_command(command, play_command(alloc))?;
-    let command = with_command(command, host_command(alloc))?;
-    let command = with_command(command, join_command(alloc))?;
-    with_command(command, watch_command(alloc))
-}
-
-fn sim_command<'a>(alloc: Global) -> Result<Command<'a>, AllocError> {
-    let command = Command::new(alloc, "sim")
-        .about("Plays all players of a game here, as a script says, and prints the answers")
-        .after_help(SIM_ENDING);
-    let command = with_place(alloc, command, "GAME", "The path of the game's text")?;
-    let script = "The path of the script: one event a line";
-    let command = with_place(alloc, command, "SCRIPT", script)?;
-    let journals = Arg::new(alloc, "journals")
-        .long("journals")
-        .value_name("DIR")
-        .help("Writes each player's journal to the folder DIR at the end, as journal1 and so on");
-    with_explain(alloc, command.arg(journals)?)
-}
+/// The command `sim`.
+static SIM: Outline = Outline {
+    name: "sim",
+    about: "Plays all players of a game here, as a script says, and prints the answers",
+    ending: SIM_ENDING,
+    takes: &[
+        Argument {
+            name: "GAME",
+            help: "The path of the game's text",
+            ..Argument::NEEDED
+        },
+        Argument {
+            name: "SCRIPT",
+            help: "The path of the script: one event a line",
+            ..Argument::NEEDED
+        },
+        Argument {
+            name: "journals",
+            help: "Writes each player's journal to the folder DIR at the end, as journal1 and so on",
+            form: Form::Option("DIR"),
+            ..Argument::NEEDED
+        },
+        Argument::EXPLAIN,
+    ],
+};
 
 /// Does what a command line without a mistake asks for.
 fn carry_out<R, I, W: Write, E: Write + Send>(

@@ -5,7 +5,6 @@ use c8_embed::Engine;
 use c8_game::{Game, Keys, Player, Row};
 use c8_peer::Check;
 use std::alloc::Global;
-use std::process::Abort;
 
 const GAME: &[u8] =
     b"players 2\nipf 1\nframes 60\ndelay 1\nwindow 6\nseed 0\nmask1 ffff\nmask2 ffff\ncode 1200\n";
@@ -51,11 +50,7 @@ fn engine<'g>(
 }
 
 impl<'g> Side<'g> {
-    fn open(alloc: Global, game: &'g Game, number: u8) -> Option<Side<'g>> {
-        Side::open_with(alloc, game, number, None, 0)
-    }
-
-    fn open_with(
+    fn open(
         alloc: Global,
         game: &'g Game,
         number: u8,
@@ -142,10 +137,6 @@ fn play(one: &mut Side<'_>, two: &mut Side<'_>, depth: u32) -> bool {
     false
 }
 
-fn game(alloc: Global) -> Option<Game> {
-    Game::read(alloc, GAME).ok()
-}
-
 /// What both sides have after a match: the frames, the same state, the run of the confirmed rows.
 fn agrees(one: &Side<'_>, two: &Side<'_>) -> bool {
     one.engine.peer().confirmed() == 60
@@ -158,29 +149,70 @@ fn agrees(one: &Side<'_>, two: &Side<'_>) -> bool {
         && two.rollbacks > 0
 }
 
-fn agree(rt: &impl Abort, alloc: Global, depth: u32) {
-    let game = game(alloc).expect(rt, "a game");
-    let mut one = Side::open(alloc, &game, 1).expect(rt, "a side");
-    let mut two = Side::open(alloc, &game, 2).expect(rt, "a side");
-    assert!(rt; play(&mut one, &mut two, depth) && agrees(&one, &two));
+/// What sides do.
+#[derive(Clone, Copy)]
+enum Scene {
+    /// Play a match with a test of this depth.
+    Match(u32),
+    /// Play one in which the last inputs are lost.
+    Unheard,
+    /// Wait for the interval between two checkpoints.
+    Checkpoint,
+    /// Go back by the depth of a test.
+    Depth,
+    /// Drop a silent player.
+    Silence,
+}
+
+/// Opens player 1's side, and player 2's if the scene has one. Returns whether the scene ends as it should; `None` if
+/// memory runs out.
+fn ends(alloc: Global, scene: Scene) -> Option<bool> {
+    let game = Game::read(alloc, GAME).ok()?;
+    ends_in(alloc, &game, scene)
+}
+
+fn ends_in(alloc: Global, game: &Game, scene: Scene) -> Option<bool> {
+    let (patience, interval) = match scene {
+        Scene::Silence => (Some(5), 0),
+        Scene::Checkpoint => (None, 30),
+        _ => (None, 0),
+    };
+    let mut one = Side::open(alloc, game, 1, patience, interval)?;
+    match scene {
+        Scene::Depth => Some(goes_back(&mut one)),
+        Scene::Silence => Some(drops(&mut one)),
+        _ => ends_for_both(alloc, game, scene, &mut one),
+    }
+}
+
+fn ends_for_both<'g>(
+    alloc: Global,
+    game: &'g Game,
+    scene: Scene,
+    one: &mut Side<'g>,
+) -> Option<bool> {
+    let mut two = Side::open(alloc, game, 2, None, 0)?;
+    Some(match scene {
+        Scene::Match(depth) => play(one, &mut two, depth) && agrees(one, &two),
+        Scene::Unheard => play_unheard(one, &mut two),
+        _ => waits(one, &mut two),
+    })
 }
 
 #[test]
 fn engines_agree_over_a_lossy_way(rt: HostRuntime) {
-    agree(&rt, rt.alloc(), 0);
+    assert!(rt; ends(rt.alloc(), Scene::Match(0)) == Some(true));
 }
 
 #[test]
 fn a_test_rolls_back_and_changes_nothing(rt: HostRuntime) {
-    agree(&rt, rt.alloc(), 5);
+    assert!(rt; ends(rt.alloc(), Scene::Match(5)) == Some(true));
 }
 
 /// Under a test each step goes back by its depth, but never before what was confirmed: here the frame of the delay.
 #[test]
 fn a_test_goes_back_by_its_depth(rt: HostRuntime) {
-    let game = game(rt.alloc()).expect(&rt, "a game");
-    let mut side = Side::open(rt.alloc(), &game, 1).expect(&rt, "a side");
-    assert!(&rt; goes_back(&mut side));
+    assert!(rt; ends(rt.alloc(), Scene::Depth) == Some(true));
 }
 
 fn goes_back(side: &mut Side<'_>) -> bool {
@@ -201,9 +233,7 @@ fn goes_back(side: &mut Side<'_>) -> bool {
 /// Player 1 drops a player who was silent for as many turns as its patience, and no sooner.
 #[test]
 fn a_silent_player_is_dropped(rt: HostRuntime) {
-    let game = game(rt.alloc()).expect(&rt, "a game");
-    let mut side = Side::open_with(rt.alloc(), &game, 1, Some(5), 0).expect(&rt, "a side");
-    assert!(&rt; drops(&mut side));
+    assert!(rt; ends(rt.alloc(), Scene::Silence) == Some(true));
 }
 
 fn drops(side: &mut Side<'_>) -> bool {
@@ -236,14 +266,11 @@ fn turn_alone(side: &mut Side<'_>) -> bool {
 /// A match is not over for a player whose last inputs another player has not acknowledged.
 #[test]
 fn no_end_without_acknowledgements(rt: HostRuntime) {
-    let game = game(rt.alloc()).expect(&rt, "a game");
-    let mut one = Side::open(rt.alloc(), &game, 1).expect(&rt, "a side");
-    let mut two = Side::open(rt.alloc(), &game, 2).expect(&rt, "a side");
-    assert!(&rt; play_unheard(&mut one, &mut two));
-    assert!(&rt; one.engine.peer().confirmed() == 60 && !one.engine.is_over());
+    assert!(rt; ends(rt.alloc(), Scene::Unheard) == Some(true));
 }
 
-/// Plays a match in which the first side's last inputs are lost. Returns whether all its turns were made.
+/// Plays a match in which the first side's last inputs are lost. Returns whether all its turns were made, and all frames
+/// are confirmed for that side, but the match is not over.
 fn play_unheard(one: &mut Side<'_>, two: &mut Side<'_>) -> bool {
     let (mut well, mut sent) = (true, 0);
     for number in 0..400 {
@@ -255,16 +282,13 @@ fn play_unheard(one: &mut Side<'_>, two: &mut Side<'_>) -> bool {
         }
         let _sent = turn(two, one, number, &mut sent);
     }
-    well
+    well && one.engine.peer().confirmed() == 60 && !one.engine.is_over()
 }
 
 /// No checkpoint is begun before as many frames are confirmed as its interval says.
 #[test]
 fn a_checkpoint_waits_for_its_interval(rt: HostRuntime) {
-    let game = game(rt.alloc()).expect(&rt, "a game");
-    let mut one = Side::open_with(rt.alloc(), &game, 1, None, 30).expect(&rt, "a side");
-    let mut two = Side::open(rt.alloc(), &game, 2).expect(&rt, "a side");
-    assert!(&rt; waits(&mut one, &mut two));
+    assert!(rt; ends(rt.alloc(), Scene::Checkpoint) == Some(true));
 }
 
 fn waits(one: &mut Side<'_>, two: &mut Side<'_>) -> bool {

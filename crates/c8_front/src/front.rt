@@ -8,9 +8,9 @@ ghost use Rattle.c8_command.specs.declared.refusal.Part.TheVariants as parts;
 ghost use Rattle.c8_command.specs.declared.status.Status.TheVariants as statuses;
 
 use c8_command::{Refusal, Status};
+use clap::ArgMatches;
 use clap::error::ErrorKind;
-use clap::{Arg, ArgAction, ArgMatches, Command};
-use std::alloc::{AllocError, Global};
+use std::alloc::Global;
 use std::env::Args;
 use std::io;
 use std::io::Write;
@@ -63,43 +63,9 @@ fn refusal_at(error: &io::Error) -> Refusal
     }
 }
 
-/// Adds a required argument after the others.
-pub fn with_place<'a>(
-    alloc: Global,
-    command: Command<'a>,
-    name: &'a str,
-    help: &'a str,
-) -> Result<Command<'a>, AllocError> {
-    command.arg(Arg::new(alloc, name).help(help).required(true))
-}
-
-/// Adds the option `--explain`.
-pub fn with_explain<'a>(alloc: Global, command: Command<'a>) -> Result<Command<'a>, AllocError> {
-    let explain = Arg::new(alloc, "explain")
-        .long("explain")
-        .help("Says what is wrong, and where, in a second line after a refusal")
-        .action(ArgAction::SetTrue);
-    command.arg(explain)
-}
-
 /// Whether `--explain` was given.
 pub fn is_explained(given: &ArgMatches<'_>) -> bool {
     given.get_flag("explain")
-}
-
-/// The command line of a program that has one command.
-pub fn line_of<'a>(alloc: Global, command: Command<'a>) -> Result<Command<'a>, AllocError> {
-    Command::new(alloc, "c8play")
-        .subcommand_required(true)
-        .subcommand(command)
-}
-
-/// Adds a subcommand. The error is that there was no memory for it.
-pub fn with_command<'a>(
-    command: Command<'a>,
-    added: Result<Command<'a>, AllocError>,
-) -> Result<Command<'a>, AllocError> {
-    command.subcommand(added?)
 }
 
 /// The word that was given for a required argument.

@@ -1,17 +1,18 @@
-//! What all command lines share: their words, the parser's messages, and the exit status (`front`); and the options of
-//! the commands `run` and `show` (`commands`). [`is_same_file`] knows a file by another name, and [`Unhurried`] is a standard error that nobody has to read.
+//! What all command lines share: their words, the parser's messages, and the exit status (`front`). A command is a table
+//! of what it takes, an [`Outline`], from which [`command_of`] makes clap's `Command` (`outline`); those of `run` and
+//! `show` are here (`commands`). [`is_same_file`] knows a file by another name, and [`Unhurried`] is a standard error that
+//! nobody has to read.
 #![tactic(auto)]
 
 mod commands;
 mod files;
 mod front;
 mod help;
+mod outline;
 mod stderr;
 
-pub use commands::{run_command, show_command};
+pub use commands::{RUN, SHOW};
 pub use files::is_same_file;
-pub use front::{
-    Terminals, is_explained, line_of, status_at, tell, with_command, with_explain, with_place,
-    word_of, words_in,
-};
+pub use front::{Terminals, is_explained, status_at, tell, word_of, words_in};
+pub use outline::{Argument, Form, Outline, command_of, line_of, with_commands};
 pub use stderr::Unhurried;

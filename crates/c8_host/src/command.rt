@@ -4,10 +4,10 @@ use crate::addresses::{LIST, own_addresses};
 use crate::digits::{digits_in, is_secret, keep};
 use crate::inviting::{invitation, note};
 use c8_command::{Part, Refusal, Site, Status};
-use c8_front::{Terminals, is_explained, tell, word_of};
+use c8_front::{Terminals, command_of, is_explained, tell, word_of};
 use c8_game::Player;
 use c8_net::{Asked, asked_for, game_at, number_of, perform_given, refuse};
-use c8_play::{Live, Pace, Terminal, play_command};
+use c8_play::{Live, PLAY, Pace, Terminal};
 use c8_secret::{make_secret, random_bytes};
 use clap::ArgMatches;
 use std::alloc::{AllocError, Global};
@@ -264,7 +264,7 @@ fn matches_in<'a>(
     alloc: Global,
     words: &'a [String],
 ) -> Result<Result<ArgMatches<'a>, clap::Error>, AllocError> {
-    Ok(play_command(alloc)?.try_get_matches_from(words))
+    Ok(command_of(alloc, &PLAY)?.try_get_matches_from(words))
 }
 
 fn play_asked<R, W, E>(

@@ -12,7 +12,7 @@ mod help;
 mod inviting;
 
 pub use addresses::own_addresses;
-pub use arguments::{host_command, join_command};
+pub use arguments::{HOST, JOIN};
 pub use command::{host_given, join_given};
 pub use digits::digits_in;
 pub use inviting::{invitation, note};

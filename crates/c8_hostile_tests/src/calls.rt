@@ -94,18 +94,35 @@ fn drops(
         && one.count(TWO) == 1
 }
 
+/// Opens player 3's peer and plays the match. Returns `None` if there is no memory for the peer.
+fn goes_well(
+    alloc: Global,
+    game: &Game,
+    one: &mut Peer<'_, MemDisk>,
+    two: &mut Peer<'_, MemDisk>,
+) -> Option<bool> {
+    let mut three = opened(alloc, game, 3)?;
+    Some(play(one, two, &mut three) && saves_and_shows(one) && drops(one, two, &mut three))
+}
+
+/// The same with player 2's peer.
+fn goes_well_with(alloc: Global, game: &Game, one: &mut Peer<'_, MemDisk>) -> Option<bool> {
+    let mut two = opened(alloc, game, 2)?;
+    goes_well(alloc, game, one, &mut two)
+}
+
+/// The same with player 1's peer.
+fn goes_well_alone(alloc: Global, game: &Game) -> Option<bool> {
+    let mut one = opened(alloc, game, 1)?;
+    goes_well_with(alloc, game, &mut one)
+}
+
 #[test]
 fn no_call_of_an_open_peer_takes_memory(rt: HostRuntime) -> Result<(), Fail> {
     let game = Game::read(rt.alloc(), GAME)?;
-    let (Some(mut one), Some(mut two), Some(mut three)) = (
-        opened(rt.alloc(), &game, 1),
-        opened(rt.alloc(), &game, 2),
-        opened(rt.alloc(), &game, 3),
-    ) else {
-        return Err(Fail::new("no memory for the peers"));
-    };
-    assert!(rt; play(&mut one, &mut two, &mut three));
-    assert!(rt; saves_and_shows(&mut one));
-    assert!(rt; drops(&mut one, &mut two, &mut three));
+    match goes_well_alone(rt.alloc(), &game) {
+        Some(well) => assert!(rt; well),
+        None => return Err(Fail::new("no memory for the peers")),
+    }
     Ok(())
 }

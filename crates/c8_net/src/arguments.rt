@@ -1,11 +1,14 @@
 //! The options of the command `peer`, and what they ask for.
 
 use crate::help::PEER_ENDING;
-use c8_front::{is_explained, with_explain, with_place, word_of};
+use crate::options::{
+    CHECKPOINT, GAME, PATIENCE, REMOTES, ROOM, SECRET, STOP, WATCH_SECRET, WATCH5, WATCH6,
+};
+use c8_front::{Argument, Outline, is_explained, word_of};
 use c8_game::Player;
 use c8_udp::MOST_WATCHERS;
-use clap::{Arg, ArgAction, ArgMatches, Command, value_parser};
-use std::alloc::{AllocError, Global};
+use clap::ArgMatches;
+use clap::builder::ValueParser;
 
 /// What the command line of `peer` asks for.
 #[derive(Clone, Copy)]
@@ -64,107 +67,52 @@ impl Asked<'_, '_> {
     }
 }
 
-/// Returns the command `peer` with its arguments and options.
-pub fn peer_command<'a>(alloc: Global) -> Result<Command<'a>, AllocError> {
-    let command = Command::new(alloc, "peer")
-        .about(
-            "Plays a game with others over UDP, and prints the machine after the confirmed frames",
-        )
-        .after_help(PEER_ENDING);
-    let command = with_room(alloc, with_players(alloc, command)?)?;
-    let turns = number(
-        alloc,
-        "turns",
-        "Ends after N turns, of at least a millisecond each",
-    );
-    let command = command.arg(turns.default_value("100000"))?;
-    let progress =
-        "Says each second, on standard error, how far the game is, and then how it ended";
-    with_options(alloc, command, progress)
-}
-
-/// Adds the arguments of `peer`: game, player, journal and addresses.
-fn with_players<'a>(alloc: Global, command: Command<'a>) -> Result<Command<'a>, AllocError> {
-    let game = "The path of the game's text or of a .ch8 program, the same for all";
-    let command = with_place(alloc, command, "GAME", game)?;
-    let player = Arg::new(alloc, "PLAYER")
-        .help("The number of the own player, 1 to 4")
-        .required(true)
-        .value_parser(value_parser!(u8).range(1..5));
-    let command = command.arg(player)?;
-    let journal = "The path of the own journal, created if it is missing; - for none";
-    let command = with_place(alloc, command, "JOURNAL", journal)?;
-    let local = "The own address, as 127.0.0.1:4001";
-    let command = with_place(alloc, command, "LOCAL", local)?;
-    let remote = Arg::new(alloc, "REMOTE")
-        .help("The other players' addresses, in order of their numbers")
-        .num_args(0..);
-    command.arg(remote)
-}
-
-/// Adds the option `--room`.
-pub fn with_room<'a>(alloc: Global, command: Command<'a>) -> Result<Command<'a>, AllocError> {
-    let room = "The number of the match, the same for all its players [default: 0]";
-    command.arg(number(alloc, "room", room))
-}
-
-/// Adds the options of a command that plays a match, but for `--room` and `--turns`; with its own help for `--progress`.
-pub fn with_options<'a>(
-    alloc: Global,
-    command: Command<'a>,
-    progress: &'a str,
-) -> Result<Command<'a>, AllocError> {
-    let patience = "Player 1 drops a player after N silent turns [default: never]";
-    let command = command.arg(number(alloc, "patience", patience))?;
-    let stop = "Ends once N frames are confirmed [default: never]";
-    let command = command.arg(number(alloc, "stop", stop))?;
-    let checkpoint = number(
-        alloc,
-        "checkpoint",
-        "Makes a checkpoint after every N confirmed frames, 0 for never",
-    );
-    let command = command.arg(checkpoint.default_value("0"))?;
-    let command = with_watcher(alloc, command, "watch5")?;
-    let command = with_watcher(alloc, command, "watch6")?;
-    let secret = "The file of the players' secret: packets are sealed with it";
-    let command = command.arg(file(alloc, "secret", secret))?;
-    let watch_secret = "The file of the watchers' secret (player 1 only)";
-    let command = command.arg(file(alloc, "watch-secret", watch_secret))?;
-    let progress = Arg::new(alloc, "progress")
-        .long("progress")
-        .help(progress)
-        .action(ArgAction::SetTrue);
-    with_explain(alloc, command.arg(progress)?)
-}
-
-/// Adds the option for a watcher's address.
-fn with_watcher<'a>(
-    alloc: Global,
-    command: Command<'a>,
-    name: &'a str,
-) -> Result<Command<'a>, AllocError> {
-    let watcher = Arg::new(alloc, name).long(name).value_name("ADDR").help(
-        "Shows the match to a watcher at this address (player 1 only)",
-    );
-    command.arg(watcher)
-}
-
-/// An option that takes the path of a file.
-pub fn file<'a>(alloc: Global, name: &'a str, help: &'a str) -> Arg<'a> {
-    Arg::new(alloc, name)
-        .long(name)
-        .value_name("FILE")
-        .help(help)
-}
-
-/// An option that takes a number.
-pub fn number<'a>(alloc: Global, name: &'a str, help: &'a str) -> Arg<'a> {
-    Arg::new(alloc, name)
-        .long(name)
-        .value_name("N")
-        .help(help)
-        .value_parser(value_parser!(u64))
-}
+/// The command `peer`.
+pub static PEER: Outline = Outline {
+    name: "peer",
+    about: "Plays a game with others over UDP, and prints the machine after the confirmed frames",
+    ending: PEER_ENDING,
+    takes: &[
+        GAME,
+        Argument {
+            name: "PLAYER",
+            help: "The number of the own player, 1 to 4",
+            value: Some(ValueParser::Signed(1, 4)),
+            ..Argument::NEEDED
+        },
+        Argument {
+            name: "JOURNAL",
+            help: "The path of the own journal, created if it is missing; - for none",
+            ..Argument::NEEDED
+        },
+        Argument {
+            name: "LOCAL",
+            help: "The own address, as 127.0.0.1:4001",
+            ..Argument::NEEDED
+        },
+        REMOTES,
+        ROOM,
+        Argument {
+            name: "turns",
+            help: "Ends after N turns, of at least a millisecond each",
+            default: Some("100000"),
+            ..Argument::NUMBER
+        },
+        PATIENCE,
+        STOP,
+        CHECKPOINT,
+        WATCH5,
+        WATCH6,
+        SECRET,
+        WATCH_SECRET,
+        Argument {
+            name: "progress",
+            help: "Says each second, on standard error, how far the game is, and then how it ended",
+            ..Argument::FLAG
+        },
+        Argument::EXPLAIN,
+    ],
+};
 
 /// Returns what a parsed command line asks for. The parser has checked that each argument is present and in range.
 pub(crate) fn asked_of<'m, 'a>(given: &'m ArgMatches<'a>) -> Option<Asked<'m, 'a>> {

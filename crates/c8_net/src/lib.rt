@@ -1,6 +1,6 @@
 //! The commands `peer` and `watch`: play a game with others over UDP, and watch one.
 //!
-//! `arguments` has the options, and `command` opens the files. `play` begins the match ([`prepare`], [`play_on`]), and
+//! `arguments` and [`options`] have the options, and `command` opens the files. `play` begins the match ([`prepare`], [`play_on`]), and
 //! `stage` plays it in threads: the workers of c8_live, paced by `pace`, and a viewer. A [`Performance`] plays a match
 //! in the caller's thread instead ([`perform_on`]). The transport is c8_udp; in a match with a secret, c8_sealed lies
 //! over it (`line`, `seals`). `watching` is the command `watch`.
@@ -13,6 +13,7 @@ mod fault;
 mod help;
 mod key_list;
 mod line;
+pub mod options;
 mod pace;
 mod performance;
 mod play;
@@ -20,9 +21,7 @@ mod seals;
 mod stage;
 mod watching;
 
-pub use arguments::{
-    Asked, asked_for, file, number, number_of, peer_command, with_options, with_room,
-};
+pub use arguments::{Asked, PEER, asked_for, number_of};
 pub use command::{peer, peer_given, perform, perform_given, refuse};
 pub use error::{PeerError, Unopened};
 pub use fault::{Fault, game_at};
@@ -30,4 +29,4 @@ pub use line::Line;
 pub use pace::Pace;
 pub use performance::{Ended, Performance};
 pub use play::{Prepared, Unprepared, perform_on, play_on, prepare};
-pub use watching::{WatchAsked, watch, watch_command, watch_given, watch_on};
+pub use watching::{WATCH, WatchAsked, watch, watch_given, watch_on};

@@ -19,7 +19,7 @@ use crate::fault::{Fault, game_at};
 use crate::line::Line;
 use crate::seals::watch_seal_at;
 use arguments::asked_of;
-pub use arguments::{WatchAsked, watch_command};
+pub use arguments::{WATCH, WatchAsked};
 use c8_command::Status;
 use c8_front::Terminals;
 use c8_game::Game;

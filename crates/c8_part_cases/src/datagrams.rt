@@ -1,11 +1,11 @@
 //! Datagrams, and the links that admit them.
 use crate::answers::Answers;
 use crate::bytes::write_datagram;
-use crate::words::{count_in, player_in, unreadable};
+use crate::words::{bytes_in, count_in, player_in, unreadable};
 use c8_game::{Game, Player, WireVersion};
 use c8_hand::{HandError, Links};
 use c8_wire::{Body, DatagramKind, Head, LONGEST_DATAGRAM, Said, Seat, fits, view, write};
-use std::alloc::Global;
+use std::alloc::{AllocError, Global};
 use std::io;
 
 /// Prints the fields of a datagram, or why bytes are none.
@@ -48,7 +48,7 @@ fn tell_lengths(first: usize, next: usize, name: &str, out: &mut Answers) -> io:
 }
 
 /// The version that a word names.
-pub(crate) fn version_in(word: &str) -> io::Result<WireVersion> {
+fn version_in(word: &str) -> io::Result<WireVersion> {
     match word {
         "1" => Ok(WireVersion::One),
         "2" => Ok(WireVersion::Two),
@@ -56,24 +56,34 @@ pub(crate) fn version_in(word: &str) -> io::Result<WireVersion> {
     }
 }
 
-/// Prints how many inputs fit into a datagram, and the DATA of player 1 to player 2 that carries them.
+/// Prints how many inputs fit into a datagram of a version, and the DATA of player 1 to player 2 that carries them.
 pub(crate) fn show_data(
     alloc: Global,
-    version: WireVersion,
-    bytes: &[u8],
+    words: &[&str],
+    block: &[&[u8]],
     out: &mut Answers,
 ) -> io::Result<()> {
-    let mut words = Vec::new(alloc);
-    for pair in bytes.chunks(2) {
-        if let [high, low] = pair {
-            words.push(u16::from_be_bytes([*high, *low]))?;
-        }
-    }
+    let [version, spelled @ ..] = words else {
+        return Err(unreadable());
+    };
+    let version = version_in(version)?;
+    let inputs = inputs_of(alloc, &bytes_in(alloc, spelled, block, 0)?)?;
     let mut room = [0; LONGEST_DATAGRAM];
-    let length = write_data(version, &words, &mut room);
-    let carried = fits(version, &words);
+    let length = write_data(version, &inputs, &mut room);
+    let carried = fits(version, &inputs);
     out.tell(format_args!("fits {carried} length {length}"))?;
     write_datagram(&mut out.text, room.get(..length).unwrap_or(&[]))
+}
+
+/// The key sets of two bytes each.
+fn inputs_of(alloc: Global, bytes: &[u8]) -> Result<Vec<u16>, AllocError> {
+    let mut inputs = Vec::new(alloc);
+    for pair in bytes.chunks(2) {
+        if let [high, low] = pair {
+            inputs.push(u16::from_be_bytes([*high, *low]))?;
+        }
+    }
+    Ok(inputs)
 }
 
 /// Writes a DATA that carries what fits, and returns its length.

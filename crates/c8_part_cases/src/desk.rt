@@ -1,6 +1,6 @@
 //! The parts in hand, and the commands that use them.
 use crate::answers::Answers;
-use crate::datagrams::{call_links, show, show_data, show_fronts, version_in};
+use crate::datagrams::{call_links, show, show_data, show_fronts};
 use crate::disks::Hand;
 use crate::inputs::Inputs;
 use crate::machines::{call_machine, show_game};
@@ -44,17 +44,17 @@ impl<'g> Desk<'g> {
         out: &mut Answers,
     ) -> io::Result<()> {
         let alloc = self.alloc;
-        match words {
-            ["disk", verb, rest @ ..] => self.hand.disk(alloc, (verb, rest), block, out),
-            ["log", verb, rest @ ..] => self.hand.log(alloc, (verb, rest), block, out),
-            ["body", record @ ..] => body_in(record, out),
-            ["view", bytes @ ..] => show(&bytes_in(alloc, bytes, block, 0)?, out),
-            ["fronts", bytes @ ..] => show_fronts(&bytes_in(alloc, bytes, block, 0)?, out),
-            ["data", version, bytes @ ..] => {
-                let bytes = bytes_in(alloc, bytes, block, 0)?;
-                show_data(alloc, version_in(version)?, &bytes, out)
-            }
-            _ => self.perform_in(needed(self.game)?, words, block, out),
+        let [verb, rest @ ..] = words else {
+            return Err(unreadable());
+        };
+        match *verb {
+            "disk" => self.hand.disk(alloc, rest, block, out),
+            "log" => self.hand.log(alloc, rest, block, out),
+            "body" => body_in(rest, out),
+            "view" => show(&bytes_in(alloc, rest, block, 0)?, out),
+            "fronts" => show_fronts(&bytes_in(alloc, rest, block, 0)?, out),
+            "data" => show_data(alloc, rest, block, out),
+            _ => self.perform_in(needed(self.game)?, (*verb, rest), block, out),
         }
     }
 
@@ -62,36 +62,40 @@ impl<'g> Desk<'g> {
     fn perform_in(
         &mut self,
         game: &'g Game,
-        words: &[&str],
+        (verb, rest): (&str, &[&str]),
         block: &[&[u8]],
         out: &mut Answers,
     ) -> io::Result<()> {
         let alloc = self.alloc;
-        match words {
-            ["wire" | "id" | "session", ..] => show_game(game, words, out),
-            ["replay", rest @ ..] => replay_in(alloc, game, rest, block, &mut self.hand, out),
-            ["known", rest @ ..] => self.inputs.known(alloc, game, rest, out),
-            ["window", rest @ ..] => self.inputs.window(game, rest, out),
-            ["roll", rest @ ..] => self.inputs.roll(alloc, game, rest, out),
-            ["machine", "start"] => {
-                self.machine = Some(Machine::start(game));
-                Ok(())
-            }
-            ["machine", rest @ ..] => match &mut self.machine {
-                Some(machine) => call_machine(game, machine, rest, out),
-                None => Err(unreadable()),
-            },
-            ["links", me, "epoch", epoch] => {
-                let links = Links::new(player_in(me)?, game, 0, count_in(epoch)?);
-                self.links = Some(links);
-                Ok(())
-            }
-            [verb @ ("hear" | "link"), rest @ ..] => match &mut self.links {
-                Some(links) => call_links(game, links, (verb, rest), out),
-                None => Err(unreadable()),
-            },
+        match verb {
+            "wire" | "id" | "session" => show_game(game, (verb, rest), out),
+            "replay" => replay_in(alloc, game, rest, block, &mut self.hand, out),
+            "known" => self.inputs.known(alloc, game, rest, out),
+            "window" => self.inputs.window(game, rest, out),
+            "roll" => self.inputs.roll(alloc, game, rest, out),
+            "machine" => self.machine(game, rest, out),
+            "links" => self.link(game, rest),
+            "hear" | "link" => call_links(game, needed(self.links.as_mut())?, (verb, rest), out),
             _ => Err(unreadable()),
         }
+    }
+
+    /// Starts a machine, or makes a call of it.
+    fn machine(&mut self, game: &'g Game, words: &[&str], out: &mut Answers) -> io::Result<()> {
+        if let ["start"] = words {
+            self.machine = Some(Machine::start(game));
+            return Ok(());
+        }
+        call_machine(game, needed(self.machine.as_mut())?, words, out)
+    }
+
+    /// Makes the links of a player in an epoch.
+    fn link(&mut self, game: &'g Game, words: &[&str]) -> io::Result<()> {
+        let [me, "epoch", epoch] = words else {
+            return Err(unreadable());
+        };
+        self.links = Some(Links::new(player_in(me)?, game, 0, count_in(epoch)?));
+        Ok(())
     }
 
     /// The disk or the log in hand.

@@ -1,7 +1,7 @@
 //! A disk in memory, and a log on it.
 use crate::answers::Answers;
 use crate::bytes::write_bytes;
-use crate::words::{arm_in, bytes_in, count_in, number_in, size_in, unreadable};
+use crate::words::{arm_in, bytes_in, count_in, needed, number_in, size_in, unreadable};
 use c8_disk::{Arm, Disk, DiskError, LONGEST_WRITE, MemDisk};
 use c8_log::{BODY_LENGTH, Block, Log, LogError, kept_len};
 use std::alloc::Global;
@@ -27,22 +27,19 @@ impl Hand {
     pub(crate) fn disk(
         &mut self,
         alloc: Global,
-        (verb, rest): (&str, &[&str]),
+        words: &[&str],
         block: &[&[u8]],
         out: &mut Answers,
     ) -> io::Result<()> {
-        match (verb, rest) {
-            ("new", [capacity, calls]) => {
-                let disk = MemDisk::new(alloc, count_in(capacity)?, count_in(calls)?)?;
+        match words {
+            ["new", capacity, calls] => {
+                let (capacity, calls) = (count_in(capacity)?, count_in(calls)?);
                 self.log = None;
-                self.disk = Some(disk);
+                self.disk = Some(MemDisk::new(alloc, capacity, calls)?);
             }
-            ("arm", how) => self.arm(arm_in(how)?),
-            ("crash", [pick]) => self.crash(number_in(pick)?),
-            _ => match &mut self.disk {
-                Some(disk) => call_disk(alloc, disk, (verb, rest), block, out)?,
-                None => return Err(unreadable()),
-            },
+            ["arm", how @ ..] => self.arm(arm_in(how)?),
+            ["crash", pick] => self.crash(number_in(pick)?),
+            _ => call_disk(alloc, needed(self.disk.as_mut())?, words, block, out)?,
         }
         Ok(())
     }
@@ -93,27 +90,17 @@ impl Hand {
     pub(crate) fn log(
         &mut self,
         alloc: Global,
-        (verb, rest): (&str, &[&str]),
+        words: &[&str],
         block: &[&[u8]],
         out: &mut Answers,
     ) -> io::Result<()> {
-        match (verb, rest) {
-            ("open", []) => return self.open(out),
-            ("close", []) => {
+        match words {
+            ["open"] => self.open(out),
+            ["close"] => {
                 self.close();
-                return Ok(());
+                Ok(())
             }
-            _ => {}
-        }
-        let Some(log) = &mut self.log else {
-            return Err(unreadable());
-        };
-        match (verb, rest) {
-            ("append", bytes) => append(log, &bytes_in(alloc, bytes, block, BODY_LENGTH)?, out),
-            ("read", [number]) => read(log, count_in(number)?, out),
-            ("bodies", []) => read_all(log, out),
-            ("debug", []) => out.tell(format_args!("{log:?}")),
-            _ => Err(unreadable()),
+            _ => call_log(alloc, needed(self.log.as_mut())?, words, block, out),
         }
     }
 
@@ -141,6 +128,23 @@ impl Hand {
 
 fn refuse(error: LogError, out: &mut Answers) -> io::Result<()> {
     out.refuse("log", error.number(), error.name(), error)
+}
+
+/// Makes a call of a log.
+fn call_log(
+    alloc: Global,
+    log: &mut Log<MemDisk>,
+    words: &[&str],
+    block: &[&[u8]],
+    out: &mut Answers,
+) -> io::Result<()> {
+    match words {
+        ["append", bytes @ ..] => append(log, &bytes_in(alloc, bytes, block, BODY_LENGTH)?, out),
+        ["read", number] => read(log, count_in(number)?, out),
+        ["bodies"] => read_all(log, out),
+        ["debug"] => out.tell(format_args!("{log:?}")),
+        _ => Err(unreadable()),
+    }
 }
 
 fn append(log: &mut Log<MemDisk>, body: &[u8], out: &mut Answers) -> io::Result<()> {
@@ -181,24 +185,24 @@ fn read_all(log: &mut Log<MemDisk>, out: &mut Answers) -> io::Result<()> {
 fn call_disk(
     alloc: Global,
     disk: &mut MemDisk,
-    (verb, rest): (&str, &[&str]),
+    words: &[&str],
     block: &[&[u8]],
     out: &mut Answers,
 ) -> io::Result<()> {
-    match (verb, rest) {
-        ("write", [place, bytes @ ..]) => {
-            let bytes = bytes_in(alloc, bytes, block, 0)?;
-            write_at(disk, count_in(place)?, &bytes, out)
+    match words {
+        ["write", place, bytes @ ..] => {
+            let place = count_in(place)?;
+            write_at(disk, place, &bytes_in(alloc, bytes, block, 0)?, out)
         }
-        ("read", [place, many]) => read_at(disk, count_in(place)?, size_in(many)?, out),
-        ("sync", []) => tell(disk.sync(), out),
-        ("held", []) => {
+        ["read", place, many] => read_at(disk, count_in(place)?, size_in(many)?, out),
+        ["sync"] => tell(disk.sync(), out),
+        ["held"] => {
             write!(out.text, "{}", disk.len())?;
             write_bytes(&mut out.text, disk.bytes(), &[], 16, true)?;
             writeln!(out.text)
         }
-        ("kept", []) => out.tell(kept_len(disk.bytes())),
-        ("debug", []) => out.tell(format_args!("{disk:?}")),
+        ["kept"] => out.tell(kept_len(disk.bytes())),
+        ["debug"] => out.tell(format_args!("{disk:?}")),
         _ => Err(unreadable()),
     }
 }

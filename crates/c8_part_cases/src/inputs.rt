@@ -1,7 +1,7 @@
 //! Known inputs, and a roll on them.
 use crate::answers::Answers;
 use crate::bytes::write_bytes;
-use crate::words::{bytes_in, count_in, keys_in, player_in, unreadable};
+use crate::words::{bytes_in, count_in, keys_in, needed, player_in, unreadable};
 use c8_digest::mark;
 use c8_game::{Game, Keys, Player};
 use c8_known::{Known, KnownError};
@@ -41,28 +41,7 @@ impl<'g> Inputs<'g> {
             self.known = Some(known_of(alloc, game, player_in(me)?)?);
             return Ok(());
         }
-        let Some(known) = &mut self.known else {
-            return Err(unreadable());
-        };
-        match words {
-            ["take", player, start, spelled @ ..] => {
-                let bytes = bytes_in(alloc, spelled, &[], 0)?;
-                take(known, player_in(player)?, count_in(start)?, &bytes, out)
-            }
-            ["take_data", player, spelled @ ..] => {
-                let bytes = bytes_in(alloc, spelled, &[], 0)?;
-                take_data(known, player_in(player)?, &bytes, out)
-            }
-            ["count", player] => {
-                let player = player_in(player)?;
-                if player.number > known.players() {
-                    return Err(unreadable());
-                }
-                out.tell(known.count(player))
-            }
-            ["debug"] => out.tell(format_args!("{known:?}")),
-            _ => Err(unreadable()),
-        }
+        call_known(alloc, needed(self.known.as_mut())?, words, out)
     }
 
     /// Does what a command says of the window: what others have acknowledged of the own inputs.
@@ -72,24 +51,20 @@ impl<'g> Inputs<'g> {
         words: &[&str],
         out: &mut Answers,
     ) -> io::Result<()> {
-        match (words, &mut self.window, &self.known) {
-            (["new"], place, _) => {
-                *place = Some(Window::new(game));
+        match words {
+            ["new"] => {
+                self.window = Some(Window::new(game));
                 Ok(())
             }
-            (["ack", player, count], Some(window), Some(known)) => {
-                match window.ack(player_in(player)?, count_in(count)?, known) {
-                    Ok(()) => out.tell("ok"),
-                    Err(error) => out.refuse("window", 1, "BadAck", error),
+            [verb, player, rest @ ..] => {
+                let known = needed(self.known.as_ref())?;
+                let (window, player) = (needed(self.window.as_mut())?, player_in(player)?);
+                match (*verb, rest) {
+                    ("ack", [count]) => ack(window, known, player, count_in(count)?, out),
+                    ("acked", []) => out.tell(window.acked(player)),
+                    ("pending", []) => pending(window, known, player, out),
+                    _ => Err(unreadable()),
                 }
-            }
-            (["acked", player], Some(window), _) => out.tell(window.acked(player_in(player)?)),
-            (["pending", player], Some(window), Some(known)) => {
-                write!(out.text, "pending")?;
-                for keys in window.pending(player_in(player)?, known) {
-                    write!(out.text, " {keys:04x}")?;
-                }
-                writeln!(out.text)
             }
             _ => Err(unreadable()),
         }
@@ -103,25 +78,92 @@ impl<'g> Inputs<'g> {
         words: &[&str],
         out: &mut Answers,
     ) -> io::Result<()> {
-        let Some(known) = &mut self.known else {
-            return Err(unreadable());
-        };
-        match (words, &mut self.roll) {
-            (["open"], _) => {
+        let known = needed(self.known.as_mut())?;
+        match words {
+            ["open"] => {
                 self.roll = Some(Roll::open(alloc, game, known)?);
                 Ok(())
             }
-            (["buffers"], _) => {
+            ["buffers"] => {
                 let buffers = Buffers::new(alloc, game)?;
                 out.tell(format_args!("{buffers:?}"))
             }
-            (["tick", keys], Some(roll)) => tick(known, roll, keys_in(keys)?, out),
-            (["settle"], Some(roll)) => settle(known, roll, out),
-            (["look"], Some(roll)) => look(roll, out),
-            (["debug"], Some(roll)) => out.tell(format_args!("{roll:?}")),
-            _ => Err(unreadable()),
+            _ => call_roll(known, needed(self.roll.as_mut())?, words, out),
         }
     }
+}
+
+/// Makes a call of known inputs.
+fn call_known(
+    alloc: Global,
+    known: &mut Known,
+    words: &[&str],
+    out: &mut Answers,
+) -> io::Result<()> {
+    match words {
+        ["take", player, start, spelled @ ..] => {
+            let (player, start) = (player_in(player)?, count_in(start)?);
+            take(
+                known,
+                player,
+                start,
+                &bytes_in(alloc, spelled, &[], 0)?,
+                out,
+            )
+        }
+        ["take_data", player, spelled @ ..] => {
+            let player = player_in(player)?;
+            take_data(known, player, &bytes_in(alloc, spelled, &[], 0)?, out)
+        }
+        ["count", player] => {
+            let player = player_in(player)?;
+            if player.number > known.players() {
+                return Err(unreadable());
+            }
+            out.tell(known.count(player))
+        }
+        ["debug"] => out.tell(format_args!("{known:?}")),
+        _ => Err(unreadable()),
+    }
+}
+
+/// Makes a call of a roll.
+fn call_roll(
+    known: &mut Known,
+    roll: &mut Roll<'_>,
+    words: &[&str],
+    out: &mut Answers,
+) -> io::Result<()> {
+    match words {
+        ["tick", keys] => tick(known, roll, keys_in(keys)?, out),
+        ["settle"] => settle(known, roll, out),
+        ["look"] => look(roll, out),
+        ["debug"] => out.tell(format_args!("{roll:?}")),
+        _ => Err(unreadable()),
+    }
+}
+
+/// Notes that a player acknowledges own inputs.
+fn ack(
+    window: &mut Window,
+    known: &Known,
+    player: Player,
+    count: u32,
+    out: &mut Answers,
+) -> io::Result<()> {
+    match window.ack(player, count, known) {
+        Ok(()) => out.tell("ok"),
+        Err(error) => out.refuse("window", 1, "BadAck", error),
+    }
+}
+
+/// Prints the own inputs that a player has not acknowledged.
+fn pending(window: &Window, known: &Known, player: Player, out: &mut Answers) -> io::Result<()> {
+    write!(out.text, "pending")?;
+    for keys in window.pending(player, known) {
+        write!(out.text, " {keys:04x}")?;
+    }
+    writeln!(out.text)
 }
 
 /// What a player of the game knows at the start.

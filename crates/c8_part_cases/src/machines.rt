@@ -9,15 +9,19 @@ use std::io;
 use std::io::Write;
 
 /// Prints the version of datagrams that a game names, its id, or its session in a room.
-pub(crate) fn show_game(game: &Game, words: &[&str], out: &mut Answers) -> io::Result<()> {
-    match words {
-        ["wire"] => out.tell(game.wire().number()),
-        ["id"] => {
+pub(crate) fn show_game(
+    game: &Game,
+    (verb, words): (&str, &[&str]),
+    out: &mut Answers,
+) -> io::Result<()> {
+    match (verb, words) {
+        ("wire", []) => out.tell(game.wire().number()),
+        ("id", []) => {
             write!(out.text, "id")?;
             write_bytes(&mut out.text, &game.id(), &[], 32, false)?;
             writeln!(out.text)
         }
-        ["session", room] => {
+        ("session", [room]) => {
             let session = game.session(number_in(room)?);
             out.tell(format_args!("session {session:016x}"))
         }
@@ -73,12 +77,7 @@ fn is_read_again(machine: &Machine) -> bool {
 /// Prints what changed of a state, and ends the line.
 fn write_changes(before: &Machine, after: &Machine, text: &mut Vec<u8>) -> io::Result<()> {
     write_cells("V", before.registers(), after.registers(), text)?;
-    let numbers = numbers_of(before).into_iter().zip(numbers_of(after));
-    for (name, (old, new)) in NUMBERS.iter().zip(numbers) {
-        if old != new {
-            write!(text, " {name} {new:x}")?;
-        }
-    }
+    write_numbers(&numbers_of(before), &numbers_of(after), text)?;
     write_stack(before, after, text)?;
     write_halts(before, after, text)?;
     write_cells("memory", before.memory(), after.memory(), text)?;
@@ -98,6 +97,17 @@ fn numbers_of(machine: &Machine) -> [u64; 6] {
         u64::from(machine.keys().0),
         machine.draws(),
     ]
+}
+
+/// Prints each number that changed.
+fn write_numbers(before: &[u64; 6], after: &[u64; 6], text: &mut Vec<u8>) -> io::Result<()> {
+    for place in 0..6usize {
+        let (name, new) = (NUMBERS[place], after[place]);
+        if before[place] != new {
+            write!(text, " {name} {new:x}")?;
+        }
+    }
+    Ok(())
 }
 
 /// Prints the return addresses if they changed.
@@ -129,12 +139,16 @@ fn write_halts(before: &Machine, after: &Machine, text: &mut Vec<u8>) -> io::Res
 
 /// Prints each byte that changed, with its place.
 fn write_cells(name: &str, before: &[u8], after: &[u8], text: &mut Vec<u8>) -> io::Result<()> {
-    for (place, (old, new)) in before.iter().zip(after.iter()).enumerate() {
-        if old != new {
-            write!(text, " {name}{place:x} {new:02x}")?;
+    for place in 0..before.len().min(after.len()) {
+        if before[place] != after[place] {
+            write_cell(name, place, after[place], text)?;
         }
     }
     Ok(())
+}
+
+fn write_cell(name: &str, place: usize, byte: u8, text: &mut Vec<u8>) -> io::Result<()> {
+    write!(text, " {name}{place:x} {byte:02x}")
 }
 
 /// Prints each row of the screen that changed: 64 points, the left one first.

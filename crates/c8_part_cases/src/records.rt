@@ -2,7 +2,9 @@
 use crate::answers::Answers;
 use crate::bytes::write_record;
 use crate::disks::Hand;
-use crate::words::{bytes_in, count_in, keys_in, number_in, player_in, unreadable, words_in};
+use crate::words::{
+    bytes_in, count_in, keys_in, needed, number_in, player_in, unreadable, words_in,
+};
 use c8_check::Checks;
 use c8_disk::MemDisk;
 use c8_game::{Game, Player};
@@ -25,23 +27,18 @@ pub(crate) fn replay_in(
     hand: &mut Hand,
     out: &mut Answers,
 ) -> io::Result<()> {
-    match words {
-        [me] => replay_image(
-            alloc,
-            game,
-            (player_in(me)?, ROOM),
-            &image_of(alloc, block)?,
-            out,
-        ),
-        [me, "room", room] => {
-            let image = image_of(alloc, block)?;
-            replay_image(alloc, game, (player_in(me)?, number_in(room)?), &image, out)
+    let [me, from @ ..] = words else {
+        return Err(unreadable());
+    };
+    let me = player_in(me)?;
+    match from {
+        [] => replay_image(alloc, game, (me, ROOM), &image_of(alloc, block)?, out),
+        ["room", room] => {
+            let room = number_in(room)?;
+            replay_image(alloc, game, (me, room), &image_of(alloc, block)?, out)
         }
-        [me, "disk"] => replay_image(alloc, game, (player_in(me)?, ROOM), hand.image(), out),
-        [me, "log"] => match hand.open_log() {
-            Some(log) => replay_log(alloc, game, player_in(me)?, log, out),
-            None => Err(unreadable()),
-        },
+        ["disk"] => replay_image(alloc, game, (me, ROOM), hand.image(), out),
+        ["log"] => replay_log(alloc, game, me, needed(hand.open_log())?, out),
         _ => Err(unreadable()),
     }
 }

@@ -2,11 +2,13 @@
 
 use crate::desk::Pace;
 use crate::help::PLAY_ENDING;
-use c8_front::{with_place, word_of};
+use c8_front::{Argument, Form, Outline, word_of};
 use c8_game::Player;
-use c8_net::{number, with_options, with_room};
-use clap::{Arg, ArgAction, ArgMatches, Command, value_parser};
-use std::alloc::{AllocError, Global};
+use c8_net::options::{
+    CHECKPOINT, GAME, PATIENCE, REMOTES, ROOM, SECRET, STOP, WATCH_SECRET, WATCH5, WATCH6,
+};
+use clap::ArgMatches;
+use clap::builder::ValueParser;
 
 /// Who plays.
 #[derive(Clone, Copy, Debug, PartialEq, Eq)]
@@ -17,53 +19,77 @@ pub(crate) enum Who {
     Player(Player),
 }
 
-/// Returns the command `play` with its arguments and options.
-pub fn play_command<'a>(alloc: Global) -> Result<Command<'a>, AllocError> {
-    let command = Command::new(alloc, "play")
-        .about("Plays a game at the keyboard, alone or with others over UDP")
-        .after_help(PLAY_ENDING);
-    let command = with_room(alloc, with_players(alloc, command)?)?;
-    let turns = "Ends after N turns, one a frame [default: no end]";
-    let command = command.arg(number(alloc, "turns", turns))?;
-    let progress =
-        "Says at the end, on standard error, how late frames were, and how the match ended";
-    let command = with_options(alloc, command, progress)?;
-    let rate = Arg::new(alloc, "rate")
-        .long("rate")
-        .value_name("N")
-        .help("How many frames a second, 1 to 120")
-        .value_parser(value_parser!(u8).range(1..121))
-        .default_value("60");
-    let command = command.arg(rate)?;
-    let hold = Arg::new(alloc, "hold")
-        .long("hold")
-        .value_name("N")
-        .help("How many frames a stroke counts for if the terminal reports no releases")
-        .value_parser(value_parser!(u8).range(1..))
-        .default_value("9");
-    let command = command.arg(hold)?;
-    let mute = Arg::new(alloc, "mute")
-        .long("mute")
-        .help("Rings no bell when a tone begins")
-        .action(ArgAction::SetTrue);
-    command.arg(mute)
-}
+/// The option `--hold`.
+pub const HOLD: Argument = Argument {
+    name: "hold",
+    help: "How many frames a stroke counts for if the terminal reports no releases",
+    value: Some(ValueParser::Signed(1, 255)),
+    default: Some("9"),
+    ..Argument::NUMBER
+};
 
-/// Adds the arguments that say who plays what.
-fn with_players<'a>(alloc: Global, command: Command<'a>) -> Result<Command<'a>, AllocError> {
-    let game = "The path of the game's text or of a .ch8 program, the same for all";
-    let command = with_place(alloc, command, "GAME", game)?;
-    let player = "The number of the own player, 1 to 4, or alone";
-    let command = with_place(alloc, command, "PLAYER", player)?;
-    let journal = "The path of the own journal, created if it is missing; - for none";
-    let command = command.arg(Arg::new(alloc, "JOURNAL").help(journal))?;
-    let local = "The own address, as 127.0.0.1:4001";
-    let command = command.arg(Arg::new(alloc, "LOCAL").help(local))?;
-    let remote = Arg::new(alloc, "REMOTE")
-        .help("The other players' addresses, in order of their numbers")
-        .num_args(0..);
-    command.arg(remote)
-}
+/// The option `--mute`.
+pub const MUTE: Argument = Argument {
+    name: "mute",
+    help: "Rings no bell when a tone begins",
+    ..Argument::FLAG
+};
+
+/// The command `play`.
+pub static PLAY: Outline = Outline {
+    name: "play",
+    about: "Plays a game at the keyboard, alone or with others over UDP",
+    ending: PLAY_ENDING,
+    takes: &[
+        GAME,
+        Argument {
+            name: "PLAYER",
+            help: "The number of the own player, 1 to 4, or alone",
+            ..Argument::NEEDED
+        },
+        Argument {
+            name: "JOURNAL",
+            help: "The path of the own journal, created if it is missing; - for none",
+            form: Form::Optional,
+            ..Argument::NEEDED
+        },
+        Argument {
+            name: "LOCAL",
+            help: "The own address, as 127.0.0.1:4001",
+            form: Form::Optional,
+            ..Argument::NEEDED
+        },
+        REMOTES,
+        ROOM,
+        Argument {
+            name: "turns",
+            help: "Ends after N turns, one a frame [default: no end]",
+            ..Argument::NUMBER
+        },
+        PATIENCE,
+        STOP,
+        CHECKPOINT,
+        WATCH5,
+        WATCH6,
+        SECRET,
+        WATCH_SECRET,
+        Argument {
+            name: "progress",
+            help: "Says at the end, on standard error, how late frames were, and how the match ended",
+            ..Argument::FLAG
+        },
+        Argument::EXPLAIN,
+        Argument {
+            name: "rate",
+            help: "How many frames a second, 1 to 120",
+            value: Some(ValueParser::Signed(1, 120)),
+            default: Some("60"),
+            ..Argument::NUMBER
+        },
+        HOLD,
+        MUTE,
+    ],
+};
 
 /// Who plays, or `None` if the arguments do not fit: with `alone` there is no journal, and a player has a journal and
 /// an address.

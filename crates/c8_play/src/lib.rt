@@ -20,7 +20,7 @@ mod status;
 mod terminal;
 
 pub use alone::play_alone;
-pub use arguments::play_command;
+pub use arguments::{HOLD, MUTE, PLAY};
 pub use chime::Chime;
 pub use command::play_given;
 pub use console::{Console, Gone, KEY_BYTES};

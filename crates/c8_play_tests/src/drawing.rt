@@ -1,9 +1,9 @@
 //! The pictures of a watched match, and their times by a clock of the test.
 ghost use Rattle.std.specs.Prelude.{◌≡◌};
 
-use c8_front::Terminals;
+use c8_front::{Terminals, command_of};
 use c8_game::Game;
-use c8_net::{WatchAsked, watch_command, watch_given, watch_on};
+use c8_net::{WATCH, WatchAsked, watch_given, watch_on};
 use c8_terminal::{ENTER, LEAVE};
 use c8_transport::{Traffic, Wire, WireFailed};
 use c8_wire::{Seat, Watcher};
@@ -277,7 +277,7 @@ where
     R: Files<File = File> + Net + Clock + Threads + Wait + Sync + AllocGlobal,
 {
     let (mut out, mut refused) = (Vec::new(rt.alloc()), Vec::new(rt.alloc()));
-    let Ok(command) = watch_command(rt.alloc()) else {
+    let Ok(command) = command_of(rt.alloc(), &WATCH) else {
         return out;
     };
     if let Ok(given) = command.try_get_matches_from(words()) {

@@ -3,74 +3,84 @@
 use crate::help::GAME_ENDING;
 use crate::keys::keys_of;
 use crate::settings::Settings;
-use c8_front::{with_explain, with_place};
+use c8_front::{Argument, Form, Outline};
 use c8_game::{Keys, MOST_PLAYERS, Player, WireVersion};
-use clap::{Arg, ArgAction, ArgMatches, Command, value_parser};
-use std::alloc::{AllocError, Global};
+use clap::ArgMatches;
+use clap::builder::ValueParser;
 
 /// The command `game`: the path `FILE`, an option for each number, `--keys`, `--list` and `--explain`.
-pub fn game_command<'a>(alloc: Global) -> Result<Command<'a>, AllocError> {
-    let command = Command::new(alloc, "game")
-        .about("Prints the game text of a CHIP-8 program, or lists its instructions")
-        .after_help(GAME_ENDING);
-    let file = "The path of the program's bytes";
-    let command = with_numbers(alloc, with_place(alloc, command, "FILE", file)?)?;
-    let keys = Arg::new(alloc, "keys")
-        .long("keys")
-        .value_name("N=LIST")
-        .help("The keys of player N, as hexadecimal digits; once for each player")
-        .action(ArgAction::Append);
-    let command = command.arg(keys)?;
-    let list = Arg::new(alloc, "list")
-        .long("list")
-        .help("Lists the instructions instead")
-        .action(ArgAction::SetTrue);
-    with_explain(alloc, command.arg(list)?)
-}
-
-/// Adds the options for the numbers of a game.
-fn with_numbers<'a>(alloc: Global, command: Command<'a>) -> Result<Command<'a>, AllocError> {
-    let players = option(alloc, "players", "How many players, 2 to 4")
-        .value_parser(value_parser!(u8).range(2..5))
-        .default_value("2");
-    let command = command.arg(players)?;
-    let ipf = option(alloc, "ipf", "Instructions a frame, 1 to 100")
-        .value_parser(value_parser!(u8).range(1..101))
-        .default_value("10");
-    let command = command.arg(ipf)?;
-    let frames = option(alloc, "frames", "Frames of the game, 1 to 262144")
-        .value_parser(value_parser!(u32).range(1..262_145))
-        .default_value("36000");
-    let command = command.arg(frames)?;
-    let delay = option(
-        alloc,
-        "delay",
-        "Frames between a key and its effect, 0 to 4",
-    )
-    .value_parser(value_parser!(u8).range(0..5))
-    .default_value("2");
-    let command = command.arg(delay)?;
-    let window = option(
-        alloc,
-        "window",
-        "Frames to run ahead of the confirmed ones, 1 to 12",
-    )
-    .value_parser(value_parser!(u8).range(1..13))
-    .default_value("8");
-    let command = command.arg(window)?;
-    let seed = option(alloc, "seed", "The seed of the random bytes")
-        .value_parser(value_parser!(u64))
-        .default_value("0");
-    let command = command.arg(seed)?;
-    let wire = option(alloc, "wire", "The version of the datagrams, 1 or 2")
-        .value_parser(value_parser!(u8).range(1..3))
-        .default_value("1");
-    command.arg(wire)
-}
-
-fn option<'a>(alloc: Global, name: &'a str, help: &'a str) -> Arg<'a> {
-    Arg::new(alloc, name).long(name).value_name("N").help(help)
-}
+pub static GAME: Outline = Outline {
+    name: "game",
+    about: "Prints the game text of a CHIP-8 program, or lists its instructions",
+    ending: GAME_ENDING,
+    takes: &[
+        Argument {
+            name: "FILE",
+            help: "The path of the program's bytes",
+            ..Argument::NEEDED
+        },
+        Argument {
+            name: "players",
+            help: "How many players, 2 to 4",
+            value: Some(ValueParser::Signed(2, 4)),
+            default: Some("2"),
+            ..Argument::NUMBER
+        },
+        Argument {
+            name: "ipf",
+            help: "Instructions a frame, 1 to 100",
+            value: Some(ValueParser::Signed(1, 100)),
+            default: Some("10"),
+            ..Argument::NUMBER
+        },
+        Argument {
+            name: "frames",
+            help: "Frames of the game, 1 to 262144",
+            value: Some(ValueParser::Signed(1, 262_144)),
+            default: Some("36000"),
+            ..Argument::NUMBER
+        },
+        Argument {
+            name: "delay",
+            help: "Frames between a key and its effect, 0 to 4",
+            value: Some(ValueParser::Signed(0, 4)),
+            default: Some("2"),
+            ..Argument::NUMBER
+        },
+        Argument {
+            name: "window",
+            help: "Frames to run ahead of the confirmed ones, 1 to 12",
+            value: Some(ValueParser::Signed(1, 12)),
+            default: Some("8"),
+            ..Argument::NUMBER
+        },
+        Argument {
+            name: "seed",
+            help: "The seed of the random bytes",
+            default: Some("0"),
+            ..Argument::NUMBER
+        },
+        Argument {
+            name: "wire",
+            help: "The version of the datagrams, 1 or 2",
+            value: Some(ValueParser::Signed(1, 2)),
+            default: Some("1"),
+            ..Argument::NUMBER
+        },
+        Argument {
+            name: "keys",
+            help: "The keys of player N, as hexadecimal digits; once for each player",
+            form: Form::Repeated("N=LIST"),
+            ..Argument::NEEDED
+        },
+        Argument {
+            name: "list",
+            help: "Lists the instructions instead",
+            ..Argument::FLAG
+        },
+        Argument::EXPLAIN,
+    ],
+};
 
 /// The settings that a parsed command line asks for; the parser has checked the ranges. `None` if a `--keys` is not
 /// `N=LIST`, or if two are for one player.

@@ -16,7 +16,7 @@ mod listing;
 mod settings;
 mod text;
 
-pub use arguments::game_command;
+pub use arguments::GAME;
 pub use command::{game_given, list, make};
 pub use error::ProgramError;
 pub use keys::keys_of;

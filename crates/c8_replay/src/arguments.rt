@@ -1,9 +1,9 @@
 //! The options of the command `replay`, and what they ask for.
 
 use crate::help::REPLAY_ENDING;
-use c8_front::{is_explained, with_explain, with_place, word_of};
-use clap::{Arg, ArgAction, ArgMatches, Command, value_parser};
-use std::alloc::{AllocError, Global};
+use c8_front::{Argument, Outline, is_explained, word_of};
+use clap::ArgMatches;
+use clap::builder::ValueParser;
 
 /// What `replay` shows of a journal.
 #[derive(Clone, Copy, Debug, PartialEq, Eq)]
@@ -42,57 +42,59 @@ pub struct Asked<'a> {
     pub explain: bool,
 }
 
-/// Returns the command `replay` with its arguments and options.
-pub fn replay_command<'a>(alloc: Global) -> Result<Command<'a>, AllocError> {
-    let command = Command::new(alloc, "replay")
-        .about("Shows the match that a player's journal confirms: prints the machine after it")
-        .after_help(REPLAY_ENDING);
-    let command = with_place(alloc, command, "GAME", "The path of the game's text")?;
-    let journal = "The path of the journal, of any player; it is only read";
-    let command = with_place(alloc, command, "JOURNAL", journal)?;
-    let room = "Refuses a journal of another room [default: takes any]";
-    let command = command.arg(number(alloc, "room", room))?;
-    let to = "Stops after N confirmed frames [default: all]";
-    let command = command.arg(number(alloc, "to", to))?;
-    let keys = Arg::new(alloc, "keys")
-        .long("keys")
-        .help("Prints the confirmed key sets as key lines for the command run, not the machine")
-        .action(ArgAction::SetTrue);
-    let command = command.arg(keys)?;
-    let page = Arg::new(alloc, "page")
-        .long("page")
-        .value_name("FILE")
-        .help("Also writes one HTML page that shows the match in a browser")
-        .conflicts_with("keys")?;
-    with_explain(alloc, with_screen(alloc, command.arg(page)?)?)
-}
-
-/// Adds the options `--screen` and `--rate`.
-fn with_screen<'a>(alloc: Global, command: Command<'a>) -> Result<Command<'a>, AllocError> {
-    let screen = Arg::new(alloc, "screen")
-        .long("screen")
-        .help("Shows the match in the terminal first")
-        .action(ArgAction::SetTrue)
-        .conflicts_with("keys")?
-        .conflicts_with("page")?;
-    let command = command.arg(screen)?;
-    let rate = Arg::new(alloc, "rate")
-        .long("rate")
-        .value_name("N")
-        .help("With --screen: how many frames a second, 1 to 120")
-        .value_parser(value_parser!(u8).range(1..121))
-        .default_value("60");
-    command.arg(rate)
-}
-
-/// An option that takes a number.
-fn number<'a>(alloc: Global, name: &'a str, help: &'a str) -> Arg<'a> {
-    Arg::new(alloc, name)
-        .long(name)
-        .value_name("N")
-        .help(help)
-        .value_parser(value_parser!(u64))
-}
+/// The command `replay`.
+pub static REPLAY: Outline = Outline {
+    name: "replay",
+    about: "Shows the match that a player's journal confirms: prints the machine after it",
+    ending: REPLAY_ENDING,
+    takes: &[
+        Argument {
+            name: "GAME",
+            help: "The path of the game's text",
+            ..Argument::NEEDED
+        },
+        Argument {
+            name: "JOURNAL",
+            help: "The path of the journal, of any player; it is only read",
+            ..Argument::NEEDED
+        },
+        Argument {
+            name: "room",
+            help: "Refuses a journal of another room [default: takes any]",
+            ..Argument::NUMBER
+        },
+        Argument {
+            name: "to",
+            help: "Stops after N confirmed frames [default: all]",
+            ..Argument::NUMBER
+        },
+        Argument {
+            name: "keys",
+            help: "Prints the confirmed key sets as key lines for the command run, not the machine",
+            ..Argument::FLAG
+        },
+        Argument {
+            name: "page",
+            help: "Also writes one HTML page that shows the match in a browser",
+            excludes: &["keys"],
+            ..Argument::FILE
+        },
+        Argument {
+            name: "screen",
+            help: "Shows the match in the terminal first",
+            excludes: &["keys", "page"],
+            ..Argument::FLAG
+        },
+        Argument {
+            name: "rate",
+            help: "With --screen: how many frames a second, 1 to 120",
+            value: Some(ValueParser::Signed(1, 120)),
+            default: Some("60"),
+            ..Argument::NUMBER
+        },
+        Argument::EXPLAIN,
+    ],
+};
 
 /// Returns what a parsed command line asks for.
 pub(crate) fn asked_of<'a>(given: &ArgMatches<'a>) -> Asked<'a> {

@@ -21,7 +21,7 @@ mod seat;
 mod showing;
 mod strokes;
 
-pub use arguments::{Asked, Form, Wish, replay_command};
+pub use arguments::{Asked, Form, REPLAY, Wish};
 pub use command::{replay, replay_given};
 pub use error::ReplayFault;
 pub use showing::{Shown, show_journal};

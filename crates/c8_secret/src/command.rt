@@ -1,10 +1,9 @@
 //! `c8play secret`: prints a new secret.
 
 use c8_command::{Refusal, Status};
+use c8_front::Outline;
 use c8_seal::SECRET_LENGTH;
 use c8_sealed::Secret;
-use clap::Command;
-use std::alloc::{AllocError, Global};
 use std::fs::File;
 use std::io::{Read, Write};
 use std::rt::Files;
@@ -23,12 +22,12 @@ Refusal: disk 1 Failed   the random numbers of the system cannot be read
 Exit status: 0 done, 2 a mistake in the command line, 3 disk 1 Failed";
 
 /// The command `secret`, which has no arguments.
-pub fn secret_command<'a>(alloc: Global) -> Result<Command<'a>, AllocError> {
-    let command = Command::new(alloc, "secret")
-        .about("Prints a new secret for a match: 32 random bytes, as hexadecimal digits")
-        .after_help(ENDING);
-    Ok(command)
-}
+pub static SECRET: Outline = Outline {
+    name: "secret",
+    about: "Prints a new secret for a match: 32 random bytes, as hexadecimal digits",
+    ending: ENDING,
+    takes: &[],
+};
 
 /// Writes the text of 32 bytes of the system's random device to `out`, and a LF. The line of a refusal goes to `refused`.
 /// The error is a writer's.

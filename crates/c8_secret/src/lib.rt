@@ -6,5 +6,5 @@
 mod command;
 mod files;
 
-pub use command::{random_bytes, secret_command, secret_given};
+pub use command::{SECRET, random_bytes, secret_given};
 pub use files::{SecretFault, make_secret, secret_in, warn_of_readers};

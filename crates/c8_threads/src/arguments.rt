@@ -1,9 +1,9 @@
 //! The options of the command `rig`, and what they ask for.
 
 use crate::help::RIG_ENDING;
-use c8_front::{is_explained, with_explain, with_place, word_of};
-use clap::{Arg, ArgAction, ArgMatches, Command, value_parser};
-use std::alloc::{AllocError, Global};
+use c8_front::{Argument, Outline, is_explained, word_of};
+use clap::ArgMatches;
+use clap::builder::ValueParser;
 
 /// What the command line of `rig` asks for.
 #[derive(Clone, Copy)]
@@ -21,35 +21,42 @@ pub struct Asked<'a> {
     pub explain: bool,
 }
 
-/// Returns the command `rig` with its options.
-pub fn rig_command<'a>(alloc: Global) -> Result<Command<'a>, AllocError> {
-    let command = Command::new(alloc, "rig")
-        .about(
-            "Plays all players of a game here, each in a thread of its own, and says whether they agree",
-        )
-        .after_help(RIG_ENDING);
-    let command = with_place(alloc, command, "GAME", "The path of the game's text")?;
-    let seed = Arg::new(alloc, "SEED")
-        .help("The seed of the players' turns, 0 to 18446744073709551615")
-        .required(true)
-        .value_parser(value_parser!(u64));
-    let command = command.arg(seed)?;
-    let turns = Arg::new(alloc, "TURNS")
-        .help("How many turns each player makes, 0 to 10000")
-        .required(true)
-        .value_parser(value_parser!(u16).range(0..10001));
-    let command = command.arg(turns)?;
-    let script = Arg::new(alloc, "script")
-        .long("script")
-        .value_name("FILE")
-        .help("Writes what happened as a script, which sim can play again");
-    let command = command.arg(script)?;
-    let progress = Arg::new(alloc, "progress")
-        .long("progress")
-        .help("Says each second, on standard error, how long the log is")
-        .action(ArgAction::SetTrue);
-    with_explain(alloc, command.arg(progress)?)
-}
+/// The command `rig`.
+pub static RIG: Outline = Outline {
+    name: "rig",
+    about: "Plays all players of a game here, each in a thread of its own, and says whether they agree",
+    ending: RIG_ENDING,
+    takes: &[
+        Argument {
+            name: "GAME",
+            help: "The path of the game's text",
+            ..Argument::NEEDED
+        },
+        Argument {
+            name: "SEED",
+            help: "The seed of the players' turns, 0 to 18446744073709551615",
+            value: Some(ValueParser::Unsigned(0, u64::MAX)),
+            ..Argument::NEEDED
+        },
+        Argument {
+            name: "TURNS",
+            help: "How many turns each player makes, 0 to 10000",
+            value: Some(ValueParser::Signed(0, 10_000)),
+            ..Argument::NEEDED
+        },
+        Argument {
+            name: "script",
+            help: "Writes what happened as a script, which sim can play again",
+            ..Argument::FILE
+        },
+        Argument {
+            name: "progress",
+            help: "Says each second, on standard error, how long the log is",
+            ..Argument::FLAG
+        },
+        Argument::EXPLAIN,
+    ],
+};
 
 /// Returns what a parsed command line asks for. The parser has checked that each argument is present and in range.
 pub(crate) fn asked_of<'a>(given: &ArgMatches<'a>) -> Option<Asked<'a>> {

@@ -11,7 +11,7 @@ mod help;
 mod script;
 mod watch;
 
-pub use arguments::{Asked, rig_command};
+pub use arguments::{Asked, RIG};
 pub use command::{rig, rig_file, rig_given};
 pub use error::RigError;
 pub use script::write_script;

@@ -1,12 +1,9 @@
 //! Tests of watching a match that neither a contract nor a script of `c8play sim` covers. The scripts are the cases in
 //! crates/c8play_cases/data whose names begin with `sim_watch`.
 //!
-//! c8_spectator: its printed text (`printed`), memory refused (`memory`). c8_world: random matches (`chance`).
-//! c8_watch: `turns`.
+//! c8_spectator: its printed text (`printed`), memory refused (`memory`). c8_watch: `turns`.
 #![tactic(auto)]
 
-#[cfg(test)]
-mod chance;
 #[cfg(test)]
 mod letter;
 #[cfg(test)]

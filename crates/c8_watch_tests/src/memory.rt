@@ -20,7 +20,7 @@ fn is_new(game: &Game, spectator: &Spectator<'_>) -> bool {
 
 #[test]
 fn memory_is_refused_to_a_watcher(rt: HostRuntime) -> Result<(), Fail> {
-    let game = game_of(rt.alloc(), 2, 20, 1)?;
+    let game = game_of(rt.alloc(), 20, 1)?;
     let Ok(spectator) = Spectator::open(rt.alloc(), &game, ROOM, SIX) else {
         let spectator = Spectator::open(rt.alloc(), &game, ROOM, SIX)?;
         assert!(rt; is_new(&game, &spectator));

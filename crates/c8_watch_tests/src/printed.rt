@@ -6,7 +6,7 @@ use std::test::Fail;
 
 #[test]
 fn a_watcher_prints_its_seat_and_its_rows(rt: HostRuntime) -> Result<(), Fail> {
-    let game = game_of(rt.alloc(), 2, 20, 1)?;
+    let game = game_of(rt.alloc(), 20, 1)?;
     let mut spectator = Spectator::open(rt.alloc(), &game, ROOM, FIVE)?;
     let show = Letter::show(&game, 5, 0, 16);
     assert!(rt; spectator.hear(show.bytes()) == Ok(Taken::Kept));

@@ -243,7 +243,7 @@ fn goes(alloc: Global, game: &Game, row: &Row) -> bool {
 
 #[test]
 fn a_watcher_makes_turns_until_it_ends(rt: HostRuntime) -> Result<(), Fail> {
-    let game = game_of(rt.alloc(), 2, 5, 1)?;
+    let game = game_of(rt.alloc(), 5, 1)?;
     for (place, row) in rows().iter().enumerate() {
         assert!(rt; goes(rt.alloc(), &game, row), "row {place}");
     }
@@ -252,7 +252,7 @@ fn a_watcher_makes_turns_until_it_ends(rt: HostRuntime) -> Result<(), Fail> {
 
 #[test]
 fn a_turn_takes_256_packets(rt: HostRuntime) -> Result<(), Fail> {
-    let game = game_of(rt.alloc(), 2, 300, 2)?;
+    let game = game_of(rt.alloc(), 300, 2)?;
     assert!(rt; goes(rt.alloc(), &game, &CROWD));
     Ok(())
 }

@@ -3,14 +3,13 @@
 #![tactic(auto)]
 
 use c8_command::Status;
-use c8_front::{Terminals, Unhurried, line_of, status_at, tell, with_command, words_in};
-use c8_host::{host_command, host_given, join_command, join_given};
-use c8_net::{peer_command, peer_given, watch_command, watch_given};
-use c8_play::{play_command, play_given};
-use c8_program::{game_command, game_given};
-use c8_secret::{secret_command, secret_given};
-use clap::{ArgMatches, Command};
-use std::alloc::{AllocError, Global};
+use c8_front::{Terminals, Unhurried, line_of, status_at, tell, words_in};
+use c8_host::{HOST, JOIN, host_given, join_given};
+use c8_net::{PEER, WATCH, peer_given, watch_given};
+use c8_play::{PLAY, play_given};
+use c8_program::{GAME, game_given};
+use c8_secret::{SECRET, secret_given};
+use clap::ArgMatches;
 use std::env::Args;
 use std::fs::File;
 use std::io::{IsTerminal, Read, Write};
@@ -51,21 +50,11 @@ where
     let Some(words) = words_in(alloc, args, refused)? else {
         return Ok(Status::CommandLine);
     };
-    match command(alloc)?.try_get_matches_from(words.as_slice()) {
+    let commands = [&PEER, &PLAY, &HOST, &JOIN, &WATCH, &SECRET, &GAME];
+    match line_of(alloc, &commands)?.try_get_matches_from(words.as_slice()) {
         Ok(matches) => carry_out(rt, &matches, input, out, terminals, refused),
         Err(error) => tell(&error, out, refused),
     }
-}
-
-/// The command line of the program.
-fn command<'a>(alloc: Global) -> Result<Command<'a>, AllocError> {
-    let command = line_of(alloc, peer_command(alloc)?)?;
-    let command = with_command(command, play_command(alloc))?;
-    let command = with_command(command, host_command(alloc))?;
-    let command = with_command(command, join_command(alloc))?;
-    let command = with_command(command, watch_command(alloc))?;
-    let command = with_command(command, secret_command(alloc))?;
-    with_command(command, game_command(alloc))
 }
 
 /// Does what a command line without a mistake asks for.

@@ -1,11 +1,11 @@
 //! The options of the command `watch`, and what they ask for.
 
-use crate::arguments::{file, number, number_of};
+use crate::arguments::number_of;
 use crate::help::WATCH_ENDING;
-use c8_front::{is_explained, with_explain, with_place, word_of};
+use c8_front::{Argument, Outline, is_explained, word_of};
 use c8_wire::Watcher;
-use clap::{Arg, ArgAction, ArgMatches, Command, value_parser};
-use std::alloc::{AllocError, Global};
+use clap::ArgMatches;
+use clap::builder::ValueParser;
 
 /// What the command line of `watch` asks for.
 #[derive(Clone, Copy)]
@@ -29,52 +29,63 @@ pub struct WatchAsked<'a> {
     pub explain: bool,
 }
 
-/// Returns the command `watch` with its arguments and options.
-pub fn watch_command<'a>(alloc: Global) -> Result<Command<'a>, AllocError> {
-    let command = Command::new(alloc, "watch")
-        .about("Watches a match over UDP, and prints the machine after the frames that it saw")
-        .after_help(WATCH_ENDING);
-    with_options(alloc, with_match(alloc, command)?)
-}
-
-/// Adds the arguments of `watch`: game, seat and addresses.
-fn with_match<'a>(alloc: Global, command: Command<'a>) -> Result<Command<'a>, AllocError> {
-    let game = "The path of the game's text or .ch8 program, the same as the players'";
-    let command = with_place(alloc, command, "GAME", game)?;
-    let seat = Arg::new(alloc, "SEAT")
-        .help("The seat, 5 or 6, as in player 1's --watch5 or --watch6")
-        .required(true)
-        .value_parser(value_parser!(u8).range(5..7));
-    let command = command.arg(seat)?;
-    let local = "The own address, as 127.0.0.1:4005";
-    let command = with_place(alloc, command, "LOCAL", local)?;
-    with_place(alloc, command, "REMOTE", "Player 1's address")
-}
-
-/// Adds the options of `watch`.
-fn with_options<'a>(alloc: Global, command: Command<'a>) -> Result<Command<'a>, AllocError> {
-    let room = number(
-        alloc,
-        "room",
-        "The number of the match, the same as its players'",
-    );
-    let command = command.arg(room.default_value("0"))?;
-    let turns = number(
-        alloc,
-        "turns",
-        "Ends after N turns, of at least a millisecond each",
-    );
-    let command = command.arg(turns.default_value("100000"))?;
-    let stop = "Ends once it has N frames [default: never]";
-    let command = command.arg(number(alloc, "stop", stop))?;
-    let secret = "The file of the watchers' secret: packets are sealed with it";
-    let command = command.arg(file(alloc, "secret", secret))?;
-    let screen = Arg::new(alloc, "screen")
-        .long("screen")
-        .help("Draws the screen on the terminal as the match goes on")
-        .action(ArgAction::SetTrue);
-    with_explain(alloc, command.arg(screen)?)
-}
+/// The command `watch`.
+pub static WATCH: Outline = Outline {
+    name: "watch",
+    about: "Watches a match over UDP, and prints the machine after the frames that it saw",
+    ending: WATCH_ENDING,
+    takes: &[
+        Argument {
+            name: "GAME",
+            help: "The path of the game's text or .ch8 program, the same as the players'",
+            ..Argument::NEEDED
+        },
+        Argument {
+            name: "SEAT",
+            help: "The seat, 5 or 6, as in player 1's --watch5 or --watch6",
+            value: Some(ValueParser::Signed(5, 6)),
+            ..Argument::NEEDED
+        },
+        Argument {
+            name: "LOCAL",
+            help: "The own address, as 127.0.0.1:4005",
+            ..Argument::NEEDED
+        },
+        Argument {
+            name: "REMOTE",
+            help: "Player 1's address",
+            ..Argument::NEEDED
+        },
+        Argument {
+            name: "room",
+            help: "The number of the match, the same as its players'",
+            default: Some("0"),
+            ..Argument::NUMBER
+        },
+        Argument {
+            name: "turns",
+            help: "Ends after N turns, of at least a millisecond each",
+            default: Some("100000"),
+            ..Argument::NUMBER
+        },
+        Argument {
+            name: "stop",
+            help: "Ends once it has N frames [default: never]",
+            ..Argument::NUMBER
+        },
+        Argument {
+            name: "secret",
+            help: "The file of the watchers' secret: packets are sealed with it",
+            ..Argument::FILE
+        },
+        Argument {
+            name: "screen",
+            help: "Draws the screen on the terminal as the match goes on",
+            ..Argument::FLAG
+        },
+        Argument::EXPLAIN,
+    ],
+};
 
 /// Returns what a parsed command line asks for. The parser has checked that each argument is present and in range.
 pub(super) fn asked_of<'a>(given: &ArgMatches<'a>) -> Option<WatchAsked<'a>> {

@@ -1,25 +1,9 @@
 //! The texts of errors, players and key sets, and the `Debug` texts of large values.
+use crate::told::{prints, shows};
 use c8_digest::Marks;
 use c8_game::{Game, GameError, Keys, Lines, NoPlayer, Player};
 use std::alloc::Global;
-use std::fmt::{Debug, Display};
 use std::test::Fail;
-
-/// Returns whether a value prints this text.
-fn prints<T: Display + Drop>(alloc: Global, value: T, text: &str) -> bool {
-    match format!(in alloc; "{value}") {
-        Ok(told) => told.as_str() == text,
-        Err(_) => false,
-    }
-}
-
-/// Returns whether a value's `Debug` text is this one.
-fn is_summed_up<T: Debug>(alloc: Global, value: &T, text: &str) -> bool {
-    match format!(in alloc; "{value:?}") {
-        Ok(told) => told.as_str() == text,
-        Err(_) => false,
-    }
-}
 
 /// Returns whether an error has this number, this name and this text.
 fn tells(alloc: Global, fault: GameError, number: u8, name: &str, text: &str) -> bool {
@@ -47,7 +31,7 @@ const GAME: &[u8] =
 /// Returns whether this is the `Debug` text of the game above.
 fn sums_up_game(alloc: Global, text: &str) -> Result<bool, Fail> {
     let game = Game::read(alloc, GAME)?;
-    Ok(is_summed_up(alloc, &game, text))
+    Ok(shows(alloc, &game, text))
 }
 
 /// Returns whether this is the `Debug` text of three marks.
@@ -56,7 +40,7 @@ fn sums_up_marks(alloc: Global, text: &str) -> Result<bool, Fail> {
     for frame in 0..3u32 {
         marks.put(frame, [0; 8]);
     }
-    Ok(is_summed_up(alloc, &marks, text))
+    Ok(shows(alloc, &marks, text))
 }
 
 #[test]
@@ -66,6 +50,6 @@ fn sums_up_what_is_long(rt: HostRuntime) -> Result<(), Fail> {
     assert!(rt; sums_up_game(rt.alloc(), text)?);
     assert!(rt; sums_up_marks(rt.alloc(), "Marks { count: 3 }")?);
     let lines = Lines::new(b"one\ntwo");
-    assert!(rt; is_summed_up(rt.alloc(), &lines, "Lines { bytes left: 7 }"));
+    assert!(rt; shows(rt.alloc(), &lines, "Lines { bytes left: 7 }"));
     Ok(())
 }

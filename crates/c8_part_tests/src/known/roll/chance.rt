@@ -1,7 +1,7 @@
 //! A roll compared with one that runs everything again, over random calls.
-use crate::calls::{at_first, come, count, drop_player, game_of};
-use crate::roll::slow::{Guesses, is_as_slow};
-use crate::roll::{settle, tick};
+use crate::known::calls::{at_first, come, count, drop_player, game_of};
+use crate::known::roll::slow::{Guesses, is_as_slow};
+use crate::known::roll::{settle, tick};
 use c8_game::{Game, Player};
 use c8_known::Known;
 use c8_roll::Roll;

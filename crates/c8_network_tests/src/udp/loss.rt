@@ -1,5 +1,5 @@
 //! A lost datagram that the system reports.
-use crate::sockets::{TWO, any};
+use crate::udp::sockets::{TWO, any};
 use c8_transport::{LONGEST_PACKET, Wire};
 use c8_udp::{Addresses, Remote, Udp};
 use c8_wire::Seat;

@@ -1,6 +1,6 @@
 //! Paints 10,000 random screens, one over the other: the terminal shows each of them, and only rows of text that differ
 //! are written.
-use crate::terminal::Terminal;
+use crate::terminal::terminal::Terminal;
 use c8_screen::Screen;
 use c8_terminal::Painter;
 use rand_pcg::Pcg32;

@@ -2,7 +2,7 @@
 mod chance;
 mod slow;
 
-use crate::calls::enter;
+use crate::known::calls::enter;
 use c8_known::Known;
 use c8_roll::Roll;
 

@@ -1,6 +1,6 @@
 //! The texts of secrets.
 
-use crate::loops::{Has, Loop, ONE, PLAYERS, SESSION, TWO, WATCHERS, seal_of};
+use crate::seal::loops::{Has, Loop, ONE, PLAYERS, SESSION, TWO, WATCHERS, seal_of};
 use c8_sealed::{Sealed, Secret, SecretError, Secrets};
 use c8_transport::Wire;
 

@@ -1,8 +1,4 @@
 //! The tests of c8_known and c8_roll that no case can be: rolls in random matches, compared with machines that run from
 //! the first frame.
-#![tactic(auto)]
-
-#[cfg(test)]
 mod calls;
-#[cfg(test)]
 mod roll;

@@ -1,6 +1,6 @@
 //! What a wire that seals gives, and what it turns away.
 
-use crate::loops::{Has, Letter, Loop, ONE, SESSION, TWO, letter_of, seal_of};
+use crate::seal::loops::{Has, Letter, Loop, ONE, SESSION, TWO, letter_of, seal_of};
 use c8_seal::LONGEST_OPEN;
 use c8_sealed::Sealed;
 use c8_transport::{LONGEST_PACKET, LONGEST_READ, LONGEST_SENT, Wire};

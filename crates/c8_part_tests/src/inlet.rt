@@ -1,7 +1,3 @@
 //! The tests of c8_inlet.
-#![tactic(auto)]
-
-#[cfg(test)]
 mod calls;
-#[cfg(test)]
 mod threads;

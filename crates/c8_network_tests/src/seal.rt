@@ -2,15 +2,8 @@
 //! implementation; a wire that seals over one in memory, and the texts of secrets.
 //!
 //! Tables are lent by functions that say nothing of them: a proof is then of any rows.
-#![tactic(auto)]
-
-#[cfg(test)]
 mod hmac;
-#[cfg(test)]
 mod loops;
-#[cfg(test)]
 mod packets;
-#[cfg(test)]
 mod texts;
-#[cfg(test)]
 mod wires;

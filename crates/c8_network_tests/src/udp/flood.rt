@@ -1,5 +1,5 @@
 //! A third socket that floods a player with datagrams: none of them is given.
-use crate::sockets::any;
+use crate::udp::sockets::any;
 use c8_transport::{LONGEST_PACKET, Wire};
 use c8_udp::{Addresses, Remote, Udp};
 use std::net::{SocketAddr, UdpSocket};

@@ -1,0 +1,14 @@
+//! Tests of parts: texts of c8_game and c8_digest (`machine`), c8_terminal, c8_known with c8_roll (`known`), and c8_inlet. What
+//! else the parts do stands in the cases of c8cases.
+#![tactic(auto)]
+
+#[cfg(test)]
+mod inlet;
+#[cfg(test)]
+mod known;
+#[cfg(test)]
+mod machine;
+#[cfg(test)]
+mod terminal;
+#[cfg(test)]
+mod told;
