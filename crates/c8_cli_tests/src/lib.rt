@@ -1,5 +1,5 @@
-//! Tests of c8_command, c8_keys, c8_show, c8_script, c8_front, c8_net and c8_cli that neither a contract nor a case in
-//! crates/c8play_cases/data covers: texts that no command prints there, readers and writers that fail, and whole matches over sockets.
+//! Texts that no command prints in `cases/` or in `tools/programs`: refusals for want of memory or space, readers that fail, and disks
+//! that are too slow.
 //!
 //! Functions without contracts lend the tables, so that a proof holds for any rows.
 #![tactic(auto)]
@@ -7,14 +7,8 @@
 #[cfg(test)]
 mod answers;
 #[cfg(test)]
-mod arguments;
-#[cfg(test)]
 mod disks;
-#[cfg(test)]
-mod loopback;
 #[cfg(test)]
 mod readers;
 #[cfg(test)]
 mod refusals;
-#[cfg(test)]
-mod writers;

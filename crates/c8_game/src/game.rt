@@ -65,19 +65,14 @@ impl Model for Game {
     }) };
 }
 
-/// Prints the numbers and the length of the program, not its bytes.
+/// Prints the numbers of players, of instructions a frame and of frames.
 impl fmt::Debug for Game {
     fn fmt<W: fmt::Write>(&self, f: &mut fmt::Formatter<W>) -> fmt::Result {
         let (players, ipf, frames) = (self.players, self.ipf, self.frames);
-        let (delay, window, seed) = (self.delay, self.window, self.seed);
-        let wire = self.wire.number();
-        let length = self.program.len();
         write!(
             f,
-            "Game {{ players: {players}, ipf: {ipf}, frames: {frames}, "
-        )?;
-        write!(f, "delay: {delay}, window: {window}, seed: {seed}, ")?;
-        write!(f, "wire: {wire}, program: {length} bytes }}")
+            "Game {{ players: {players}, ipf: {ipf}, frames: {frames}, .. }}"
+        )
     }
 }
 

@@ -12,7 +12,7 @@ pub const MOST_PAIRS: usize = 42;
 
 /// Consecutive inputs of one player, at most 64, as pairs. A pair has three bytes: its length, and its
 /// key set with the high byte first. `==` compares the bytes, the start and the length, not the inputs.
-#[derive(Clone, Copy, Debug, PartialEq, Eq)]
+#[derive(Clone, Copy, Debug)]
 pub struct Pairs<'a> {
     bytes: &'a [u8],
     /// How many inputs of the first pair come before the run.
@@ -150,7 +150,7 @@ impl<'a> Pairs<'a> {
 }
 
 /// An iterator over the inputs of a run.
-#[derive(Clone, Copy, Debug, PartialEq, Eq)]
+#[derive(Clone, Copy, Debug)]
 pub struct PairsIter<'a> {
     rest: &'a [u8],
     /// How many inputs of the current pair are left; `keys` is its key set.

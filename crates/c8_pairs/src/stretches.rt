@@ -8,7 +8,7 @@ use crate::pair::Pair;
 use crate::run::{LONGEST_RUN, MOST_PAIRS};
 
 /// An iterator over the pairs of inputs.
-#[derive(Clone, Copy, Debug, PartialEq, Eq)]
+#[derive(Clone, Copy, Debug)]
 pub struct Stretches<'a> {
     rest: &'a [u16],
     ghost few: { length rest.now ≤ 64 },

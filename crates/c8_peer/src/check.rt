@@ -1,7 +1,7 @@
 //! The progress of a checkpoint.
 
 /// Which record of a checkpoint a call added.
-#[derive(Clone, Copy, Debug, PartialEq, Eq, Hash)]
+#[derive(Clone, Copy, Debug, PartialEq, Eq)]
 pub enum Check {
     /// The piece with this number, 0 to 35.
     Piece(u32),

@@ -1,7 +1,7 @@
 //! The answer to a datagram that the peer took.
 
 /// What a datagram that was taken did.
-#[derive(Clone, Copy, Debug, PartialEq, Eq, Hash)]
+#[derive(Clone, Copy, Debug, PartialEq, Eq)]
 pub enum Heard {
     /// It added no record. The memory may have changed: links, acknowledgements, a drop round, or a watcher's rows.
     Nothing,

@@ -3,7 +3,7 @@ use crate::heard::Heard;
 use c8_record::Record;
 
 /// What to do with a datagram that nothing refuses. The memory notes the rest of it, except after `Alarm`.
-#[derive(Clone, Copy, Debug, PartialEq, Eq)]
+#[derive(Clone, Copy, Debug)]
 pub(crate) enum Verdict<'a> {
     /// Record nothing.
     Nothing,

@@ -19,7 +19,7 @@ pub(crate) const DIGEST_WORDS: usize = 4;
 /// that the record is about in all others. `start` is the place of the record's first input in that
 /// player's list of inputs. `form` is 0 or 2, and holds for the records that follow: only form 2 has
 /// `State` and `Check`. docs/FORMATS.md has the bytes and the rules of each kind.
-#[derive(Clone, Copy, Debug, PartialEq, Eq)]
+#[derive(Clone, Copy, Debug)]
 pub enum Record<'a> {
     /// The first record: the owner of the journal, the game's id and the room. It begins epoch 1.
     Head {

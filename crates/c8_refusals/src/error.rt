@@ -9,7 +9,7 @@ use c8_wire::WireError;
 use thiserror::Error;
 
 /// Why a peer was not opened. The refusal returns the disk.
-#[derive(Clone, Copy, Debug, PartialEq, Eq, Hash, Error)]
+#[derive(Clone, Copy, Debug, PartialEq, Eq, Error)]
 pub enum OpenError {
     /// The journal begins with a HEAD of another game or room. It has not changed.
     #[error("a journal of another game or room")]
@@ -62,7 +62,7 @@ impl OpenError {
 }
 
 /// Why a tick was refused. Only `Disk` changes anything.
-#[derive(Clone, Copy, Debug, PartialEq, Eq, Hash, Error)]
+#[derive(Clone, Copy, Debug, PartialEq, Eq, Error)]
 pub enum TickError {
     /// The peer has ticked as many frames beyond the confirmed ones as the game's window has.
     #[error("too far ahead of what is confirmed")]
@@ -109,7 +109,7 @@ impl TickError {
 }
 
 /// Why a datagram was refused. Only `Desync` and `Disk` change anything.
-#[derive(Clone, Copy, Debug, PartialEq, Eq, Hash, Error)]
+#[derive(Clone, Copy, Debug, PartialEq, Eq, Error)]
 pub enum Refused {
     /// The bytes are not a datagram.
     #[error("{0}")]
@@ -192,7 +192,7 @@ impl Refused {
 }
 
 /// Why a datagram cannot be said. Nothing has changed.
-#[derive(Clone, Copy, Debug, PartialEq, Eq, Hash, Error)]
+#[derive(Clone, Copy, Debug, PartialEq, Eq, Error)]
 pub enum Unsayable {
     /// The disk failed before; the peer must be opened again.
     #[error("the peer is down")]
@@ -244,7 +244,7 @@ impl Unsayable {
 }
 
 /// Why a player was not dropped. Only `Disk` changes anything.
-#[derive(Clone, Copy, Debug, PartialEq, Eq, Hash, Error)]
+#[derive(Clone, Copy, Debug, PartialEq, Eq, Error)]
 pub enum LeaveError {
     /// This peer is not player 1's.
     #[error("only player one drops a player")]
@@ -296,7 +296,7 @@ impl LeaveError {
 }
 
 /// Why a leaver was not cut. Only `Disk` changes anything.
-#[derive(Clone, Copy, Debug, PartialEq, Eq, Hash, Error)]
+#[derive(Clone, Copy, Debug, PartialEq, Eq, Error)]
 pub enum DecideError {
     /// The journal has no LEAVE of the player, or this peer is not player 1's.
     #[error("the player has not been dropped")]
@@ -343,7 +343,7 @@ impl DecideError {
 }
 
 /// Why a checkpoint call recorded nothing. Only `Disk` changes anything.
-#[derive(Clone, Copy, Debug, PartialEq, Eq, Hash, Error)]
+#[derive(Clone, Copy, Debug, PartialEq, Eq, Error)]
 pub enum CheckError {
     /// No checkpoint is under way, and no frame was confirmed after the last one.
     #[error("nothing was confirmed since the last checkpoint")]

@@ -2,7 +2,11 @@
 //! the table of turns; and a draw follows its choice.
 #![tactic(auto)]
 
+#[cfg(test)]
 mod ethers;
+#[cfg(test)]
 mod gates;
+#[cfg(test)]
 mod matches;
+#[cfg(test)]
 mod table;

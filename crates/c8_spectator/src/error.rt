@@ -6,7 +6,7 @@ use c8_wire::WireError;
 use thiserror::Error;
 
 /// Why a watcher does not take a datagram: the first of these that applies, in this order.
-#[derive(Clone, Copy, Debug, PartialEq, Eq, Hash, Error)]
+#[derive(Clone, Copy, Debug, PartialEq, Eq, Error)]
 pub enum WatchError {
     /// The datagram is of another match, or in another version of the format than the game's.
     #[error("from another match, or in another version of the format")]
@@ -57,7 +57,7 @@ impl WatchError {
 }
 
 /// Why bytes are not taken: they are not a datagram, or the watcher refuses it.
-#[derive(Clone, Copy, Debug, PartialEq, Eq, Hash, Error)]
+#[derive(Clone, Copy, Debug, PartialEq, Eq, Error)]
 pub enum NotTaken {
     #[error("{0}")]
     Wire(WireError),

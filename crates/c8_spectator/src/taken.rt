@@ -1,7 +1,7 @@
 //! The result of a SHOW that was taken.
 
 /// The result of a SHOW that was taken.
-#[derive(Clone, Copy, Debug, PartialEq, Eq, Hash)]
+#[derive(Clone, Copy, Debug, PartialEq, Eq)]
 pub enum Taken {
     /// It had no new row.
     Nothing,

@@ -2,7 +2,11 @@
 //! refuses.
 #![tactic(auto)]
 
+#[cfg(test)]
 mod counts;
+#[cfg(test)]
 mod refusals;
+#[cfg(test)]
 mod replays;
+#[cfg(test)]
 mod verdicts;

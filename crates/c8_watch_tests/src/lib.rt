@@ -1,5 +1,5 @@
 //! Tests of watching a match that neither a contract nor a script of `c8play sim` covers. The scripts are the cases in
-//! crates/c8play_cases/data whose names begin with `sim_watch`.
+//! cases/ whose names begin with `sim_watch`.
 //!
 //! c8_spectator: its printed text (`printed`), memory refused (`memory`). c8_watch: `turns`.
 #![tactic(auto)]

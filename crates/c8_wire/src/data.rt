@@ -13,7 +13,7 @@ use crate::version::version_in;
 use c8_game::MOST_INPUTS;
 
 /// A DATA datagram: the sender's inputs, an acknowledgement and a mark.
-#[derive(Clone, Copy, Debug, PartialEq, Eq)]
+#[derive(Clone, Copy, Debug)]
 pub struct Data<'a> {
     pub(crate) bytes: &'a [u8],
     pub(crate) ghost long: { 46 ≤ length bytes.now },

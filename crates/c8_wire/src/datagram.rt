@@ -9,7 +9,7 @@ use crate::leaving::{Cut, Freeze, Frozen};
 use crate::showing::{Seen, Show};
 
 /// A valid datagram, borrowed from the received bytes. Nothing is copied.
-#[derive(Clone, Copy, Debug, PartialEq, Eq)]
+#[derive(Clone, Copy, Debug)]
 pub enum Datagram<'a> {
     Hello(Hello<'a>),
     Welcome(Welcome<'a>),

@@ -10,7 +10,7 @@ use crate::numbers::u32_at;
 use c8_game::MOST_INPUTS;
 
 /// A HELLO datagram: the sender asks for a link. It has no body.
-#[derive(Clone, Copy, Debug, PartialEq, Eq)]
+#[derive(Clone, Copy, Debug)]
 pub struct Hello<'a> {
     pub(crate) bytes: &'a [u8],
     pub(crate) ghost size: { length bytes.now ≡ 24 },
@@ -18,7 +18,7 @@ pub struct Hello<'a> {
 }
 
 /// A WELCOME datagram: the answer to a HELLO. It opens the addressee's link.
-#[derive(Clone, Copy, Debug, PartialEq, Eq)]
+#[derive(Clone, Copy, Debug)]
 pub struct Welcome<'a> {
     pub(crate) bytes: &'a [u8],
     pub(crate) ghost size: { length bytes.now ≡ 28 },

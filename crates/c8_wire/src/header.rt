@@ -81,7 +81,7 @@ pub struct Head {
 }
 
 /// The header of a datagram. Each accessor decodes its field from the bytes.
-#[derive(Clone, Copy, Debug, PartialEq, Eq)]
+#[derive(Clone, Copy, Debug)]
 pub struct Header<'a> {
     pub(crate) kind: DatagramKind,
     pub(crate) bytes: &'a [u8],

@@ -13,7 +13,7 @@ use crate::version::version_in;
 use c8_game::{MOST_INPUTS, Player};
 
 /// The common part: the leaver, a number of its inputs and, except in FREEZE, a run of them.
-#[derive(Clone, Copy, Debug, PartialEq, Eq)]
+#[derive(Clone, Copy, Debug)]
 pub(crate) struct Leaving<'a> {
     pub(crate) bytes: &'a [u8],
     pub(crate) ghost long: { 30 ≤ length bytes.now },
@@ -66,7 +66,7 @@ impl<'a> Leaving<'a> {
 }
 
 /// A FREEZE datagram: player one drops a player. The receiver checks that the sender is player one.
-#[derive(Clone, Copy, Debug, PartialEq, Eq)]
+#[derive(Clone, Copy, Debug)]
 pub struct Freeze<'a> {
     pub(crate) view: Leaving<'a>,
     pub(crate) ghost size: { length view.bytes.now ≡ 30 },
@@ -94,7 +94,7 @@ impl<'a> Freeze<'a> {
 }
 
 /// A FROZEN datagram: the inputs of a dropped player that the sender holds.
-#[derive(Clone, Copy, Debug, PartialEq, Eq)]
+#[derive(Clone, Copy, Debug)]
 pub struct Frozen<'a> {
     pub(crate) view: Leaving<'a>,
     pub(crate) ghost long: { 36 ≤ length view.bytes.now },
@@ -145,7 +145,7 @@ impl<'a> Frozen<'a> {
 }
 
 /// A CUT datagram: how many inputs of a dropped player count for all who stay.
-#[derive(Clone, Copy, Debug, PartialEq, Eq)]
+#[derive(Clone, Copy, Debug)]
 pub struct Cut<'a> {
     pub(crate) view: Leaving<'a>,
     pub(crate) ghost long: { 36 ≤ length view.bytes.now },

@@ -14,7 +14,7 @@ use c8_pairs::{Pairs, PairsIter};
 
 /// Consecutive inputs of one player, at most 64. `==` compares the bytes, the version and the start, not
 /// the inputs: two runs of the same inputs can differ.
-#[derive(Clone, Copy, Debug, PartialEq, Eq)]
+#[derive(Clone, Copy, Debug)]
 pub enum Run<'a> {
     /// Version 1: two bytes for each input.
     Words(Words<'a>),
@@ -139,7 +139,7 @@ impl<'a> Run<'a> {
 }
 
 /// An iterator over the inputs of a run.
-#[derive(Clone, Copy, Debug, PartialEq, Eq)]
+#[derive(Clone, Copy, Debug)]
 pub enum Inputs<'a> {
     Words(WordsIter<'a>),
     Pairs(PairsIter<'a>),

@@ -3,7 +3,7 @@ use crate::header::Head;
 use c8_game::{Player, Row};
 
 /// The body to be written, by kind. A run or rows are borrowed from the caller.
-#[derive(Clone, Copy, Debug, PartialEq, Eq)]
+#[derive(Clone, Copy, Debug)]
 pub enum Body<'a> {
     /// The sender asks for a link.
     Hello,
@@ -51,7 +51,7 @@ pub enum Body<'a> {
 }
 
 /// A datagram to be written. `head.kind` must be the kind of `body`.
-#[derive(Clone, Copy, Debug, PartialEq, Eq)]
+#[derive(Clone, Copy, Debug)]
 pub struct Said<'a> {
     pub head: Head,
     pub body: Body<'a>,

@@ -12,7 +12,7 @@ use crate::sizes::MOST_ROWS;
 use c8_game::{Keys, MOST_FRAMES, Row};
 
 /// A SHOW datagram: player one sends rows of the match to a watcher.
-#[derive(Clone, Copy, Debug, PartialEq, Eq)]
+#[derive(Clone, Copy, Debug)]
 pub struct Show<'a> {
     pub(crate) bytes: &'a [u8],
     pub(crate) ghost few: { number_at 28 2 bytes.now ≤ 16 },
@@ -44,7 +44,7 @@ impl<'a> Show<'a> {
 }
 
 /// The rows of a SHOW. `get` decodes one from the bytes.
-#[derive(Clone, Copy, Debug, PartialEq, Eq)]
+#[derive(Clone, Copy, Debug)]
 pub struct ShownRows<'a> {
     pub(crate) bytes: &'a [u8],
     pub(crate) count: usize,
@@ -95,7 +95,7 @@ fn row_at(bytes: &[u8], place: usize) -> Row
 }
 
 /// A SEEN datagram: a watcher acknowledges rows to player one.
-#[derive(Clone, Copy, Debug, PartialEq, Eq)]
+#[derive(Clone, Copy, Debug)]
 pub struct Seen<'a> {
     pub(crate) bytes: &'a [u8],
     pub(crate) ghost size: { length bytes.now ≡ 28 },

@@ -3,7 +3,7 @@ use crate::datagram::Datagram;
 use crate::header::Header;
 use crate::run::Run;
 use crate::showing::Show;
-use c8_game::WireVersion;
+use c8_game::{Player, WireVersion};
 use std::fmt;
 
 /// Shows the fields in lines, without a line feed after the last. The version is shown only if it is 2.
@@ -13,54 +13,74 @@ impl<'a> fmt::Display for Datagram<'a> {
         show_header(f, self.header())?;
         match self {
             Datagram::Hello(_) => Ok(()),
-            Datagram::Welcome(welcome) => {
-                let ack = welcome.ack();
-                write!(f, "\nack {ack}")
-            }
+            Datagram::Welcome(welcome) => put(f, "\nack ", welcome.ack()),
+            Datagram::Seen(seen) => put(f, "\nack ", seen.ack()),
             Datagram::Data(data) => {
-                let (ack, frame) = (data.ack(), data.mark_frame());
-                let mark = u64::from_be_bytes(data.mark());
-                write!(f, "\nack {ack}\nmark {frame} {mark:016x}")?;
+                put(f, "\nack ", data.ack())?;
+                put(f, "\nmark ", data.mark_frame())?;
+                put_hex(f, " ", u64::from_be_bytes(data.mark()))?;
                 show_run(f, data.start(), data.run())
             }
-            Datagram::Freeze(freeze) => {
-                let (leaver, have) = (freeze.leaver(), freeze.have());
-                write!(f, "\nleaver {leaver} have {have}")
-            }
+            Datagram::Freeze(freeze) => show_leaver(f, freeze.leaver(), " have ", freeze.have()),
             Datagram::Frozen(frozen) => {
-                let (leaver, held) = (frozen.leaver(), frozen.held());
-                write!(f, "\nleaver {leaver} held {held}")?;
+                show_leaver(f, frozen.leaver(), " held ", frozen.held())?;
                 show_run(f, frozen.start(), frozen.run())
             }
             Datagram::Cut(cut) => {
-                let (leaver, length) = (cut.leaver(), cut.length());
-                write!(f, "\nleaver {leaver} length {length}")?;
+                show_leaver(f, cut.leaver(), " length ", cut.length())?;
                 show_run(f, cut.start(), cut.run())
             }
             Datagram::Show(show) => show_rows(f, show),
-            Datagram::Seen(seen) => {
-                let ack = seen.ack();
-                write!(f, "\nack {ack}")
-            }
         }
     }
 }
 
+fn put<W: fmt::Write>(f: &mut fmt::Formatter<W>, name: &str, value: u32) -> fmt::Result {
+    write!(f, "{name}{value}")
+}
+
+fn put_hex<W: fmt::Write>(f: &mut fmt::Formatter<W>, name: &str, value: u64) -> fmt::Result {
+    write!(f, "{name}{value:016x}")
+}
+
 fn show_header<W: fmt::Write>(f: &mut fmt::Formatter<W>, header: Header<'_>) -> fmt::Result {
-    let (kind, session) = (header.kind(), header.session());
-    let (from, to) = (header.from().number, header.to().number);
-    let (sender, addressee) = (header.sender_epoch(), header.addressee_epoch());
+    let kind = header.kind();
     write!(f, "kind {kind}")?;
     if let WireVersion::Two = header.version() {
-        f.write_str("\nversion 2")?;
+        put(f, "\nversion ", 2)?;
     }
-    write!(f, "\nsession {session:016x}\n")?;
-    write!(f, "from {from} to {to}\nepochs {sender} {addressee}")
+    put_hex(f, "\nsession ", header.session())?;
+    put_all(
+        f,
+        &[
+            ("\nfrom ", header.from().number.into()),
+            (" to ", header.to().number.into()),
+            ("\nepochs ", header.sender_epoch()),
+            (" ", header.addressee_epoch()),
+        ],
+    )
+}
+
+fn put_all<W: fmt::Write>(f: &mut fmt::Formatter<W>, numbers: &[(&str, u32)]) -> fmt::Result {
+    for (name, number) in numbers {
+        write!(f, "{name}{number}")?;
+    }
+    Ok(())
+}
+
+fn show_leaver<W: fmt::Write>(
+    f: &mut fmt::Formatter<W>,
+    leaver: Player,
+    name: &str,
+    inputs: u32,
+) -> fmt::Result {
+    put(f, "\nleaver ", leaver.number.into())?;
+    put(f, name, inputs)
 }
 
 fn show_run<W: fmt::Write>(f: &mut fmt::Formatter<W>, start: u32, run: Run<'_>) -> fmt::Result {
-    let count = run.len();
-    write!(f, "\nstart {start} count {count}\nrun")?;
+    show_start(f, start, run.len())?;
+    f.write_str("\nrun")?;
     for word in run.iter() {
         write!(f, " {word:04x}")?;
     }
@@ -68,12 +88,16 @@ fn show_run<W: fmt::Write>(f: &mut fmt::Formatter<W>, start: u32, run: Run<'_>) 
 }
 
 fn show_rows<W: fmt::Write>(f: &mut fmt::Formatter<W>, show: &Show<'_>) -> fmt::Result {
-    let (start, rows) = (show.start(), show.rows());
-    let count = rows.len();
-    write!(f, "\nstart {start} count {count}")?;
-    for place in 0..count {
+    let rows = show.rows();
+    show_start(f, show.start(), rows.len())?;
+    for place in 0..rows.len() {
         let [one, two, three, four] = rows.get(place).sets;
         write!(f, "\nrow {one} {two} {three} {four}")?;
     }
     Ok(())
+}
+
+fn show_start<W: fmt::Write>(f: &mut fmt::Formatter<W>, start: u32, count: usize) -> fmt::Result {
+    put(f, "\nstart ", start)?;
+    write!(f, " count {count}")
 }

@@ -8,7 +8,7 @@ use crate::numbers::u16_at;
 use crate::sizes::LONGEST_RUN;
 
 /// Consecutive inputs of one player, at most 64, two bytes each.
-#[derive(Clone, Copy, Debug, PartialEq, Eq)]
+#[derive(Clone, Copy, Debug)]
 pub struct Words<'a> {
     pub(crate) bytes: &'a [u8],
     pub(crate) ghost even: { length bytes.now % 2 ≡ 0 },
@@ -80,7 +80,7 @@ impl<'a> Words<'a> {
 }
 
 /// An iterator over the inputs of a run.
-#[derive(Clone, Copy, Debug, PartialEq, Eq)]
+#[derive(Clone, Copy, Debug)]
 pub struct WordsIter<'a> {
     pub(crate) rest: &'a [u8],
 }

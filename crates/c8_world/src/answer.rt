@@ -6,21 +6,21 @@ use c8_peer::{
 use c8_spectator::{NotTaken, Taken};
 
 /// How many ticks a player has made, and how many frames are confirmed for it.
-#[derive(Clone, Copy, Debug, PartialEq, Eq, Hash)]
+#[derive(Clone, Copy, Debug, PartialEq, Eq)]
 pub struct Counts {
     pub now: u32,
     pub confirmed: u32,
 }
 
 /// A datagram that was sent: its number, counted from 0, and its length in bytes.
-#[derive(Clone, Copy, Debug, PartialEq, Eq, Hash)]
+#[derive(Clone, Copy, Debug, PartialEq, Eq)]
 pub struct Posted {
     pub number: u64,
     pub length: usize,
 }
 
 /// The answer to an event: what the peer answers, or why it was not asked.
-#[derive(Clone, Copy, Debug, PartialEq, Eq, Hash)]
+#[derive(Clone, Copy, Debug, PartialEq, Eq)]
 pub enum Answer {
     /// The epoch that began, or why the opening was refused.
     Opened(Result<u32, OpenError>),

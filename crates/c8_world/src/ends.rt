@@ -12,7 +12,7 @@ use std::alloc::{AllocError, Global};
 
 /// What one player has: its ticks, its confirmed frames, and how many inputs of each player it holds, player 1 first; 0
 /// for a player who is not in the game.
-#[derive(Clone, Copy, Debug, PartialEq, Eq, Hash)]
+#[derive(Clone, Copy, Debug, PartialEq, Eq)]
 pub struct Tally {
     pub now: u32,
     pub confirmed: u32,

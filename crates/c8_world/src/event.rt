@@ -6,7 +6,7 @@ use c8_peer::Kind;
 use c8_wire::{Seat, Watcher};
 
 /// An act of one player or watcher.
-#[derive(Clone, Copy, Debug, PartialEq, Eq, Hash)]
+#[derive(Clone, Copy, Debug, PartialEq, Eq)]
 pub enum Act {
     /// Opens the player's peer on its disk. A peer that is down is closed first.
     Open(Player),
@@ -33,7 +33,7 @@ pub enum Act {
 }
 
 /// An act. Its player may stop inside it, or its disk may fail once.
-#[derive(Clone, Copy, Debug, PartialEq, Eq, Hash)]
+#[derive(Clone, Copy, Debug, PartialEq, Eq)]
 pub enum Event {
     Do(Act),
     /// The disk serves this many more calls, and then fails. After the act the player's peer is away, and its disk

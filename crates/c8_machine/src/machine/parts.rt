@@ -8,7 +8,7 @@ use c8_game::Keys;
 use c8_screen::Screen;
 
 /// The parts of a machine, with any values. [`Machine::of_parts`] says which values a machine can have.
-#[derive(Clone, Copy, Debug, PartialEq, Eq)]
+#[derive(Clone, Copy, Debug)]
 pub struct Parts {
     pub memory: [u8; MEMORY_SIZE],
     /// V0 to VF.
