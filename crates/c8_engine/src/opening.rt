@@ -1,5 +1,6 @@
 //! Opening and closing a session.
-ghost use Rattle.std.specs.Prelude.{◌≡◌, ◌<◌, None};
+ghost use Rattle.std.specs.Prelude.{◌≡◌, ◌<◌, ℕ, List, None, IfErr};
+ghost use Rattle.c8_game.specs.GameText.{Spells};
 ghost use Rattle.c8_engine.specs.Calls.{IsOpenWith};
 
 use crate::codes::{file_code, game_code, nobody_code, open_code};
@@ -78,31 +79,60 @@ fn open_over(
     let Some(me) = Player::new(player) else {
         return nobody_code();
     };
-    let capacity = capacity_of(&game);
-    let Ok(bytes) = Vec::with_capacity(alloc, capacity as usize) else {
-        return open_code(OpenError::Memory);
-    };
-    let disk = match FileDisk::over(medium, bytes, capacity) {
+    let disk = match disk_for(alloc, &game, medium) {
         Ok(disk) => disk,
-        Err(error) => return file_code(error),
+        Err(code) => return code,
     };
-    let Ok(game) = Box::new(alloc, game) else {
-        return open_code(OpenError::Memory);
+    match Box::new(alloc, game) {
+        Ok(game) => open_on(alloc, disk, Box::leak(game), me, room, patience, handle),
+        Err(_) => open_code(OpenError::Memory),
+    }
+}
+
+/// The disk of a journal with room for a match. The error is a code.
+fn disk_for(alloc: Global, game: &Game, medium: Medium) -> Result<FileDisk<Medium>, u32>
+    ensures { IfErr result (λ code. 0 < code) }
+{
+    let capacity = capacity_of(game);
+    let Ok(bytes) = Vec::with_capacity(alloc, capacity as usize) else {
+        return Err(open_code(OpenError::Memory));
     };
+    match FileDisk::over(medium, bytes, capacity) {
+        Ok(disk) => Ok(disk),
+        Err(error) => Err(file_code(error)),
+    }
+}
+
+/// Opens a session of a game on a disk.
+fn open_on(
+    alloc: Global,
+    disk: FileDisk<Medium>,
+    game: &'static Game,
+    me: Player,
+    room: u64,
+    patience: u32,
+    handle: &mut Handle,
+) -> u32
+    ensures opened { result ≡ 0 → (text : List ℕ) → Spells text game.now
+        → IsOpenWith text me.number room handle.new.value }
+    ensures refused { 0 < result → handle.new ≡ handle.old }
+{
     let patience = if patience == 0 {
         None
     } else {
         Some(u64::from(patience))
     };
-    let engine = match Engine::open(alloc, disk, Box::leak(game), me, room, patience, INTERVAL) {
+    let engine = match Engine::open(alloc, disk, game, me, room, patience, INTERVAL) {
         Ok(engine) => engine,
         Err((error, _)) => return open_code(error),
     };
-    let Ok(session) = Box::new(alloc, Session { engine }) else {
-        return open_code(OpenError::Memory);
-    };
-    *handle = Handle::of(session);
-    0
+    match Box::new(alloc, Session { engine }) {
+        Ok(session) => {
+            *handle = Handle::of(session);
+            0
+        }
+        Err(_) => open_code(OpenError::Memory),
+    }
 }
 
 /// How many bytes a journal of a game has at most: a record for each input, the checkpoints, and spare ones.
