@@ -1,7 +1,6 @@
 //! Tests of c8_udp: sockets of the system over the loopback, and a socket whose first call fails.
 //!
 //! Functions without contracts lend the tables, so that a proof holds for any rows.
-mod addresses;
 mod errors;
 mod flood;
 mod learning;
