@@ -1,5 +1,5 @@
 use Rattle.std.proofs.Common.{◌≡◌}
-use Rattle.c8_board_tests.proofs.run.Publisher.go_on.Given as goal
+use Rattle.c8_worker_tests.proofs.run.Publisher.go_on.Given as goal
 
 abbrev pub invariant-loop : goal.invariant-loop
 invariant-loop l = l.self.pen ≡ l.initial.self.pen

@@ -1,6 +1,6 @@
 //! A pen and two viewers, each in a thread of its own.
 ghost use Rattle.std.specs.Prelude.{◌≡◌, []};
-ghost use Rattle.c8_board_tests.specs.Idle.{first_start};
+ghost use Rattle.c8_worker_tests.specs.Idle.{first_start};
 
 use crate::board::opened;
 use crate::run::{Publisher, counting};

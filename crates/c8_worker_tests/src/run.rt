@@ -1,6 +1,6 @@
 //! A run of rows without keys, and how it is published.
 ghost use Rattle.std.specs.Prelude.{◌≡◌, ◌≤◌, []};
-ghost use Rattle.c8_board_tests.specs.Idle.{IsIdleRun, first_start, idle_rows};
+ghost use Rattle.c8_worker_tests.specs.Idle.{IsIdleRun, first_start, idle_rows};
 
 use c8_board::laws::the_first_start_is_serial;
 use c8_board::{Board, Pen};

@@ -1,6 +1,6 @@
 //! How a watcher is printed.
-use crate::letter::Letter;
-use crate::played::{FIVE, ROOM, game_of};
+use crate::watching::letter::Letter;
+use crate::watching::played::{FIVE, ROOM, game_of};
 use c8_spectator::{Spectator, Taken};
 use std::test::Fail;
 

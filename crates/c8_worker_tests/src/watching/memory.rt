@@ -2,7 +2,7 @@
 //!
 //! With enough memory the test checks the new watcher. `rt try --test --fail-alloc N` refuses the Nth allocation. If
 //! that is the watcher's, the test fails with the name `STANDS`, or with another name if it finds something wrong.
-use crate::played::{ROOM, SIX, game_of};
+use crate::watching::played::{ROOM, SIX, game_of};
 use c8_game::Game;
 use c8_machine::Machine;
 use c8_spectator::Spectator;

@@ -1,5 +1,5 @@
 use Rattle.std.proofs.Common.{◌≡◌}
-use Rattle.c8_board_tests.proofs.threads.look_all.Given as goal
+use Rattle.c8_worker_tests.proofs.threads.look_all.Given as goal
 
 abbrev pub invariant-loop : goal.invariant-loop
 invariant-loop l = l.viewer.board ≡ l.board

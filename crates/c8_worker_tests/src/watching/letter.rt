@@ -1,5 +1,5 @@
 //! Datagrams spelled by the tables of the format, and not by the program's own writer.
-use crate::played::{ROOM, row_of};
+use crate::watching::played::{ROOM, row_of};
 use c8_game::{Game, Row};
 
 /// The epoch of player 1 in each SHOW. Watchers ignore it.

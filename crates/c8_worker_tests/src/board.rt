@@ -2,7 +2,7 @@
 //! written by hand.
 ghost use Rattle.std.specs.Prelude.{◌≡◌, [], IfOk};
 ghost use Rattle.c8_board.specs.Tokens.{new_viewer};
-ghost use Rattle.c8_board_tests.specs.Idle.{first_start};
+ghost use Rattle.c8_worker_tests.specs.Idle.{first_start};
 
 use crate::run::{Publisher, counting};
 use c8_board::laws::the_first_start_is_serial;

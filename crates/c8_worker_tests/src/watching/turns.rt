@@ -1,8 +1,8 @@
 //! The turns of a watcher, over a wire of the test.
 ghost use Rattle.std.specs.Prelude.{◌≡◌};
 
-use crate::letter::Letter;
-use crate::played::{FIVE, ROOM, game_of, row_of};
+use crate::watching::letter::Letter;
+use crate::watching::played::{FIVE, ROOM, game_of, row_of};
 use c8_board::{Board, Viewer};
 use c8_game::Game;
 use c8_machine::Machine;

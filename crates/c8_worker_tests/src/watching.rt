@@ -2,15 +2,8 @@
 //! cases/ whose names begin with `sim_watch`.
 //!
 //! c8_spectator: its printed text (`printed`), memory refused (`memory`). c8_watch: `turns`.
-#![tactic(auto)]
-
-#[cfg(test)]
 mod letter;
-#[cfg(test)]
 mod memory;
-#[cfg(test)]
 mod played;
-#[cfg(test)]
 mod printed;
-#[cfg(test)]
 mod turns;

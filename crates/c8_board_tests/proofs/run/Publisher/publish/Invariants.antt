@@ -1,5 +1,0 @@
-use Rattle.c8_board_tests.specs.Idle.{idle_rows}
-use Rattle.c8_board_tests.proofs.run.Publisher.publish.Given as goal
-
-abbrev pub ghost-publish : goal.ghost-publish
-ghost-publish a = idle_rows a.count
