@@ -2,7 +2,7 @@
 use crate::look::look;
 use c8_disk::MemDisk;
 use c8_game::{Keys, Player};
-use c8_part_cases::{Answers, keys_in, player_in, unreadable, write_datagram};
+use c8_part_cases::{Answers, keys_in, player_in, unreadable};
 use c8_peer::{Check, Heard, Kind, Peer, Refused};
 use c8_wire::LONGEST_DATAGRAM;
 use std::io;
@@ -116,7 +116,7 @@ pub(crate) fn say(
 pub(crate) fn show(letter: &Letter, number: usize, out: &mut Answers) -> io::Result<()> {
     let bytes = letter.bytes();
     out.tell(format_args!("said {number} length {}", bytes.len()))?;
-    write_datagram(&mut out.text, bytes)
+    out.spell("", bytes)
 }
 
 pub(crate) fn deliver(

@@ -1,20 +1,16 @@
-//! Tests that are text. A case file has commands, each of them a public call, and the answers that are expected.
-//! [`run`] runs a file, and tells what differs. docs/TESTING.md has the language.
+//! Tests that are text: cases of calls, each command a public call of a peer or of a part. docs/TESTING.md has the language.
 //!
-//! `script` has the form of a file, `words` and `bytes` have how bytes, numbers and players are spelled. `file` compares,
-//! and `perform` finds the call of a command. The calls: `stage` and `node` have the peers of a match and their disks,
-//! `calls` and `look` what a peer is asked, `slots` its journal, `watchers` the watchers, and `faults` what each failure
-//! inside a call leaves.
+//! [`run`] does what the commands of a case say, and prints the answers. `tools/calls` has the form of a file, compares, and
+//! tries failures. `stage` and `node` have the peers of a match and their disks, `calls` and `look` what a peer is
+//! asked, `slots` its journal, and `watchers` the watchers. c8_part_cases has the commands of the parts.
 #![tactic(auto)]
 
 mod calls;
-mod faults;
-mod file;
+mod commands;
 mod look;
 mod node;
-mod perform;
 mod slots;
 mod stage;
 mod watchers;
 
-pub use file::{Ran, run};
+pub use commands::run;

@@ -56,9 +56,9 @@ fn named<T: Display + Drop>(text: &mut Vec<u8>, name: &str, value: T) -> io::Res
 }
 
 /// Prints a name and bytes.
-fn spelled(text: &mut Vec<u8>, name: &str, bytes: &[u8], size: usize) -> io::Result<()> {
+fn spelled(text: &mut Vec<u8>, name: &str, bytes: &[u8]) -> io::Result<()> {
     write!(text, "{name}")?;
-    write_bytes(text, bytes, &[], size, size == 1)
+    write_bytes(text, bytes)
 }
 
 fn yes(is_so: bool) -> &'static str {
@@ -87,9 +87,9 @@ fn read_machine(peer: &Peer<'_, MemDisk>, name: &str, text: &mut Vec<u8>) -> io:
             let counter = peer.shown().counter();
             write!(text, "{name} {counter:03x}")
         }
-        "registers" => spelled(text, name, peer.shown().registers(), 1),
-        "mark" => spelled(text, name, &mark(peer.shown()), 8),
-        "base_mark" => spelled(text, name, &mark(peer.base().1), 8),
+        "registers" => spelled(text, name, peer.shown().registers()),
+        "mark" => spelled(text, name, &mark(peer.shown())),
+        "base_mark" => spelled(text, name, &mark(peer.base().1)),
         "players" => write_players(peer, text),
         _ => Err(unreadable()),
     }

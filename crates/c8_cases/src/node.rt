@@ -7,9 +7,9 @@ use std::alloc::Global;
 use std::io;
 
 /// How many bytes and calls an empty disk has room for, unless a command says otherwise.
-pub(crate) const CAPACITY: u32 = 20000;
+const CAPACITY: u32 = 20000;
 
-pub(crate) const CALLS: u32 = 1000;
+const CALLS: u32 = 1000;
 
 /// A player's open peer, or its disk.
 #[derive(Drop)]

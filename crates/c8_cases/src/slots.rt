@@ -1,9 +1,8 @@
 //! The slots of a journal.
 use c8_disk::{Disk, MemDisk};
 use c8_log::SLOT_LENGTH;
-use c8_part_cases::{Answers, count_in, size_in, unreadable, write_at, write_slot};
+use c8_part_cases::{Answers, count_in, size_in, unreadable, write_at};
 use std::io;
-use std::io::Write;
 
 /// Prints slots: all of them, one, or those from one number to another.
 pub(crate) fn journal(image: &[u8], words: &[&str], out: &mut Answers) -> io::Result<()> {
@@ -15,8 +14,7 @@ pub(crate) fn journal(image: &[u8], words: &[&str], out: &mut Answers) -> io::Re
     };
     for (number, slot) in image.chunks(SLOT_LENGTH).enumerate() {
         if from <= number && number <= to {
-            write!(out.text, "{number}")?;
-            write_slot(&mut out.text, slot)?;
+            out.spell(number, slot)?;
         }
     }
     Ok(())

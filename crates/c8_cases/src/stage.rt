@@ -1,10 +1,9 @@
 //! All players' peers.
 use crate::calls::{Letter, call, deliver, kind_in, say, show};
-use crate::look::look;
-use crate::node::{CALLS, CAPACITY, Node};
+use crate::node::Node;
 use crate::slots::{add_slot, journal, place_in};
 use crate::watchers::{Watchers, say_show, watcher_in};
-use c8_disk::{Arm, MemDisk};
+use c8_disk::MemDisk;
 use c8_game::{Game, Player};
 use c8_log::SLOT_LENGTH;
 use c8_part_cases::{
@@ -18,9 +17,6 @@ use std::io;
 
 /// The room of a match, unless a command names another.
 const ROOM: u64 = 0x0102030405060708;
-
-/// What is printed of a peer that is opened again.
-const FOUND: [&str; 4] = ["epoch", "now", "last_checkpoint", "players"];
 
 /// The nodes of all players, player 1's first, and what has been said.
 #[derive(Drop)]
@@ -69,7 +65,6 @@ impl<'g> Stage<'g> {
         match *verb {
             "game" => self.judge_game(block, out),
             "why" => out.explain(),
-            "meet" => self.meet(),
             "watch" | "show" | "seen" => self.watch(words, out),
             "disk" => match rest {
                 [at, capacity, calls] if player_in(at).is_ok() => {
@@ -150,45 +145,6 @@ impl<'g> Stage<'g> {
         Ok(())
     }
 
-    /// Sets which calls fail: of a player's disk, or of the one on the desk.
-    pub(crate) fn arm(&mut self, at: Option<Player>, arm: Arm) {
-        match at {
-            Some(at) => {
-                if let Some(node) = self.node(at) {
-                    node.arm(arm);
-                }
-            }
-            None => self.desk.hand().arm(arm),
-        }
-    }
-
-    /// Crashes: a player's disk, or the one on the desk.
-    pub(crate) fn crash(&mut self, at: Option<Player>, pick: u64) {
-        match at {
-            Some(at) => {
-                if let Some(node) = self.node(at) {
-                    node.crash(pick);
-                }
-            }
-            None => self.desk.hand().crash(pick),
-        }
-    }
-
-    /// Prints what the next opening finds: of a player's peer, or of the log on the desk.
-    pub(crate) fn find(&mut self, at: Option<Player>, out: &mut Answers) -> io::Result<()> {
-        let Some(at) = at else {
-            self.desk.hand().open(out)?;
-            self.desk.hand().bodies(out)?;
-            return Ok(());
-        };
-        self.open(at, self.game, ROOM, out)?;
-        if let Some(peer) = self.peer(at) {
-            out.text.clear();
-            look(peer, &FOUND, out)?;
-        }
-        Ok(())
-    }
-
     /// Does what a command says of a player, and perhaps of another one.
     fn perform_at(
         &mut self,
@@ -263,31 +219,6 @@ impl<'g> Stage<'g> {
 
     fn node(&mut self, at: Player) -> Option<&mut Node<'g>> {
         self.nodes.get_mut(at.place())
-    }
-
-    /// Opens the peers of all players of the game on empty disks, and gives each a link to each other.
-    fn meet(&mut self) -> io::Result<()> {
-        let game = needed(self.game)?;
-        let mut out = Answers::new(self.alloc);
-        for number in 1..game.players().saturating_add(1) {
-            let at = needed(Player::new(number))?;
-            self.put(at, CAPACITY, CALLS)?;
-            self.open(at, Some(game), ROOM, &mut out)?;
-        }
-        for number in 1..game.players().saturating_add(1) {
-            let one = needed(Player::new(number))?;
-            self.link_to_all(one, game.players(), &mut out)?;
-        }
-        Ok(())
-    }
-
-    fn link_to_all(&mut self, one: Player, players: u8, out: &mut Answers) -> io::Result<()> {
-        for number in 1..players.saturating_add(1) {
-            let other = needed(Player::new(number))?;
-            self.carry(one, other, Kind::Hello, out)?;
-            self.carry(other, one, Kind::Welcome, out)?;
-        }
-        Ok(())
     }
 
     fn put(&mut self, at: Player, capacity: u32, calls: u32) -> io::Result<()> {

@@ -3,13 +3,12 @@ use crate::calls::Letter;
 use c8_digest::mark;
 use c8_disk::MemDisk;
 use c8_game::Game;
-use c8_part_cases::{Answers, count_in, needed, unreadable, write_bytes};
+use c8_part_cases::{Answers, count_in, needed, unreadable};
 use c8_peer::Peer;
 use c8_spectator::{NotTaken, Spectator, Taken};
 use c8_wire::{LONGEST_DATAGRAM, Watcher};
 use std::alloc::Global;
 use std::io;
-use std::io::Write;
 
 /// The watchers of both seats.
 #[derive(Drop)]
@@ -131,11 +130,7 @@ pub(crate) fn say_show(
 fn look(spectator: &Spectator<'_>, words: &[&str], out: &mut Answers) -> io::Result<()> {
     match words {
         ["count"] => out.tell(format_args!("count {}", spectator.count())),
-        ["mark"] => {
-            write!(out.text, "mark")?;
-            write_bytes(&mut out.text, &mark(spectator.shown()), &[], 8, false)?;
-            writeln!(out.text)
-        }
+        ["mark"] => out.spell("mark", &mark(spectator.shown())),
         ["row", frame] => match spectator.rows().get(count_in(frame)? as usize) {
             Some(row) => {
                 let [one, two, three, four] = row.sets;

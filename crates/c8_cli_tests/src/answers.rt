@@ -1,5 +1,5 @@
 //! The line of a refusal that no script of `c8play sim` causes: what a watcher hears there is a datagram. The names of
-//! the other refusals that no script causes are in cases of c8cases.
+//! the other refusals that no script causes are in `cases/calls`.
 use c8_script::write_answers;
 use c8_spectator::NotTaken;
 use c8_wire::WireError;

@@ -37,6 +37,13 @@ impl Answers {
         writeln!(self.text, "refused {part} {number} {name}")
     }
 
+    /// Prints a line: a name, and bytes in hexadecimal.
+    pub fn spell<T: Display + Drop>(&mut self, name: T, bytes: &[u8]) -> io::Result<()> {
+        write!(self.text, "{name}")?;
+        write_bytes(&mut self.text, bytes)?;
+        writeln!(self.text)
+    }
+
     /// Prints the sentence of the last refusal.
     pub fn explain(&mut self) -> io::Result<()> {
         self.text.extend_from_slice(&self.why)?;
@@ -44,20 +51,13 @@ impl Answers {
     }
 }
 
-/// Adds what a command printed `many` times in succession. One line ends in `times N` then; several lines have a line
-/// `times N` behind them.
-pub fn add(text: &mut Vec<u8>, printed: &[u8], many: usize) -> io::Result<()> {
-    if many < 2 || printed.is_empty() {
-        return text.write_all(printed);
+/// Prints a space and bytes in hexadecimal; nothing if there are none.
+pub fn write_bytes(text: &mut Vec<u8>, bytes: &[u8]) -> io::Result<()> {
+    if !bytes.is_empty() {
+        write!(text, " ")?;
     }
-    match printed.strip_suffix(b"\n".as_slice()) {
-        Some(line) if !line.contains(&b'\n') => {
-            text.write_all(line)?;
-            writeln!(text, " times {many}")
-        }
-        _ => {
-            text.write_all(printed)?;
-            writeln!(text, "times {many}")
-        }
+    for byte in bytes {
+        write!(text, "{byte:02x}")?;
     }
+    Ok(())
 }

@@ -1,6 +1,5 @@
 //! Datagrams, and the links that admit them.
 use crate::answers::Answers;
-use crate::bytes::write_datagram;
 use crate::words::{bytes_in, count_in, player_in, unreadable};
 use c8_game::{Game, Player, WireVersion};
 use c8_hand::{HandError, Links};
@@ -13,37 +12,6 @@ pub(crate) fn show(bytes: &[u8], out: &mut Answers) -> io::Result<()> {
     match view(bytes) {
         Ok(datagram) => out.tell(datagram),
         Err(error) => out.refuse("wire", error.number(), error.name(), error),
-    }
-}
-
-/// The name of the first refusal of bytes.
-fn name_of(bytes: &[u8]) -> &'static str {
-    match view(bytes) {
-        Ok(_) => "taken",
-        Err(error) => error.name(),
-    }
-}
-
-/// Prints what becomes of each front of some bytes, the shortest first.
-pub(crate) fn show_fronts(bytes: &[u8], out: &mut Answers) -> io::Result<()> {
-    let (mut first, mut last) = (0usize, name_of(&[]));
-    for length in 1..=bytes.len() {
-        let name = name_of(&bytes[..length]);
-        if name != last {
-            tell_lengths(first, length, last, out)?;
-            first = length;
-            last = name;
-        }
-    }
-    tell_lengths(first, bytes.len().saturating_add(1), last, out)
-}
-
-fn tell_lengths(first: usize, next: usize, name: &str, out: &mut Answers) -> io::Result<()> {
-    let last = next.saturating_sub(1);
-    if last == first {
-        out.tell(format_args!("{first} {name}"))
-    } else {
-        out.tell(format_args!("{first} to {last} {name}"))
     }
 }
 
@@ -72,7 +40,7 @@ pub(crate) fn show_data(
     let length = write_data(version, &inputs, &mut room);
     let carried = fits(version, &inputs);
     out.tell(format_args!("fits {carried} length {length}"))?;
-    write_datagram(&mut out.text, room.get(..length).unwrap_or(&[]))
+    out.spell("", room.get(..length).unwrap_or(&[]))
 }
 
 /// The key sets of two bytes each.

@@ -1,6 +1,6 @@
 //! The parts in hand, and the commands that use them.
 use crate::answers::Answers;
-use crate::datagrams::{call_links, show, show_data, show_fronts};
+use crate::datagrams::{call_links, show, show_data};
 use crate::disks::Hand;
 use crate::inputs::Inputs;
 use crate::machines::{call_machine, show_game};
@@ -52,7 +52,6 @@ impl<'g> Desk<'g> {
             "log" => self.hand.log(alloc, rest, block, out),
             "body" => body_in(rest, out),
             "view" => show(&bytes_in(alloc, rest, block, 0)?, out),
-            "fronts" => show_fronts(&bytes_in(alloc, rest, block, 0)?, out),
             "data" => show_data(alloc, rest, block, out),
             _ => self.perform_in(needed(self.game)?, (*verb, rest), block, out),
         }
@@ -96,10 +95,5 @@ impl<'g> Desk<'g> {
         };
         self.links = Some(Links::new(player_in(me)?, game, 0, count_in(epoch)?));
         Ok(())
-    }
-
-    /// The disk or the log in hand.
-    pub fn hand(&mut self) -> &mut Hand {
-        &mut self.hand
     }
 }

@@ -1,16 +1,14 @@
 //! A disk in memory, and a log on it.
 use crate::answers::Answers;
-use crate::bytes::write_bytes;
 use crate::words::{arm_in, bytes_in, count_in, needed, number_in, size_in, unreadable};
 use c8_disk::{Arm, Disk, DiskError, LONGEST_WRITE, MemDisk};
 use c8_log::{BODY_LENGTH, Block, Log, LogError, kept_len};
 use std::alloc::Global;
 use std::io;
-use std::io::Write;
 
 /// A disk, or an open log.
 #[derive(Drop)]
-pub struct Hand {
+pub(crate) struct Hand {
     disk: Option<MemDisk>,
     log: Option<Log<MemDisk>>,
 }
@@ -45,7 +43,7 @@ impl Hand {
     }
 
     /// Sets which calls of the disk fail.
-    pub fn arm(&mut self, arm: Arm) {
+    fn arm(&mut self, arm: Arm) {
         if let Some(log) = &mut self.log {
             log.arm(arm);
         } else if let Some(disk) = &mut self.disk {
@@ -54,7 +52,7 @@ impl Hand {
     }
 
     /// Closes the log. The disk then holds an image that a crash may leave.
-    pub fn crash(&mut self, pick: u64) {
+    fn crash(&mut self, pick: u64) {
         self.close();
         if let Some(disk) = self.disk.take() {
             self.disk = Some(disk.crash(pick));
@@ -68,7 +66,7 @@ impl Hand {
     }
 
     /// Opens a log on the disk; an open one is closed first.
-    pub fn open(&mut self, out: &mut Answers) -> io::Result<()> {
+    fn open(&mut self, out: &mut Answers) -> io::Result<()> {
         self.close();
         let Some(disk) = self.disk.take() else {
             return Err(unreadable());
@@ -101,14 +99,6 @@ impl Hand {
                 Ok(())
             }
             _ => call_log(alloc, needed(self.log.as_mut())?, words, block, out),
-        }
-    }
-
-    /// Prints each body that the log counts.
-    pub fn bodies(&mut self, out: &mut Answers) -> io::Result<()> {
-        match &mut self.log {
-            Some(log) => read_all(log, out),
-            None => Ok(()),
         }
     }
 
@@ -166,9 +156,7 @@ fn read(log: &mut Log<MemDisk>, number: u32, out: &mut Answers) -> io::Result<()
     match log.read(number, &mut block) {
         Ok(slot) => {
             let body = slot.body;
-            write!(out.text, "{number}")?;
-            write_bytes(&mut out.text, body, &[], 16, true)?;
-            writeln!(out.text)
+            out.spell(number, body)
         }
         Err(error) => refuse(error, out),
     }
@@ -196,11 +184,7 @@ fn call_disk(
         }
         ["read", place, many] => read_at(disk, count_in(place)?, size_in(many)?, out),
         ["sync"] => tell(disk.sync(), out),
-        ["held"] => {
-            write!(out.text, "{}", disk.len())?;
-            write_bytes(&mut out.text, disk.bytes(), &[], 16, true)?;
-            writeln!(out.text)
-        }
+        ["held"] => out.spell(disk.len(), disk.bytes()),
         ["kept"] => out.tell(kept_len(disk.bytes())),
         ["debug"] => out.tell(format_args!("{disk:?}")),
         _ => Err(unreadable()),
@@ -234,11 +218,7 @@ fn read_at(disk: &mut MemDisk, place: u32, many: usize, out: &mut Answers) -> io
         return Err(unreadable());
     }
     match disk.read_at(place, &mut room[..many]) {
-        Ok(()) => {
-            write!(out.text, "read")?;
-            write_bytes(&mut out.text, &room[..many], &[], 16, true)?;
-            writeln!(out.text)
-        }
+        Ok(()) => out.spell("read", &room[..many]),
         Err(error) => tell(Err(error), out),
     }
 }

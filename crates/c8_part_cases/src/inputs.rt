@@ -1,6 +1,5 @@
 //! Known inputs, and a roll on them.
-use crate::answers::Answers;
-use crate::bytes::write_bytes;
+use crate::answers::{Answers, write_bytes};
 use crate::words::{bytes_in, count_in, keys_in, needed, player_in, unreadable};
 use c8_digest::mark;
 use c8_game::{Game, Keys, Player};
@@ -218,9 +217,8 @@ fn take_data(known: &mut Known, player: Player, bytes: &[u8], out: &mut Answers)
     if player.number == known.me().number || known.cut_of(player).is_some() {
         return Err(unreadable());
     }
-    write!(out.text, "new {} skip {}", part.len(), part.skip())?;
-    write_bytes(&mut out.text, part.bytes(), &[], 128, false)?;
-    writeln!(out.text)?;
+    let (new, skip) = (part.len(), part.skip());
+    out.spell(format_args!("new {new} skip {skip}"), part.bytes())?;
     known.take(player, part);
     Ok(())
 }
@@ -259,11 +257,9 @@ fn look(roll: &Roll<'_>, out: &mut Answers) -> io::Result<()> {
     let (last_run, ticks, shown) = (roll.last_run(), roll.ticks(), roll.shown());
     out.tell(format_args!("base {base} last_run {last_run} ticks {ticks}"))?;
     write!(out.text, "registers")?;
-    write_bytes(&mut out.text, shown.registers(), &[], 1, true)?;
+    write_bytes(&mut out.text, shown.registers())?;
     let (counter, draws) = (shown.counter(), shown.draws());
     write!(out.text, " counter {counter:03x} draws {draws} mark")?;
-    write_bytes(&mut out.text, &mark(shown), &[], 8, false)?;
-    write!(out.text, " base")?;
-    write_bytes(&mut out.text, &mark(confirmed), &[], 8, false)?;
-    writeln!(out.text)
+    write_bytes(&mut out.text, &mark(shown))?;
+    out.spell(" base", &mark(confirmed))
 }

@@ -1,6 +1,5 @@
 //! Records of a journal, and what a replay answers.
 use crate::answers::Answers;
-use crate::bytes::write_record;
 use crate::disks::Hand;
 use crate::words::{
     bytes_in, count_in, keys_in, needed, number_in, player_in, unreadable, words_in,
@@ -117,6 +116,5 @@ pub(crate) fn body_in(words: &[&str], out: &mut Answers) -> io::Result<()> {
         start: count_in(start)?,
         keys: keys_in(keys)?,
     };
-    write!(out.text, "body")?;
-    write_record(&mut out.text, &body_of(&own))
+    out.spell("body", &body_of(&own))
 }
