@@ -1,5 +1,5 @@
-//! Texts that no command prints in `cases/` or in `tools/programs`: refusals for want of memory or space, arguments and readers that fail, and disks
-//! that are too slow.
+//! Texts that no command prints in `cases/` or in `tools/programs`: refusals for want of memory or space, arguments and
+//! readers that fail, and disks that are too slow.
 //!
 //! Functions without contracts lend the tables, so that a proof holds for any rows.
 #![tactic(auto)]

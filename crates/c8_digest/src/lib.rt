@@ -2,8 +2,8 @@
 //! nothing.
 //!
 //! `state_bytes` writes a machine's state and `read_state` reads it back. `mark` is the beginning of the digest of
-//! these bytes; a [`Marker`] makes one mark after another. `Marks` keeps the last sixteen marks with their frames. The definitions are in `specs/StateBytes.antt`
-//! and `specs/Marks.antt`. Only `Marks::new` takes memory.
+//! these bytes; a [`Marker`] makes one mark after another. `Marks` keeps the last sixteen marks with their frames. The
+//! definitions are in `specs/StateBytes.antt` and `specs/Marks.antt`. Only `Marks::new` takes memory.
 #![tactic(auto)]
 
 mod checkpoint;

@@ -13,9 +13,10 @@ use std::fmt::Write;
 /// The longest text that `c8_rules` writes.
 const LONGEST: usize = 256;
 
-/// Writes to the front of `out` the text of a game for an engine with a machine of its own. Its CHIP-8 program is one jump to itself, so the peer's own machine costs next to nothing, and then `id`, so that engines with
-/// different ids do not meet. Each player has all sixteen bits. Returns the text's length, at most 256; 0 for more than four
-/// players, or if the text does not fit.
+/// Writes to the front of `out` the text of a game for an engine with a machine of its own. Its CHIP-8 program is one
+/// jump to itself, so the peer's own machine costs next to nothing, and then `id`, so that engines with different ids
+/// do not meet. Each player has all sixteen bits. Returns the text's length, at most 256; 0 for more than four players,
+/// or if the text does not fit.
 #[unsafe(no_mangle)]
 pub extern "C" fn c8_rules(
     players: u8,

@@ -22,8 +22,8 @@ const MOST_LOOKS: u16 = 5000;
 
 /// Paces both threads. After each turn of the game thread it rings the bell of the wire, so that the net thread sends
 /// the turn's datagrams, and the game thread sleeps; longer while the viewer sees that nothing is confirmed. The net
-/// thread waits at its wire. The game thread ends when the
-/// net thread has ended. The net thread ends one turn after the game thread, so that it sends the last datagrams.
+/// thread waits at its wire. The game thread ends when the net thread has ended. The net thread ends one turn after the
+/// game thread, so that it sends the last datagrams.
 #[derive(Drop)]
 pub struct Pace<'r, R> {
     rt: &'r R,

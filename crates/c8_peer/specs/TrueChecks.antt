@@ -34,7 +34,8 @@ is_no_check (Check player frames words) = false
 abbrev pub SaysNoCheck : List Record → Type 0
 SaysNoCheck journal = list_all is_no_check journal ≡ true
 
--- The last checkpoint is true: the next opening begins there. Pieces without a CHECK mean nothing, since an opening discards them.
+-- The last checkpoint is true: the next opening begins there. Pieces without a CHECK mean nothing, since an opening
+-- discards them.
 abbrev pub HasTrueLast : Rules → ℕ → List Record → Type 0
 HasTrueLast rules me journal = (from : Origin) → (checks_of journal).last ≡ Some from → IsOnTheWay rules (known_of rules me journal) from
 

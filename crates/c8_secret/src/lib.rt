@@ -1,6 +1,7 @@
 //! Secrets in files, and the command `secret`, which makes one.
 //!
-//! [`secret_in`] reads a file and [`make_secret`] makes one; [`warn_of_readers`] says if others may read it. No message shows a digit of a secret.
+//! [`secret_in`] reads a file and [`make_secret`] makes one; [`warn_of_readers`] says if others may read it. No message
+//! shows a digit of a secret.
 #![tactic(auto)]
 
 mod command;

@@ -132,10 +132,9 @@ fn wait_for<R: Clock + Wait>(rt: &R, is_over: &AtomicBool) {
 }
 
 /// Plays a match of the game that a text spells. Each player has a thread of its own, and makes `turns` turns, which a
-/// generator draws from the seed, unless memory runs out for the note of one. Writes the log to `script`, if there is one, and
-/// then the verdict to `out`. A refusal
-/// is one line on `refused`; `--explain` adds a second line. With `progress` it also writes to `refused` how the log
-/// grows. The error is a writer's.
+/// generator draws from the seed, unless memory runs out for the note of one. Writes the log to `script`, if there is
+/// one, and then the verdict to `out`. A refusal is one line on `refused`; `--explain` adds a second line. With
+/// `progress` it also writes to `refused` how the log grows. The error is a writer's.
 pub fn rig<R, S, W, E>(
     rt: &R,
     asked: &Asked<'_>,

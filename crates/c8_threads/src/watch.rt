@@ -49,8 +49,8 @@ impl Counts {
         all
     }
 
-    /// Writes once a second how many notes the players have reported, as `12345 notes`, until the match is over. The error is the
-    /// writer's.
+    /// Writes once a second how many notes the players have reported, as `12345 notes`, until the match is over. The
+    /// error is the writer's.
     pub(crate) fn tell<R: Clock + Wait, E: Write>(&self, rt: &R, out: &mut E) -> io::Result<()> {
         let mut due = soon(rt);
         for _ in rt.forever() {

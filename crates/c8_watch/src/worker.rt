@@ -28,8 +28,8 @@ pub trait Picture {
 
 /// Makes at most `turns` turns of a spectator, until it has every row of the game, a viewer of the board asks for the
 /// end, or the gate ends it (as `Worker::Game`). Returns how many it made. Before the first turn and after each, the
-/// pen publishes the spectator's rows, if there are new ones; after each, the picture is shown the machine. The error is the wire's; the pen
-/// then still shows the rows from before that turn.
+/// pen publishes the spectator's rows, if there are new ones; after each, the picture is shown the machine. The error
+/// is the wire's; the pen then still shows the rows from before that turn.
 pub fn watch_worker<W: Wire, G: Gate, P: Picture>(
     spectator: &mut Spectator<'_>,
     wire: &mut W,
