@@ -37,6 +37,7 @@ fn put(putter: &mut Putter, first: u8, length: usize) -> Option<Packet> {
 fn a_putter_finishes(rt: HostRuntime) -> Result<(), Fail> {
     let (mut putter, mut taker) = inlet(rt.alloc(), 1)?;
     assert!(rt; putter.put(packet(1, 30)?) == Ok(()));
+    assert!(rt; putter.put(packet(2, 31)?).err() == packet(2, 31).ok());
     assert!(rt; beside(&mut putter, &mut taker) == 1);
     let mut ended = putter.finish().ok_or("the taker is there")?;
     assert!(rt; after(&mut ended, &mut taker) == 1);
