@@ -12,17 +12,17 @@ use std::test::Fail;
 use std::thread::join;
 use std::time::Clock;
 
-/// A game of two players and 60 frames. V0 counts the loops, V1 those in which key 5 is down, V3 those in which
+/// A game of two players and 30 frames. V0 counts the loops, V1 those in which key 5 is down, V3 those in which
 /// key 13 is.
 const GAME: &str =
-    "players 2\nipf 10\nframes 60\ndelay 2\nwindow 8\nseed 0\nmask1 0020\nmask2 2000\ncode 6205640de2a17101e4a1730170011204\n";
+    "players 2\nipf 10\nframes 30\ndelay 2\nwindow 8\nseed 0\nmask1 0020\nmask2 2000\ncode 6205640de2a17101e4a1730170011204\n";
 
 const GAME_FILE: &str = "play_pair.game";
 
-/// Player 1 strikes key 5, player 2 key 13.
-static ONE: [Sent; 3] = [(10, b"w"), (20, b"w"), (30, b"w")];
+/// Player 1 strikes key 5 twice, player 2 key 13.
+static ONE: [Sent; 2] = [(10, b"w"), (15, b"w")];
 
-static TWO: [Sent; 3] = [(15, b"r"), (25, b"r"), (35, b"r")];
+static TWO: [Sent; 2] = [(12, b"r"), (17, b"r")];
 
 /// The address of a socket that was closed, as text.
 fn free(rt: &HostRuntime) -> Result<String, Fail> {
@@ -32,7 +32,7 @@ fn free(rt: &HostRuntime) -> Result<String, Fail> {
 
 /// The lines on standard error of a match that ends before its first frame.
 const TOLD: &[u8] =
-    b"frames were late by 0 ms in the median, by 0 ms at most\n0 of 60 frames after 0 turns\n";
+    b"frames were late by 0 ms in the median, by 0 ms at most\n0 of 30 frames after 0 turns\n";
 
 /// Plays at one address with a player at another. Returns the printed report (nothing after a refusal), the text on
 /// standard error, and how often the console was used.
@@ -125,7 +125,7 @@ fn two_at_consoles_print_one_report(rt: HostRuntime) -> Result<(), Fail> {
     );
     let (one, _told, first) = one;
     let (two, _told, second) = two;
-    assert!(rt; one.starts_with(b"frames 60\n"));
+    assert!(rt; one.starts_with(b"frames 30\n"));
     assert!(rt; one.as_slice() == two.as_slice());
     // the keys of both had their effect, for as long as strokes count
     assert!(rt; is_of_some(&one, 1) && is_of_some(&one, 3));
