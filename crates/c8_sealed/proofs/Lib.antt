@@ -1,1 +1,4 @@
 pub mod SealedLemmas
+pub mod SealerLemmas
+pub mod SeenLemmas
+pub mod WireLemmas

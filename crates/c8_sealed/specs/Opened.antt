@@ -1,6 +1,7 @@
--- The datagrams inside sealed packets. A packet is sealed with one of two keys: SHOW and SEEN with that of the watchers, all
+-- Packets and the datagrams inside. A packet is sealed with one of two keys: SHOW and SEEN with that of the watchers, all
 -- other kinds with that of the players.
-use Rattle.std.specs.Prelude.{◌≡◌, ℕ, ◌-◌, ◌==◌, ◌||◌, Bool, List, [], ◌∷◌, length, take, flat_map, slice_index_or, nat_lt, bytes_eq, Option, None, Some, option_map, if◌then◌else◌}
+use Rattle.std.specs.Prelude.{◌≡◌, ◌≤◌, ℕ, ◌-◌, ◌==◌, ◌||◌, Bool, List, [], ◌∷◌, length, take, drop, flat_map, slice_index_or, bytes_eq, Option, None, Some, option_map, if◌then◌else◌}
+use Rattle.std.specs.Int.{w64, from_be_bytes}
 use Rattle.c8_seal.specs.Seal.{sealed, match_key, watch_key}
 use Rattle.c8_sealed.specs.declared.keys.SealKeys.{SealKeys}
 use Rattle.c8_sealed.specs.declared.keys.Secrets.{Secrets}
@@ -13,24 +14,34 @@ is_for_watching datagram = slice_index_or datagram 3 0 == 7 || slice_index_or da
 abbrev pub key_for : SealKeys → List ℕ → Option (List ℕ)
 key_for keys datagram = if is_for_watching datagram then keys.watchers else keys.players
 
--- what is before the tag
-abbrev pub inside : List ℕ → List ℕ
-inside packet = take (length packet - 16) packet
-
--- a packet gives what is before its tag if it is the sealing of that
-abbrev pub opened_by : Option (List ℕ) → List ℕ → List (List ℕ)
-opened_by None packet = []
-opened_by (Some key) packet = if bytes_eq packet (sealed key (inside packet)) then inside packet ∷ [] else []
-
--- the datagram of a packet, or none; a sealed packet has at most 190 bytes
-abbrev pub datagram_of : SealKeys → List ℕ → List (List ℕ)
-datagram_of keys packet = if nat_lt 190 (length packet) then [] else opened_by (key_for keys (inside packet)) packet
-
--- the datagrams of packets, in their order
-abbrev pub opened : SealKeys → List (List ℕ) → List (List ℕ)
-opened keys packets = flat_map (datagram_of keys) packets
+-- the packet is the sealing of this datagram, with this counter and the key of its kind
+pub record IsSealing (keys : SealKeys) (packet : List ℕ) (counter : ℕ) (datagram : List ℕ) : Type 0 where
+  pub key : List ℕ
+  pub has : key_for keys datagram ≡ Some key
+  pub few : length datagram ≤ 174
+  pub is : packet ≡ sealed key counter datagram
 
 -- the keys of these secrets in a session
 pub record AreKeysOf (secrets : Secrets) (session : ℕ) (keys : SealKeys) : Type 0 where
   pub players : keys.players ≡ option_map (λ secret. match_key secret session) secrets.players
   pub watchers : keys.watchers ≡ option_map (λ secret. watch_key secret session) secrets.watchers
+
+-- ---- the datagrams of packets, whatever their counters
+
+abbrev pub datagram_in : List ℕ → List ℕ
+datagram_in packet = take (length packet - 24) packet
+
+abbrev pub counter_in : List ℕ → ℕ
+counter_in packet = from_be_bytes w64 (take 8 (drop (length packet - 24) packet))
+
+-- a packet gives what is before its seal if it is the sealing of that
+abbrev pub opened_by : Option (List ℕ) → List ℕ → List (List ℕ)
+opened_by None packet = []
+opened_by (Some key) packet = if bytes_eq packet (sealed key (counter_in packet) (datagram_in packet)) then datagram_in packet ∷ [] else []
+
+abbrev pub datagram_of : SealKeys → List ℕ → List (List ℕ)
+datagram_of keys packet = opened_by (key_for keys (datagram_in packet)) packet
+
+-- the datagrams of packets, in their order
+abbrev pub opened : SealKeys → List (List ℕ) → List (List ℕ)
+opened keys packets = flat_map (datagram_of keys) packets

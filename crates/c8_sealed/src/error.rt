@@ -1,4 +1,4 @@
-//! Why a secret is refused.
+//! Why a secret, a datagram or a packet is refused.
 
 ghost use Rattle.std.specs.Prelude.{◌≡◌};
 ghost use Rattle.c8_sealed.specs.Errors.{secret_error_number};
@@ -34,4 +34,29 @@ impl SecretError {
             SecretError::Same => "Same",
         }
     }
+}
+
+/// Why a datagram is not sealed.
+#[derive(Clone, Copy, Debug, PartialEq, Eq, Error)]
+pub enum Unsealable {
+    /// It has more than 174 bytes.
+    #[error("a datagram of more than 174 bytes")]
+    Long,
+    /// The secret for its kind is not here.
+    #[error("no secret for datagrams of this kind")]
+    NoKey,
+    /// All counters of this opening are used up.
+    #[error("this opening has sealed 4294967295 packets, the most that it may; start again")]
+    Spent,
+}
+
+/// Why a packet is not taken.
+#[derive(Clone, Copy, Debug, PartialEq, Eq, Error)]
+pub enum NotTaken {
+    /// It is not sealed for this player with the key of the match.
+    #[error("a packet that is not sealed for this player with the secret of the match")]
+    NotSealed,
+    /// Its counter was taken before, or is too far below the greatest.
+    #[error("a packet that came before, or is too old to tell")]
+    SeenBefore,
 }

@@ -1,14 +1,14 @@
 //! The keys of a match's packets.
 
-ghost use Rattle.std.specs.Prelude.{◌≡◌, ◌∷◌, [], ◌≤◌, length, Some, None, MatchOption, IfOk, IfErr, option_map};
+ghost use Rattle.std.specs.Prelude.{◌≡◌, ◌≢◌, ℕ, List, Some, None, MatchOption, IfOk, IfErr, OnOk, option_map};
 ghost use Rattle.c8_seal.specs.Seal.{match_key, watch_key};
-ghost use Rattle.c8_sealed.specs.Opened.{AreKeysOf, datagram_of, key_for, is_for_watching};
+ghost use Rattle.c8_sealed.specs.Opened.{AreKeysOf, IsSealing, key_for, is_for_watching};
 ghost use Rattle.c8_sealed.specs.declared.error.SecretError.TheVariants.{Same};
 
 use crate::error::SecretError;
 use crate::secret::Secret;
-use c8_seal::{Key, LONGEST_SEALED, TAG_LENGTH};
-use c8_wire::DatagramKind;
+use c8_seal::{Key, LONGEST_SEALED, Opened, SEAL_LENGTH};
+use c8_wire::{DatagramKind, Seat};
 
 /// Where the kind of a datagram stands.
 const KIND_AT: usize = 3;
@@ -24,6 +24,7 @@ impl Secrets {
     /// The secrets of player 1 of a match with watchers. `Same` if both are the same.
     pub fn of_both(players: Secret, watchers: Secret) -> Result<Secrets, SecretError>
         ensures both { IfOk result (λ secrets. (secrets.players ≡ Some players) × (secrets.watchers ≡ Some watchers)) }
+        ensures differ { OnOk result (players ≢ watchers) }
         ensures same { IfErr result (λ error. (error ≡ Same) × (players ≡ watchers)) }
     {
         if players.is_same(&watchers) {
@@ -68,27 +69,37 @@ impl SealKeys {
         }
     }
 
-    /// The datagram of a packet, lent; `None` if the packet is not sealed with the key of its kind.
-    pub(crate) fn open<'a>(&self, packet: &'a [u8]) -> Option<&'a [u8]>
-        ensures opened { MatchOption result (datagram_of self.now packet.now ≡ [])
-            (λ datagram. datagram_of self.now packet.now ≡ datagram.now ∷ []) }
-        ensures shorter { MatchOption result (Unit {0}) (λ datagram. length datagram.now ≤ 174) }
+    /// The counter and the datagram of a packet; `None` if the packet is not sealed with the key of its kind, or has more
+    /// than 198 bytes.
+    pub(crate) fn open<'a>(&self, packet: &'a [u8]) -> Option<Opened<'a>>
+        ensures { MatchOption result
+            ((counter : ℕ) (datagram : List ℕ) → IsSealing self.now packet.now counter datagram → ⊥)
+            (λ opened. IsSealing self.now packet.now opened.counter opened.datagram.now) }
     {
-        if packet.len() < TAG_LENGTH {
+        if packet.len() < SEAL_LENGTH {
             return None;
         }
         if packet.len() > LONGEST_SEALED {
             return None;
         }
-        let (datagram, _tag) = packet.split_at(packet.len() - TAG_LENGTH);
+        let (datagram, _seal) = packet.split_at(packet.len() - SEAL_LENGTH);
         let Some(key) = self.key_for(datagram) else {
             return None;
         };
         match key.open(packet) {
-            Some(datagram) => Some(datagram),
+            Some(opened) => Some(opened),
             None => None,
         }
     }
+}
+
+/// What it takes to seal the packets of a player or watcher in a session.
+#[derive(Drop)]
+pub struct Seal {
+    pub keys: SealKeys,
+    /// The own seat.
+    pub seat: Seat,
+    pub session: u64,
 }
 
 /// Whether a datagram is of a kind that is said to watchers or by them.

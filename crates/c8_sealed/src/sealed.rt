@@ -1,139 +1,129 @@
 //! A wire that seals.
 
-ghost use Rattle.std.specs.Prelude.{◌≡◌};
+ghost use Rattle.std.specs.Prelude.{◌≡◌, ◌≤◌, length, IfOk, IfSome, OnOk};
+ghost use Rattle.c8_transport.specs.Wire.{MayTake, Gives};
+ghost use Rattle.c8_sealed.specs.Wires.{HasOpened, HasPassed};
 
-use crate::keys::SealKeys;
-use c8_seal::{LONGEST_OPEN, LONGEST_SEALED};
-use c8_transport::{LONGEST_READ, Losses, Wire, WireFailed};
-use c8_wire::{Seat, view};
-use std::time::{Clock, Duration};
+use crate::error::{NotTaken, Unsealable};
+use crate::sealer::Sealer;
+use c8_seal::LONGEST_SEALED;
+use c8_transport::{LONGEST_PACKET, LONGEST_READ, LONGEST_SENT, Losses, Wire, WireFailed};
+use c8_wire::Seat;
+use std::time::Duration;
 
 /// How many packets of the wire below one turn looks at, at most, so that a flood of others cannot stop it.
 const MOST_LOOKED: u16 = 4096;
 
-/// What it takes to seal the packets of a player or watcher in a session.
+/// A wire over a wire. It seals each datagram with the key of its kind and a counter of its own, and gives the datagrams
+/// of the packets that its sealer takes: all others are counted, and nobody else sees them. A datagram without a key
+/// here, or of more than 174 bytes, is lost. It tells the wire below who sealed each packet, and its counter.
 #[derive(Drop)]
-pub struct Seal {
-    pub keys: SealKeys,
-    /// The own seat.
-    pub seat: Seat,
-    pub session: u64,
-}
-
-/// A wire over a wire. It seals each datagram with the key of its kind, and gives the datagrams of the packets that open;
-/// all others are counted, and nobody else sees them. A datagram without a key here, or of more than 174 bytes, is lost.
-/// It tells the wire below what time it is, and whose each packet is that opens, if it spells a datagram of this session to
-/// this seat.
-#[derive(Drop)]
-pub struct Sealed<'r, R, W> {
-    rt: &'r R,
+pub struct Sealed<W> {
     below: W,
-    seal: Seal,
-    /// The last time that the clock gave.
-    last: Duration,
-    /// How many packets this turn has looked at.
+    sealer: Sealer,
+    /// How many packets were looked at since something was last sent.
     looked: u16,
-    /// How many packets did not open.
     unsealed: u64,
+    repeated: u64,
 }
 
-impl<'r, R, W> Sealed<'r, R, W> {
+impl<W> Sealed<W> {
     /// Seals what goes over a wire. The wire below has to give packets from whatever address.
-    pub fn over(rt: &'r R, below: W, seal: Seal) -> Sealed<'r, R, W>
+    pub fn over(below: W, sealer: Sealer) -> Sealed<W>
         ensures below { result.below ≡ below }
-        ensures keys { result.seal.keys ≡ seal.keys }
+        ensures sealer { result.sealer ≡ sealer }
     {
         Sealed {
-            rt,
             below,
-            seal,
-            last: Duration::from_secs(0),
+            sealer,
             looked: 0,
             unsealed: 0,
+            repeated: 0,
         }
     }
 
     /// Gives the wire below back.
     pub fn into_below(self) -> W
-        ensures { result ≡ self.entry.below }
+        ensures { result ≡ self.below }
     {
         self.below
     }
 
-    /// Counts a packet that did not open.
-    fn turn_away(&mut self)
+    /// Counts a packet that is not taken.
+    fn turn_away(&mut self, why: NotTaken)
         ensures below { self.new.below ≡ self.old.below }
-        ensures seal { self.new.seal ≡ self.old.seal }
+        ensures sealer { self.new.sealer ≡ self.old.sealer }
     {
-        self.unsealed = self.unsealed.saturating_add(1);
-    }
-
-    /// The player or watcher that a datagram is from, if it spells one of this session to this seat.
-    fn sender_of(&self, datagram: &[u8]) -> Option<Seat> {
-        let Ok(datagram) = view(datagram) else {
-            return None;
-        };
-        let header = datagram.header();
-        if header.session() == self.seal.session && header.to() == self.seal.seat {
-            Some(header.from())
-        } else {
-            None
+        match why {
+            NotTaken::NotSealed => self.unsealed = self.unsealed.saturating_add(1),
+            NotTaken::SeenBefore => self.repeated = self.repeated.saturating_add(1),
         }
     }
 }
 
-impl<'r, R: Clock, W: Wire> Wire for Sealed<'r, R, W> {
+impl<W: Wire> Wire for Sealed<W> {
     ghost use Rattle.c8_sealed.specs.Opened.{opened};
+    ghost use Rattle.c8_sealed.specs.Given.{datagrams_of};
 
-    ghost sent = { λ it. opened it.seal.keys (W.sent it.below) };
+    ghost sent = { λ it. opened it.sealer.seal.keys (W.sent it.below) };
 
-    ghost received = { λ it. opened it.seal.keys (W.received it.below) };
+    ghost received = { λ it. datagrams_of it.sealer.taken };
 
-    #[tactic(auto, using(crate::proofs::SealedLemmas::sealed_opens, crate::proofs::SealedLemmas::one_more))]
-    fn send(&mut self, to: Seat, datagram: &[u8]) -> Result<(), WireFailed> {
-        if datagram.len() > LONGEST_OPEN {
-            return Ok(());
-        }
-        let Some(key) = self.seal.keys.key_for(datagram) else {
-            return Ok(());
-        };
+    fn send(&mut self, to: Seat, datagram: &[u8]) -> Result<(), WireFailed>
+        requires { length datagram.now ≤ LONGEST_SENT }
+        ensures sent { MayTake (opened self.old.sealer.seal.keys (W.sent self.old.below)) datagram.now
+            (opened self.new.sealer.seal.keys (W.sent self.new.below)) }
+        ensures received { datagrams_of self.new.sealer.taken ≡ datagrams_of self.old.sealer.taken }
+        ensures passed { HasPassed W.Wire self.old.sealer self.new.sealer datagram.now self.old.below self.new.below }
+    {
+        self.looked = 0;
         let mut packet = [0; LONGEST_SEALED];
-        let size = key.seal(datagram, &mut packet);
-        self.below.send(to, &packet[..size])
+        match self.sealer.seal(datagram, &mut packet) {
+            Ok(size) => self.below.send(to, &packet[..size]),
+            Err(Unsealable::Spent) => Err(WireFailed::Spent),
+            Err(Unsealable::Long | Unsealable::NoKey) => Ok(()),
+        }
     }
 
-    #[tactic(auto, using(crate::proofs::SealedLemmas::one_more))]
-    fn receive(&mut self, packet: &mut [u8]) -> Result<Option<usize>, WireFailed> {
-        self.last = self.rt.monotonic().unwrap_or(self.last);
-        self.below.tell_time(self.last);
+    fn receive(&mut self, packet: &mut [u8]) -> Result<Option<usize>, WireFailed>
+        requires { LONGEST_PACKET ≤ length packet.old }
+        ensures within { IfOk result (λ next. IfSome next (λ size. size ≤ length packet.old)) }
+        ensures received { Gives (datagrams_of self.old.sealer.taken) packet.new result
+            (datagrams_of self.new.sealer.taken) }
+        ensures sent { opened self.new.sealer.seal.keys (W.sent self.new.below)
+            ≡ opened self.old.sealer.seal.keys (W.sent self.old.below) }
+        ensures opened { HasOpened W.Wire self.old.sealer self.new.sealer self.old.below self.new.below }
+    {
         let mut sealed = [0; LONGEST_READ];
         for _ in self.looked..MOST_LOOKED {
             let Some(size) = self.below.receive(&mut sealed)? else {
                 break;
             };
             self.looked = self.looked.saturating_add(1);
-            match self.seal.keys.open(&sealed[..size]) {
-                Some(datagram) => {
-                    if let Some(sender) = self.sender_of(datagram) {
-                        self.below.tell_sender(sender);
-                    }
-                    packet[..datagram.len()].copy_from_slice(datagram);
-                    return Ok(Some(datagram.len()));
+            match self.sealer.open(&sealed[..size]) {
+                Ok(taken) => {
+                    self.below.tell_sender(taken.from, taken.counter);
+                    let size = taken.datagram.len();
+                    packet[..size].copy_from_slice(taken.datagram);
+                    return Ok(Some(size));
                 }
-                None => self.turn_away(),
+                Err(why) => self.turn_away(why),
             }
         }
-        self.looked = 0;
         Ok(None)
     }
 
     fn wait(&mut self, most: Duration) {
+        self.looked = 0;
         self.below.wait(most);
     }
 
     fn losses(&self) -> Losses {
-        let mut losses = self.below.losses();
-        losses.unsealed = losses.unsealed.saturating_add(self.unsealed);
-        losses
+        let below = self.below.losses();
+        Losses {
+            unsealed: below.unsealed.saturating_add(self.unsealed),
+            repeated: below.repeated.saturating_add(self.repeated),
+            ..below
+        }
     }
 }

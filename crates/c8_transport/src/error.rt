@@ -2,7 +2,13 @@
 
 use thiserror::Error;
 
-/// The transport failed for good.
+/// Why the transport failed for good.
 #[derive(Clone, Copy, Debug, PartialEq, Eq, Error)]
-#[error("the other players cannot be reached any more")]
-pub struct WireFailed;
+pub enum WireFailed {
+    /// The socket was closed.
+    #[error("the other players cannot be reached any more")]
+    Closed,
+    /// All counters of this opening were used for sealed packets.
+    #[error("this opening has sealed 4294967295 packets, the most that it may; start again")]
+    Spent,
+}

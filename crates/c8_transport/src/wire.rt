@@ -11,7 +11,7 @@ use std::time::Duration;
 pub const LONGEST_PACKET: usize = LONGEST_DATAGRAM + 1;
 
 /// How many bytes a wire may add to a datagram that it sends over another wire.
-pub const MOST_ADDED: usize = 16;
+pub const MOST_ADDED: usize = 24;
 
 /// The most bytes that a wire is given to send.
 pub const LONGEST_SENT: usize = LONGEST_DATAGRAM + MOST_ADDED;
@@ -29,8 +29,10 @@ pub struct Losses {
     pub lost: u64,
     /// How many packets came from elsewhere than a player or watcher of the match.
     pub foreign: u64,
-    /// How many packets were not sealed with the key of the match.
+    /// How many packets were not sealed for this player with the key of the match.
     pub unsealed: u64,
+    /// How many sealed packets had come before, or were too old to tell.
+    pub repeated: u64,
 }
 
 /// The way to the other players and to the watchers. It may lose, repeat or delay a datagram. No call but `wait` waits.
@@ -61,14 +63,9 @@ pub trait Wire {
         ensures sent { sent self.new ≡ sent self.old }
     {}
 
-    /// Says what time it is, by a clock that does not go back.
-    fn tell_time(&mut self, _now: Duration)
-        ensures received { received self.new ≡ received self.old }
-        ensures sent { sent self.new ≡ sent self.old }
-    {}
-
-    /// Says who sent the packet that was given last, as a wire above has found. A wire may learn an address by it.
-    fn tell_sender(&mut self, _sender: Seat)
+    /// Says who sealed the packet that was given last, and its counter, as a wire above has found. A wire may learn by it
+    /// where that sender is: what came with the greatest counter is the newest.
+    fn tell_sender(&mut self, _sender: Seat, _counter: u64)
         ensures received { received self.new ≡ received self.old }
         ensures sent { sent self.new ≡ sent self.old }
     {}

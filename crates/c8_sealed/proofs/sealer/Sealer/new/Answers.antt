@@ -1,0 +1,9 @@
+use Rattle.std.proofs.Common.{sym, ap, ◌∙◌, ◌-◌, List}
+use Rattle.c8_sealed.specs.Given.{GivenValue, counters_of}
+use Rattle.c8_sealed.proofs.sealer.Sealer.new.Goals as goal
+
+pub invariant_of-result : goal.invariant_of-result
+invariant_of-result c = record {
+  within = c.args.counters.within;
+  seen_are = λ seat some few. c.nothing_seen.ensures (seat - 1) ∙ sym (ap (counters_of seat) c.new.ensures);
+}
