@@ -22,8 +22,10 @@ pub struct Standing {
     pub lost: u64,
     /// How many packets came from an address of no player or watcher of the match.
     pub foreign: u64,
-    /// How many packets were not sealed with the key of the match.
+    /// How many packets were not sealed for this player with the key of the match.
     pub unsealed: u64,
+    /// How many sealed packets had come before.
+    pub repeated: u64,
 }
 
 /// Counters that the threads of a peer share. A reading during a turn may mix values of that turn and of the one
@@ -41,6 +43,7 @@ pub struct Counters {
     lost_there: AtomicU64,
     foreign: AtomicU64,
     unsealed: AtomicU64,
+    repeated: AtomicU64,
 }
 
 impl Counters {
@@ -62,6 +65,7 @@ impl Counters {
             lost_there: AtomicU64::new(0),
             foreign: AtomicU64::new(0),
             unsealed: AtomicU64::new(0),
+            repeated: AtomicU64::new(0),
         }
     }
 
@@ -97,6 +101,7 @@ impl Counters {
         self.lost_there.store(losses.lost, Ordering::SeqCst);
         self.foreign.store(losses.foreign, Ordering::SeqCst);
         self.unsealed.store(losses.unsealed, Ordering::SeqCst);
+        self.repeated.store(losses.repeated, Ordering::SeqCst);
     }
 
     /// Returns how far the peer is, and resets the longest rollback to 0.
@@ -120,6 +125,7 @@ impl Counters {
                 .saturating_add(lost_there),
             foreign: self.foreign.load(Ordering::SeqCst),
             unsealed: self.unsealed.load(Ordering::SeqCst),
+            repeated: self.repeated.load(Ordering::SeqCst),
         }
     }
 }

@@ -58,7 +58,7 @@ pub fn game_worker<D: Disk, K: KeySource, W: Wire, G: Gate>(
     requires game { pen.old.game ≡ session.old.peer.rules }
     requires from { origin_from pen.old.from ≡ begun_by session.old.peer }
     requires rows { Begins pen.old.rows (confirmed_rows (known_by session.old.peer)) }
-    ensures turns { (n : ℕ)
+    ensures turns { (n : ℕ) × n ≤ turns × IfOk result (λ made. made ≡ n)
         × AreTurns D.Disk W.Wire n session.old.peer session.new.peer wire.old wire.new }
     ensures ran { HasRunOn D.Disk session.old.peer session.new.peer }
     ensures end { IfErr result (IsEnd D.Disk session.old.peer session.new.peer) }

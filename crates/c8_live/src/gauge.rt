@@ -57,6 +57,22 @@ impl Gauge {
 
     /// Notes who was heard since the last call, and the longest rollback. Returns a reading if one is due.
     pub fn note(&mut self, now: Duration, standing: &Standing) -> Option<Reading> {
+        self.take_in(now, standing);
+        if now < self.due {
+            return None;
+        }
+        self.due = Gauge::next(now);
+        Some(self.read(now, standing))
+    }
+
+    /// Notes the same, and returns a reading, due or not.
+    pub fn note_now(&mut self, now: Duration, standing: &Standing) -> Reading {
+        self.take_in(now, standing);
+        self.read(now, standing)
+    }
+
+    /// Notes who was heard since the last call, and the longest rollback.
+    fn take_in(&mut self, now: Duration, standing: &Standing) {
         self.longest = self.longest.max(standing.longest);
         for place in 0..MOST_PLAYERS {
             if self.turns[place] != standing.heard[place] {
@@ -67,11 +83,6 @@ impl Gauge {
                 self.heard[place] = now;
             }
         }
-        if now < self.due {
-            return None;
-        }
-        self.due = Gauge::next(now);
-        Some(self.read(now, standing))
     }
 
     /// Whether a datagram of the player was heard so far.

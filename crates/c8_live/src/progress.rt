@@ -30,8 +30,8 @@ impl Progress {
     /// Writes a line if a second has passed since the last one. Call it often, with the number of confirmed frames. A
     /// line is like `ticked 96, confirmed 88, rollbacks 3, longest 5, player 2 silent for 16 ms`. The first two are
     /// numbers of frames. The rollbacks are those since the last line, and the longest one's frames. For each other
-    /// player follows the time since it was last heard, then `2 packets lost`, `12 packets from elsewhere` and `3
-    /// packets not sealed` if there were any since the start, and `the machines differ` while the alarm stands.
+    /// player follows the time since its last sign of life. Then follow the counts of [`write_losses`] since the start,
+    /// and `the machines differ` while the alarm stands.
     pub fn tell<E: Write>(
         &mut self,
         out: &mut E,
@@ -39,27 +39,39 @@ impl Progress {
         confirmed: u32,
         standing: &Standing,
     ) -> io::Result<()> {
-        let Some(reading) = self.gauge.note(now, standing) else {
-            return Ok(());
-        };
+        match self.gauge.note(now, standing) {
+            Some(reading) => self.write(out, confirmed, standing, &reading),
+            None => Ok(()),
+        }
+    }
+
+    /// Writes the line of the last reading, however short the time since the one before.
+    pub fn tell_last<E: Write>(
+        &mut self,
+        out: &mut E,
+        now: Duration,
+        confirmed: u32,
+        standing: &Standing,
+    ) -> io::Result<()> {
+        let reading = self.gauge.note_now(now, standing);
+        self.write(out, confirmed, standing, &reading)
+    }
+
+    /// Writes the line of a reading.
+    fn write<E: Write>(
+        &self,
+        out: &mut E,
+        confirmed: u32,
+        standing: &Standing,
+        reading: &Reading,
+    ) -> io::Result<()> {
         let (ticked, rollbacks, longest) = (standing.ticked, reading.rollbacks, reading.longest);
         write!(
             out,
             "ticked {ticked}, confirmed {confirmed}, rollbacks {rollbacks}, longest {longest}"
         )?;
-        self.write_silence(out, &reading)?;
-        let lost = standing.lost;
-        if lost > 0 {
-            write!(out, ", {lost} packets lost")?;
-        }
-        let foreign = standing.foreign;
-        if foreign > 0 {
-            write!(out, ", {foreign} packets from elsewhere")?;
-        }
-        let unsealed = standing.unsealed;
-        if unsealed > 0 {
-            write!(out, ", {unsealed} packets not sealed")?;
-        }
+        self.write_silence(out, reading)?;
+        write_losses(out, standing)?;
         if standing.is_alarmed {
             write!(out, ", the machines differ")?;
         }
@@ -77,6 +89,31 @@ impl Progress {
         }
         Ok(())
     }
+}
+
+/// Writes `, 2 packets lost`, `, 12 packets from elsewhere`, `, 3 packets not sealed` and `, 5 packets seen before`, each
+/// if there were any.
+fn write_losses<E: Write>(out: &mut E, standing: &Standing) -> io::Result<()> {
+    let Standing {
+        lost,
+        foreign,
+        unsealed,
+        repeated,
+        ..
+    } = *standing;
+    if lost > 0 {
+        write!(out, ", {lost} packets lost")?;
+    }
+    if foreign > 0 {
+        write!(out, ", {foreign} packets from elsewhere")?;
+    }
+    if unsealed > 0 {
+        write!(out, ", {unsealed} packets not sealed")?;
+    }
+    if repeated > 0 {
+        write!(out, ", {repeated} packets seen before")?;
+    }
+    Ok(())
 }
 
 /// Writes the last line of a session that made `turns` turns: `dropped by player 1`, `all 200 frames are confirmed`, or

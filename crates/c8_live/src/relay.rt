@@ -61,8 +61,7 @@ impl Wire for Relay {
     fn losses(&self) -> Losses {
         Losses {
             lost: self.lost,
-            foreign: 0,
-            unsealed: 0,
+            ..Losses::default()
         }
     }
 }

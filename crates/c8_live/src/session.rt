@@ -20,7 +20,7 @@ use crate::rollbacks::Rollbacks;
 use c8_disk::Disk;
 use c8_game::{Game, Keys, Player};
 use c8_peer::{CheckError, DecideError, Kind, LeaveError, Peer, Refused, TickError};
-use c8_schedule::{MOST_DUE, Schedule};
+use c8_schedule::{Life, MOST_DUE, Schedule};
 use c8_transport::{LONGEST_PACKET, MOST_PACKETS, Wire, WireFailed};
 use c8_wire::{LONGEST_DATAGRAM, Seat, view};
 use showing::Watchers;
@@ -82,7 +82,23 @@ impl<'g, D: Disk> Session<'g, D> {
         self.rollbacks
     }
 
-    /// Returns how many turns have begun since a datagram of the player was last admitted, or since the start.
+    /// Counts this as a sign of life of a player from now on. Without this call it is a datagram that an open link
+    /// admitted.
+    pub fn counts(&mut self, life: Life)
+        ensures { self.new.peer ≡ self.old.peer }
+    {
+        self.schedule.counts(life);
+    }
+
+    /// Returns whether the others hold inputs of this player, from this very epoch, that its journal does not have: the
+    /// journal that they came from is gone. Such a player cannot play on, and player 1 may drop it.
+    pub fn is_lost(&self) -> bool
+        ensures { result ≡ self.now.schedule.is_lost }
+    {
+        self.schedule.is_lost()
+    }
+
+    /// Returns how many turns have begun since the last sign of life of the player, or since the start.
     pub fn silent(&self, player: Player) -> u64 {
         self.schedule.silent(player)
     }
@@ -163,7 +179,7 @@ impl<'g, D: Disk> Session<'g, D> {
         match self.peer_hears(&datagram) {
             Err(Refused::Disk(error)) => Err(SessionError::Disk(error)),
             answer => {
-                self.schedule.heard(datagram.header(), answer);
+                self.schedule.heard(&self.peer, &datagram, answer);
                 Ok(())
             }
         }

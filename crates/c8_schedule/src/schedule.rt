@@ -1,12 +1,13 @@
 //! The schedule of one peer's turns.
-ghost use Rattle.std.specs.Prelude.{◌<◌, ◌↔◌, IsTrue};
+ghost use Rattle.std.specs.Prelude.{◌≡◌, ◌<◌, ◌↔◌, IsTrue};
 ghost use Rattle.c8_schedule.specs.Rest.{turns_of_rest};
 
-use crate::silence::Silence;
+use crate::silence::{Life, Silence};
 use c8_disk::Disk;
 use c8_game::{Game, MOST_PLAYERS, Player};
+use c8_hand::HandError;
 use c8_peer::{Check, Heard, Kind, Peer, Refused};
-use c8_wire::{DatagramKind, Header};
+use c8_wire::{Datagram, DatagramKind};
 
 /// How many turns a peer goes on after everything is confirmed and acknowledged, so that the other peers get its last
 /// acknowledgements.
@@ -28,7 +29,10 @@ pub struct Schedule {
     /// way.
     interval: u32,
     is_saving: bool,
+    life: Life,
     silence: Silence,
+    /// Whether another player holds own inputs that this peer's journal does not have.
+    is_lost: bool,
     /// Whose HELLO the peer has taken since it last spoke, by place.
     greeters: [bool; MOST_PLAYERS],
     /// The number of turns that ended with everything confirmed and acknowledged.
@@ -44,10 +48,17 @@ impl Schedule {
             given_up: [false; MOST_PLAYERS],
             interval,
             is_saving: false,
+            life: Life::default(),
             silence: Silence::new(),
+            is_lost: false,
             greeters: [false; MOST_PLAYERS],
             rested: 0,
         }
+    }
+
+    /// Counts this as a sign of life from now on.
+    pub fn counts(&mut self, life: Life) {
+        self.life = life;
     }
 
     /// The number of frames of the game.
@@ -60,21 +71,43 @@ impl Schedule {
         self.silence.begin();
     }
 
-    /// Resets the silence of the sender if its datagram was admitted, and notes it if it was a HELLO and was taken.
-    pub fn heard(&mut self, header: Header<'_>, answer: Result<Heard, Refused>) {
-        if !is_admitted(answer) {
-            return;
-        }
+    /// Notes a datagram that the peer was given, and its answer: whether it is a sign of life of its sender, whether it is
+    /// a HELLO that was taken, and whether it shows that the journal was lost.
+    pub fn heard<D: Disk>(
+        &mut self,
+        peer: &Peer<'_, D>,
+        datagram: &Datagram<'_>,
+        answer: Result<Heard, Refused>,
+    ) {
+        let header = datagram.header();
         let Some(sender) = header.from().player() else {
             return;
         };
-        self.silence.heard(sender);
-        if answer.is_ok() && header.kind() == DatagramKind::Hello {
+        let is_hello = header.kind() == DatagramKind::Hello;
+        let is_alive = match self.life {
+            Life::Admitted => is_admitted(answer),
+            Life::OpenLink => answer.is_ok() && !is_hello && peer.is_linked(sender),
+        };
+        if is_alive {
+            self.silence.heard(sender);
+        }
+        if is_hello && answer.is_ok() {
             self.greeters[sender.place()] = true;
         }
+        self.is_lost |= is_of_match(answer)
+            && header.addressee_epoch() == peer.epoch()
+            && acknowledged(datagram) > peer.count(peer.me());
     }
 
-    /// How many turns have begun since a datagram of the player was last admitted, or since the start.
+    /// Whether the others hold inputs of this player, from this very epoch, that its journal does not have: the journal
+    /// that they came from is gone.
+    pub fn is_lost(&self) -> bool
+        ensures { result ≡ self.now.is_lost }
+    {
+        self.is_lost
+    }
+
+    /// How many turns have begun since the last sign of life of the player, or since the start.
     pub fn silent(&self, player: Player) -> u64 {
         self.silence.turns(player)
     }
@@ -106,15 +139,15 @@ impl Schedule {
     }
 
     /// Which datagram is due to another player at one of the places 0 to [`MOST_DUE`] - 1 of a turn, if any. HELLO if the
-    /// link is not open, WELCOME if the player has greeted, and DATA if neither; then, for each leaver, the datagram of
-    /// its drop round.
+    /// link is not open, WELCOME if the player has greeted, DATA if the link is open, also beside a WELCOME; then, for each
+    /// leaver, the datagram of its drop round.
     pub fn due<D: Disk>(&self, peer: &Peer<'_, D>, to: Player, place: u8) -> Option<Kind> {
         let is_linked = peer.is_linked(to);
         let has_greeted = self.greeters[to.place()];
         match place {
             0 if !is_linked => Some(Kind::Hello),
             1 if has_greeted => Some(Kind::Welcome),
-            2 if is_linked && !has_greeted => Some(Kind::Data),
+            2 if is_linked => Some(Kind::Data),
             0..=2 => None,
             _ => round(peer, to, Player::new(place - 2)?),
         }
@@ -174,6 +207,34 @@ fn round<D: Disk>(peer: &Peer<'_, D>, to: Player, leaver: Player) -> Option<Kind
     } else {
         None
     }
+}
+
+/// How many inputs of its addressee a datagram acknowledges.
+fn acknowledged(datagram: &Datagram<'_>) -> u32 {
+    match datagram {
+        Datagram::Welcome(welcome) => welcome.ack(),
+        Datagram::Data(data) => data.ack(),
+        Datagram::Hello(_)
+        | Datagram::Freeze(_)
+        | Datagram::Frozen(_)
+        | Datagram::Cut(_)
+        | Datagram::Show(_)
+        | Datagram::Seen(_) => 0,
+    }
+}
+
+/// Whether a datagram with this answer is one of this match to this player, and the peer is open.
+fn is_of_match(answer: Result<Heard, Refused>) -> bool {
+    !matches!(
+        answer,
+        Err(
+            Refused::Down
+                | Refused::Dropped
+                | Refused::Wire(_)
+                | Refused::OtherWire
+                | Refused::Hand(HandError::Session | HandError::NotMine)
+        )
+    )
 }
 
 /// Whether the links admitted the datagram, whatever came after that.

@@ -2,7 +2,18 @@
 
 use c8_game::{MOST_PLAYERS, Player};
 
-/// For each player, how many turns have begun since a datagram of it was last admitted, or since the start.
+/// What counts as a sign of life of a player.
+#[derive(Clone, Copy, Debug, Default, PartialEq, Eq, Hash)]
+pub enum Life {
+    /// A datagram that an open link admitted and nothing refused. A HELLO is no such sign: who has lost its journal says
+    /// HELLO for ever, and can do no more.
+    #[default]
+    OpenLink,
+    /// Any datagram that the links admitted, HELLO too, whatever came after that: the rule of `peer`.
+    Admitted,
+}
+
+/// For each player, how many turns have begun since its last sign of life, or since the start.
 #[derive(Clone, Copy, Debug, PartialEq, Eq)]
 pub struct Silence {
     turns: [u64; MOST_PLAYERS],
@@ -27,7 +38,7 @@ impl Silence {
         ];
     }
 
-    /// Resets a player whose datagram was admitted.
+    /// Resets a player that gave a sign of life.
     pub fn heard(&mut self, player: Player) {
         self.turns[player.place()] = 0;
     }

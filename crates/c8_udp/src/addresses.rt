@@ -3,7 +3,7 @@
 ghost use Rattle.std.specs.Prelude.{◌≡◌, ◌≢◌, ◌+◌, ◌<◌, ◌≤◌, ◌⊎◌, length, IfOk, IfErr, IsErrOf, MatchResult};
 ghost use Rattle.std.specs.Net.Grammar.{IsSocketText};
 
-use crate::contacts::{Contact, Whereabouts};
+use crate::contacts::Contact;
 use crate::error::SocketError;
 use c8_game::{MOST_PLAYERS, Player};
 use std::net::SocketAddr;
@@ -22,7 +22,7 @@ const NO_ADDRESS: &str = "-";
 pub enum Remote {
     /// At this address.
     At(SocketAddr),
-    /// At the address from which its packets come, once the first has come. This needs a match with a secret.
+    /// At the address from which its newest packet came, once the first has come. This needs a match with a secret.
     Learnt,
 }
 
@@ -107,7 +107,7 @@ fn contact(remote: Option<Remote>) -> Contact {
     match remote {
         None => Contact::Nobody,
         Some(Remote::At(address)) => Contact::Named(address),
-        Some(Remote::Learnt) => Contact::Learnt(Whereabouts::unknown()),
+        Some(Remote::Learnt) => Contact::Learnt(None),
     }
 }
 

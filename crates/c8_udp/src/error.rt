@@ -1,8 +1,9 @@
 //! Why the other players cannot be reached.
 
 ghost use Rattle.std.specs.Prelude.{◌≡◌};
-ghost use Rattle.c8_udp.specs.Errors.{socket_error_number};
+ghost use Rattle.c8_udp.specs.Errors.{socket_error_number, fault_of_wire};
 
+use c8_transport::WireFailed;
 use std::io;
 use std::io::ErrorKind;
 use thiserror::Error;
@@ -18,6 +19,8 @@ pub enum SocketFault {
     NotPermitted,
     #[error("the socket was closed")]
     Closed,
+    #[error("this opening has sealed 4294967295 packets, the most that it may; start again")]
+    Spent,
     #[error("the system refuses the socket, by its error {0}")]
     Other(i32),
 }
@@ -30,6 +33,17 @@ impl SocketFault {
             ErrorKind::AddrNotAvailable => SocketFault::NotHere,
             ErrorKind::PermissionDenied => SocketFault::NotPermitted,
             _ => SocketFault::Other(error.raw_os_error().unwrap_or(0)),
+        }
+    }
+}
+
+impl From<WireFailed> for SocketFault {
+    ghost from_gives = { λ failed result. result ≡ fault_of_wire failed };
+
+    fn from(failed: WireFailed) -> SocketFault {
+        match failed {
+            WireFailed::Closed => SocketFault::Closed,
+            WireFailed::Spent => SocketFault::Spent,
         }
     }
 }

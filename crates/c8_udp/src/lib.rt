@@ -2,19 +2,23 @@
 //!
 //! [`Udp`] is the `Wire` of a match over one socket. It sends to the addresses of the other players and the watchers
 //! ([`Addresses`]), and returns only packets that come from these addresses. Below a wire that opens sealed packets it
-//! returns all packets, and learns addresses that are not named (`contacts`). A [`PolledUdp`] can also wait for a
-//! packet, until a [`Bell`] rings. A [`Socket`] is what a [`Udp`] needs of the system; a test can supply its own.
+//! returns all packets, and learns addresses that are not named: that of the packet with the greatest counter (`contacts`,
+//! [`laws`]). A [`PolledUdp`] can also wait for a packet, until a [`Bell`] rings. A [`Socket`] is what a [`Udp`] needs of
+//! the system; a test can supply its own.
 #![tactic(auto)]
 
 mod addresses;
 mod contacts;
 mod error;
+pub mod laws;
+mod letter;
 mod polled;
 mod socket;
 mod udp;
 
 pub use addresses::{Addresses, MOST_WATCHERS, Remote, refused_address};
 pub use error::{SocketError, SocketFault};
+pub use letter::Letter;
 pub use polled::{Bell, PolledUdp};
-pub use socket::Socket;
+pub use socket::{Socket, SystemSocket};
 pub use udp::Udp;

@@ -7,7 +7,8 @@ use mio::event::Source;
 use mio::{Events, Interest, Poll, Token, Waker};
 use std::io;
 use std::net::Net;
-use std::time::Duration;
+use std::thread;
+use std::time::{Clock, Duration};
 
 /// The sources that a poll reports.
 const PACKETS: Token = Token(0);
@@ -19,7 +20,8 @@ const MOST_EVENTS: usize = 2;
 
 /// A UDP wire whose `wait` ends when a packet comes, or when the bell rings.
 #[derive(Drop)]
-pub struct PolledUdp {
+pub struct PolledUdp<'r, R> {
+    rt: &'r R,
     udp: Udp,
     poll: Poll,
     events: Events,
@@ -39,20 +41,26 @@ impl Bell {
     }
 }
 
-impl PolledUdp {
+impl<'r, R: Net + AllocGlobal> PolledUdp<'r, R> {
     /// Makes a wire that can wait, and its bell. Fails if the system cannot poll, or if memory runs out
     /// (`OutOfMemory`).
-    pub fn over<R: Net + AllocGlobal>(rt: &R, udp: Udp) -> io::Result<(PolledUdp, Bell)> {
+    pub fn over(rt: &'r R, udp: Udp) -> io::Result<(PolledUdp<'r, R>, Bell)> {
         let mut udp = udp;
         let poll = Poll::new(rt)?;
         let events = Events::with_capacity(rt.alloc(), MOST_EVENTS)?;
         udp.register(poll.registry(), PACKETS, Interest::READABLE)?;
         let waker = Waker::new(poll.registry(), RING)?;
-        Ok((PolledUdp { udp, poll, events }, Bell { waker }))
+        let wire = PolledUdp {
+            rt,
+            udp,
+            poll,
+            events,
+        };
+        Ok((wire, Bell { waker }))
     }
 }
 
-impl Wire for PolledUdp {
+impl<'r, R: Clock> Wire for PolledUdp<'r, R> {
     ghost sent = { λ it. it.udp.traffic.sent.items };
 
     ghost received = { λ it. it.udp.traffic.received.items };
@@ -66,16 +74,14 @@ impl Wire for PolledUdp {
     }
 
     fn wait(&mut self, most: Duration) {
-        // If this fails, the wire does not wait.
-        let _ = self.poll.poll(&mut self.events, Some(most));
+        // Where the system cannot poll any more, the wire sleeps, so that its thread does not spin.
+        if self.poll.poll(&mut self.events, Some(most)).is_err() {
+            thread::sleep(self.rt, most);
+        }
     }
 
-    fn tell_time(&mut self, now: Duration) {
-        self.udp.tell_time(now);
-    }
-
-    fn tell_sender(&mut self, sender: Seat) {
-        self.udp.tell_sender(sender);
+    fn tell_sender(&mut self, sender: Seat, counter: u64) {
+        self.udp.tell_sender(sender, counter);
     }
 
     fn losses(&self) -> Losses {

@@ -1,4 +1,4 @@
-use Rattle.std.proofs.Common.{◌≡◌, ◌+◌, length, List, ap, subst, sym, ◌∙◌}
+use Rattle.std.proofs.Common.{◌≡◌, ◌+◌, refl, length, List, ap, subst, sym, ◌∙◌, arith}
 use Rattle.std.proofs.lemmas.Result.{err_from_is_err_and}
 use Rattle.c8_game.specs.declared.row.Row.{Row}
 use Rattle.c8_board.specs.Starts.{origin_from}
@@ -21,6 +21,8 @@ show_again first old new one two shown again = again ∙ ap (λ (pen : PenValue)
 pub returns-in_err-turn_with-clause-turns : goal.returns-in_err-turn_with-clause-turns
 returns-in_err-turn_with-clause-turns g c = (
   c.loop-turn.turn + 1,
+  omega arith,
+  (let error = err_from_is_err_and c.from_residual.result c.from_residual.ensures.1 in rw error.1 tt),
   c.turns_join.ensures.more c.loop-turn.turn c.args.session.now.peer c.loop-turn.session.peer c.turn_with.new.session.peer c.args.wire.now c.loop-turn.wire c.turn_with.new.wire c.loop-turn.invariant.turns c.in_err-turn_with.ensures.turn,
 )
 
@@ -55,6 +57,7 @@ publish_more-published-requires-clause-from g c =
 
 pub loop-turn-preserved : goal.loop-turn-preserved
 loop-turn-preserved g c = record {
+  made = refl;
   turns = c.turns_join.ensures.more c.loop-turn.turn c.args.session.now.peer c.loop-turn.session.peer c.turn_with.new.session.peer c.args.wire.now c.loop-turn.wire c.turn_with.new.wire c.loop-turn.invariant.turns c.in_ok-turn_with.ensures.turn;
   published = c.publish_more-published.ensures.published;
   ran = c.peers_run_on.ensures.joined c.args.session.now.peer c.loop-turn.session.peer c.turn_with.new.session.peer c.loop-turn.invariant.ran c.in_ok-turn_with.ensures.ran;

@@ -9,6 +9,7 @@ use Rattle.c8_live.proofs.game.game_worker.Given as goal
 
 abbrev pub invariant-loop-turn : goal.invariant-loop-turn
 invariant-loop-turn g l = record {
+  made : l.made ≡ l.turn;
   turns : AreTurns g.D.Disk g.W.Wire l.turn l.initial.session.peer l.session.peer l.initial.wire l.wire;
   ran : HasRunOn g.D.Disk l.initial.session.peer l.session.peer;
   sound : IsSound g.D.Disk l.session.peer;
