@@ -11,7 +11,7 @@ enum { FRAMES = 20000, WINDOW = 12, ROUNDS = 5, MANY = 2000000 };
 enum { HELLO, WELCOME, DATA };
 
 static struct {
-    uint8_t bytes[C8_DATAGRAM];
+    uint8_t bytes[C8_PACKET];
     uint32_t length;
 } said[FRAMES];
 
@@ -30,7 +30,7 @@ static double now_ns(void) {
 static uint16_t input(int player, uint32_t frame) { return (uint16_t)((frame + 1) * 7919 * (uint32_t)player); }
 
 static void say(c8_session *from, c8_session *to, uint8_t number, uint8_t kind) {
-    uint8_t bytes[C8_DATAGRAM];
+    uint8_t bytes[C8_PACKET];
     uint32_t length;
     must(c8_say(from, number, kind, 0, bytes, &length), "say");
     if (c8_deliver(to, bytes, length) > 2) must(1, "deliver");

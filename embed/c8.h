@@ -7,16 +7,16 @@
  *
  * Link with libc8_engine.a, then the toolchain's libos_c.a and liblibc_c.a. The last one has rattle_alloc,
  * rattle_realloc and rattle_dealloc over malloc; an engine may define these three itself, as random.c does. Only the
- * opening of a session takes memory (c8_session_of takes some and gives it back). No call starts a thread or calls back.
- * With a journal in memory none waits; with one in a file an opening, a tick, a delivery and a turn wait for the disk.
+ * opening of a session takes memory. No call starts a thread or calls back. With a journal in memory none waits; with one
+ * in a file an opening, a tick, a delivery and a turn wait for the disk.
  *
  * example.c is a whole program, game.c a game over UDP, docs/EMBEDDING.md an overview.
  *
  * What a caller owes:
  * - A session starts as {0}. Never change `at`, and keep one live copy: pass pointers.
  * - One call at a time on a session. Sessions share nothing, so each may be used by a thread of its own.
- * - A pointer is not null, and points to as many bytes as its length or array bound says. Two pointers of one call do not
- *   overlap: no packet is sealed in place.
+ * - A pointer is not null, and points to as many bytes as its length or array bound says. Two pointers of one call that
+ *   the call writes to do not overlap each other or what it reads.
  *
  * A call whose answer is a c8_answer says 0 for done (some say 1 or 2 for more than that), and from 101 on a refusal:
  * each has one number, the same in all calls, and c8_explain tells its name and sentence. A refused call changes
@@ -38,7 +38,7 @@ extern "C" {
 
 enum {
     C8_DATAGRAM = 174, /* the longest datagram */
-    C8_SEALED = 190,   /* the longest sealed packet */
+    C8_PACKET = 198,   /* the longest packet: a sealed datagram */
     C8_PICTURE = 256,  /* the bytes of a CHIP-8 picture */
     C8_STATE = 4419,   /* the bytes of a CHIP-8 machine's state */
     C8_RULES = 256,    /* the longest text of c8_rules */
@@ -50,14 +50,18 @@ typedef uint32_t c8_answer;
 
 /* Some answers that a program may test for. */
 enum {
-    C8_CLOSED = 101,    /* the session is closed */
-    C8_THRESHOLD = 401, /* too far ahead of what is confirmed: tick this input again later */
-    C8_END = 402,       /* the last frame was ticked */
-    C8_DROPPED = 403,   /* player 1 has dropped this player */
-    C8_DESYNC = 814,    /* another player's CHIP-8 machine differs */
-    C8_DISK = 1301,     /* the journal's disk failed */
-    C8_FULL = 1302,     /* the journal is full */
-    C8_LOCKED = 1303    /* of an opening: another session has the journal open */
+    C8_CLOSED = 101,         /* the session is closed */
+    C8_NOT_SEALED = 103,     /* a packet that is not sealed for this player with the secret of the match */
+    C8_SEEN_BEFORE = 104,    /* a packet that came before, or is too old to tell */
+    C8_BAD_SECRET = 105,     /* the watchers' secret is that of the players, or not 32 bytes */
+    C8_SEALED_ALREADY = 106, /* the session has a secret already */
+    C8_THRESHOLD = 401,      /* too far ahead of what is confirmed: tick this input again later */
+    C8_END = 402,            /* the last frame was ticked */
+    C8_DROPPED = 403,        /* player 1 has dropped this player */
+    C8_DESYNC = 814,         /* another player's CHIP-8 machine differs */
+    C8_DISK = 1301,          /* the journal's disk failed */
+    C8_FULL = 1302,          /* the journal is full */
+    C8_LOCKED = 1303         /* of an opening: another session has the journal open */
 };
 
 /* A session; {0} is a closed one. */
@@ -67,7 +71,7 @@ typedef struct {
 
 /* What a session knows of another player of its match. Of its own, only `held` and `dropped` mean something. */
 typedef struct {
-    uint64_t silent;       /* turns in a row without a datagram from it, with the present one */
+    uint64_t silent;       /* turns in a row without a datagram that its open link admitted, with the present one */
     uint32_t held;         /* its inputs that are here, with the empty ones of the delay */
     uint32_t acknowledged; /* own inputs that it has acknowledged since the opening, with those of the delay */
     bool linked;           /* its link is open: inputs can be sent */
@@ -106,8 +110,8 @@ void c8_close(c8_session *);
  * is final once c8_confirmed is the number of frames, but go on with turns until c8_is_over: who leaves earlier may leave
  * another player without an end. */
 
-/* Processes a received datagram: any bytes. 0: it added nothing; 1: it added inputs or a decision; 2: it says that
- * player 1 has dropped this player. Refusals are normal, since datagrams come late, twice or from strangers: only
+/* Processes a received packet: any bytes. 0: it added nothing; 1: it added inputs or a decision; 2: it says that
+ * player 1 has dropped this player. Refusals are normal, since packets come late, twice or from strangers: only
  * C8_DISK, C8_FULL and C8_DESYNC need an answer. */
 c8_answer c8_deliver(c8_session *, const uint8_t *bytes, size_t length);
 
@@ -119,13 +123,17 @@ c8_answer c8_tick(c8_session *, uint16_t input);
  * 3,600 frames), and c8_next gives the turn's datagrams. Call it once a frame, also when the tick was refused. */
 c8_answer c8_turn(c8_session *);
 
-/* Writes the next datagram of this turn to `out`, and the number of the player that it is for to `to`. Returns its
- * length; 0 once the turn has no more. */
-uint32_t c8_next(c8_session *, uint8_t out[C8_DATAGRAM], uint8_t *to);
+/* Writes the next packet of this turn to `out`, and the number of the player that it is for to `to`. Returns its length,
+ * at most C8_DATAGRAM without a secret; 0 once the turn has no more. */
+uint32_t c8_next(c8_session *, uint8_t out[C8_PACKET], uint8_t *to);
 
 /* Whether the match is over for this session: it was dropped, or everything was confirmed and acknowledged for more than
  * 120 turns. True for a closed session. */
 bool c8_is_over(c8_session *);
+
+/* Whether another player acknowledged inputs of this player that its journal does not have: the journal was lost or
+ * replaced by an older copy, and this session cannot go on. False for a closed session. */
+bool c8_is_lost(c8_session *);
 
 /* ---- any machine */
 
@@ -173,23 +181,31 @@ c8_answer c8_mark(c8_session *, uint8_t out[8]);            /* SHA-256 of the st
 
 /* Writes a datagram to player `to`: kind 0 HELLO, 1 WELCOME, 2 DATA, 3 FREEZE, 4 FROZEN, 5 CUT (the last three about
  * `leaver`), and its length. docs/PROTOCOL.md says when each is due. */
-c8_answer c8_say(c8_session *, uint8_t to, uint8_t kind, uint8_t leaver, uint8_t out[C8_DATAGRAM], uint32_t *length);
+c8_answer c8_say(c8_session *, uint8_t to, uint8_t kind, uint8_t leaver, uint8_t out[C8_PACKET], uint32_t *length);
 c8_answer c8_leave(c8_session *, uint8_t leaver);  /* player 1 drops a player */
 c8_answer c8_decide(c8_session *, uint8_t leaver); /* player 1 cuts its inputs, once all who stay have answered */
 c8_answer c8_checkpoint(c8_session *);             /* the next part of a checkpoint; 1 for the last */
 
-/* ---- a secret: packets that nobody without it can make. It does not hide what they say. */
+/* ---- a secret: nobody without it can make a packet, and each packet counts once. It does not hide what they say. */
 
-/* The number of a match's session, which the key depends on: of the text and the room of the opening, once a match. */
-c8_answer c8_session_of(const uint8_t *text, size_t length, uint64_t room, uint64_t *session);
+/* Gives the session its secrets: that of the players, and that of the watchers with its length, which is 32, or 0 without
+ * watchers. Refused with C8_BAD_SECRET, C8_SEALED_ALREADY or C8_CLOSED. c8_secret is the usual call. */
+c8_answer c8_secrets(c8_session *, const uint8_t secret[32], const uint8_t *watchers, size_t length);
 
-/* Writes the sealed packet of a datagram. Returns its length, 16 more than the datagram's; 0 for more than 174 bytes. */
-uint32_t c8_seal(const uint8_t secret[32], uint64_t session, const uint8_t *datagram, size_t length,
-                 uint8_t out[C8_SEALED]);
+/* The same; `watchers` is null without watchers. All players of a match have the same secret. Call it after an opening and
+ * before the first c8_next or c8_say. From then on these two write sealed packets (docs/FORMATS.md), and c8_deliver
+ * accepts nothing else: C8_NOT_SEALED is a packet of a stranger or an altered one, C8_SEEN_BEFORE a repeated one. After
+ * 4,294,967,295 packets c8_next returns 0: open the journal again.
+ *
+ * Packets are numbered, from the number of openings on. A player that starts again without its journal begins at the
+ * first number again, and the others refuse its packets as repeated. So that player needs a journal in a file. */
+static inline c8_answer c8_secret(c8_session *session, const uint8_t secret[32], const uint8_t *watchers) {
+    return c8_secrets(session, secret, watchers ? watchers : secret, watchers ? 32 : 0);
+}
 
-/* Returns how many bytes at the front of a packet are its datagram; 0 if the packet was not sealed with this secret for
- * this session. Deliver only these bytes. */
-uint32_t c8_unseal(const uint8_t secret[32], uint64_t session, const uint8_t *packet, size_t length);
+/* The player whose sealed packet the last c8_deliver accepted; 0 if it accepted none. Writes to `newest` whether that
+ * player sent no later packet that came before it. Then the player is where this packet came from: send there. */
+uint8_t c8_sender(c8_session *, bool *newest);
 
 /* Writes the name and the sentence of a refusal, as far as they fit (160 bytes do), without a 0 after them. Returns how
  * many bytes it wrote; 0 for a number that is no refusal. */

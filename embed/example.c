@@ -26,14 +26,14 @@ typedef struct {
 } player;
 
 static struct {
-    uint8_t to, bytes[C8_DATAGRAM];
+    uint8_t to, bytes[C8_PACKET];
     uint32_t length;
 } queue[QUEUE];
 static int queued, sent;
 
 /* Sends what is due, but loses every third datagram. */
 static void send_all(player *p) {
-    uint8_t bytes[C8_DATAGRAM], to;
+    uint8_t bytes[C8_PACKET], to;
     uint32_t length;
     while ((length = c8_next(&p->session, bytes, &to)) > 0) {
         if (++sent % 3 == 0 || queued == QUEUE) continue;

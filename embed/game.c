@@ -1,10 +1,10 @@
 /* Two ships: a game of two players over UDP, on the rows of a session.
  *
- *     game ROLE LOCAL_PORT HOST PORT [--frames N] [--journal FILE] [--script SEED] [--lose PERCENT]
+ *     game ROLE LOCAL_PORT HOST PORT [--frames N] [--journal FILE] [--secret FILE] [--script SEED] [--lose PERCENT]
  *
  * ROLE is 1 or 2; HOST and PORT are where the other player listens. Keys: a and d turn, w accelerates, space fires, q
  * quits. N (default 3600, one minute) must be the same for both. With --journal a killed player continues where it was.
- * For tests: with --script the inputs come from a seed, nothing is drawn, and the game runs as fast as the other player
+ * The file of a secret has 64 hexadecimal digits; with it a player follows the other one to any address. For tests: with --script the inputs come from a seed, nothing is drawn, and the game runs as fast as the other player
  * allows; --lose drops this share of the datagrams that it sends. Both players end with the same last line. */
 #define _POSIX_C_SOURCE 200809L
 #include "c8.h"
@@ -13,6 +13,7 @@
 #include <fcntl.h>
 #include <inttypes.h>
 #include <netdb.h>
+#include <netinet/in.h>
 #include <poll.h>
 #include <stdio.h>
 #include <stdlib.h>
@@ -176,38 +177,50 @@ static void draw(const state *s, const char *message) {
 
 /* ---- the network: a session does not care how its datagrams travel */
 
-static int open_socket(const char *local, const char *host, const char *port) {
+typedef struct {
+    int udp;
+    struct sockaddr_in there; /* where the other player is; with a secret, where its newest packet came from */
+} network;
+
+static bool open_network(const char *local, const char *host, const char *port, bool is_sealed, network *n) {
     struct addrinfo wanted = {.ai_family = AF_INET, .ai_socktype = SOCK_DGRAM, .ai_flags = AI_PASSIVE}, *here, *there;
     errno = EINVAL; /* getaddrinfo does not set it */
-    if (getaddrinfo(NULL, local, &wanted, &here)) return -1;
+    if (getaddrinfo(NULL, local, &wanted, &here)) return false;
     wanted.ai_flags = 0;
-    if (getaddrinfo(host, port, &wanted, &there)) return freeaddrinfo(here), -1;
-    int udp = socket(AF_INET, SOCK_DGRAM, 0);
+    if (getaddrinfo(host, port, &wanted, &there)) return freeaddrinfo(here), false;
+    memcpy(&n->there, there->ai_addr, sizeof n->there);
+    n->udp = socket(AF_INET, SOCK_DGRAM, 0);
+    bool is_open = n->udp >= 0 && !bind(n->udp, here->ai_addr, here->ai_addrlen)
+        && fcntl(n->udp, F_SETFL, O_NONBLOCK) >= 0;
     /* A connected socket receives from this address alone. */
-    bool is_open = udp >= 0 && !bind(udp, here->ai_addr, here->ai_addrlen)
-        && !connect(udp, there->ai_addr, there->ai_addrlen) && fcntl(udp, F_SETFL, O_NONBLOCK) >= 0;
+    is_open = is_open && (is_sealed || !connect(n->udp, there->ai_addr, there->ai_addrlen));
     freeaddrinfo(here), freeaddrinfo(there);
-    return is_open ? udp : -1;
+    return is_open;
 }
 
-/* Delivers the received datagrams. Returns 0, or the refusal after which the session cannot continue. Other refusals
- * are of datagrams that came late or twice, or from a stranger. */
-static uint32_t receive_all(c8_session *session, int udp) {
-    uint8_t bytes[C8_DATAGRAM + 1];
+/* Delivers the received packets. Returns 0, or the refusal after which the session cannot continue. Other refusals are
+ * of packets that came late or twice, or from a stranger. */
+static uint32_t receive_all(c8_session *session, network *n) {
+    uint8_t bytes[C8_PACKET + 1];
+    struct sockaddr_in from;
+    socklen_t size = sizeof from;
     ssize_t length;
-    while ((length = recv(udp, bytes, sizeof bytes, 0)) >= 0) {
+    while ((length = recvfrom(n->udp, bytes, sizeof bytes, 0, (struct sockaddr *)&from, &size)) >= 0) {
+        bool newest = false;
         uint32_t answer = c8_deliver(session, bytes, (size_t)length);
         if (answer == C8_DISK || answer == C8_FULL) return answer;
+        if (c8_sender(session, &newest) && newest) n->there = from;
     }
     return 0;
 }
 
-static void send_all(c8_session *session, int udp, unsigned lose) {
+static void send_all(c8_session *session, const network *n, unsigned lose) {
     static uint64_t sent;
-    uint8_t bytes[C8_DATAGRAM], to;
+    uint8_t bytes[C8_PACKET], to;
     uint32_t length;
     while ((length = c8_next(session, bytes, &to)) > 0)
-        if (mix(++sent) % 100 >= lose) send(udp, bytes, length, 0); /* one that cannot be sent is one that is lost */
+        if (mix(++sent) % 100 >= lose) /* one that cannot be sent is one that is lost */
+            sendto(n->udp, bytes, length, 0, (const struct sockaddr *)&n->there, sizeof n->there);
 }
 
 /* ---- the loop */
@@ -238,7 +251,7 @@ static bool is_too_fast(c8_session *session, uint8_t other) {
 
 typedef struct {
     uint8_t me;
-    const char *local, *host, *port, *journal;
+    const char *local, *host, *port, *journal, *secret;
     uint32_t frames;
     bool is_scripted;
     uint64_t seed;
@@ -253,15 +266,33 @@ static options read_options(int count, char **words) {
         const char *name = words[i], *value = words[i + 1];
         if (!strcmp(name, "--frames")) o.frames = (uint32_t)strtoul(value, NULL, 10);
         else if (!strcmp(name, "--journal")) o.journal = value;
+        else if (!strcmp(name, "--secret")) o.secret = value;
         else if (!strcmp(name, "--script")) o.is_scripted = true, o.seed = strtoull(value, NULL, 10);
         else if (!strcmp(name, "--lose")) o.lose = (unsigned)strtoul(value, NULL, 10);
         else goto usage;
     }
     if (o.me == 1 || o.me == 2) return o;
 usage:
-    fprintf(stderr, "usage: game 1|2 LOCAL_PORT HOST PORT [--frames N] [--journal FILE] [--script SEED] "
-                    "[--lose PERCENT]\n");
+    fprintf(stderr, "usage: game 1|2 LOCAL_PORT HOST PORT [--frames N] [--journal FILE] [--secret FILE] "
+                    "[--script SEED] [--lose PERCENT]\n");
     exit(2);
+}
+
+/* Gives a session the secret of this file. */
+static void read_secret(const char *path, c8_session *session) {
+    uint8_t secret[32];
+    FILE *file = fopen(path, "r");
+    for (int i = 0; i < 32; i++) {
+        unsigned byte;
+        if (!file || fscanf(file, "%2x", &byte) != 1) {
+            fprintf(stderr, "game: %s: not 64 hexadecimal digits\n", path);
+            exit(1);
+        }
+        secret[i] = (uint8_t)byte;
+    }
+    fclose(file);
+    uint32_t why = c8_secret(session, secret, NULL);
+    if (why) fail("no secret", why);
 }
 
 static void open_session(const options *o, c8_session *session) {
@@ -282,20 +313,21 @@ static void open_session(const options *o, c8_session *session) {
         why = c8_open(text, length, o->me, ROOM, patience, session);
     }
     if (why) fail("not opened", why);
+    if (o->secret) read_secret(o->secret, session);
 }
 
-/* Waits for the next frame, and delivers datagrams as they come. A scripted player waits only after a refused tick. */
-static void wait_for_frame(c8_session *session, int udp, bool is_scripted, bool was_refused) {
+/* Waits for the next frame, and delivers packets as they come. A scripted player waits only after a refused tick. */
+static void wait_for_frame(c8_session *session, network *n, bool is_scripted, bool was_refused) {
     static uint64_t due;
     const uint64_t frame_ns = 1000000000 / 60;
     uint64_t now = now_ns();
     if (due + 5 * frame_ns < now) due = now; /* does not catch up frames after a pause */
     due += frame_ns;
     do {
-        struct pollfd ready = {.fd = udp, .events = POLLIN};
+        struct pollfd ready = {.fd = n->udp, .events = POLLIN};
         int wait = is_scripted ? 2 * was_refused : now < due ? (int)((due - now + 999999) / 1000000) : 0;
         poll(&ready, 1, wait);
-        uint32_t why = receive_all(session, udp);
+        uint32_t why = receive_all(session, n);
         if (why) fail("the match cannot go on", why);
         now = now_ns();
     } while (!is_scripted && now < due);
@@ -307,15 +339,15 @@ int main(int count, char **words) {
     c8_session session = {0};
     c8_player_state player = {0};
     bool was_refused = false, quit = false;
-    int udp = open_socket(o.local, o.host, o.port);
-    if (udp < 0) return perror("game: no socket"), 1;
+    network n;
+    if (!open_network(o.local, o.host, o.port, o.secret, &n)) return perror("game: no socket"), 1;
     open_session(&o, &session);
     if (o.is_scripted) alarm(60); /* a test does not hang */
     else open_terminal();
     states[0] = first_state();
     run(&session);
     while (!quit && !c8_is_over(&session)) {
-        wait_for_frame(&session, udp, o.is_scripted, was_refused);
+        wait_for_frame(&session, &n, o.is_scripted, was_refused);
         uint16_t keys = o.is_scripted ? scripted(o.seed, c8_ticked(&session)) : typed(&quit);
         if (o.is_scripted || !is_too_fast(&session, other)) {
             /* A refused input is lost here; the next frame has its own. */
@@ -325,7 +357,11 @@ int main(int count, char **words) {
         }
         uint32_t why = c8_turn(&session);
         if (why) fail("no turn", why);
-        send_all(&session, udp, o.lose);
+        if (c8_is_lost(&session)) {
+            fprintf(stderr, "game: the other player has inputs that this journal does not have\n");
+            return 1;
+        }
+        send_all(&session, &n, o.lose);
         run(&session);
         c8_player(&session, other, &player);
         if (!o.is_scripted) draw(&states[c8_ticked(&session) % RING], player.silent > 60 ? "waiting for the other" : "");
@@ -336,6 +372,6 @@ int main(int count, char **words) {
     uint32_t frames = c8_confirmed(&session);
     printf("frames %" PRIu32 " hash %016" PRIx64 "\n", frames, hash(&states[frames % RING]));
     c8_close(&session);
-    close(udp);
+    close(n.udp);
     return frames < o.frames;
 }

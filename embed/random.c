@@ -3,8 +3,9 @@
  *
  *     random [CALLS [SEED]]
  *
- * Three players of one match deliver each other's datagrams, whole or damaged; a fourth session plays some match, and a
- * fifth is mostly closed. */
+ * Three players of one match deliver each other's packets, whole or damaged, in every second match with a secret; a
+ * fourth session plays some match, and a fifth is mostly closed. At the end two players of a match with a secret refuse
+ * all repeated and altered packets, and a journal's disk fails. */
 #define _POSIX_C_SOURCE 200809L
 #include "c8.h"
 
@@ -97,12 +98,17 @@ static void at_most(uint32_t length, size_t most) {
 
 enum { SESSIONS = 5, MAIL = 64, OPENING = 10000 };
 static c8_session sessions[SESSIONS];
-static uint64_t openings, ticks, heard, rows, drops, refusals;
+static bool is_sealed[SESSIONS]; /* whether the session was given a secret since its opening */
+static uint64_t openings, ticks, heard, rows, drops, refusals, unsealed, repeated;
 static const char *journal;
 
-/* The last datagrams that were said. */
+/* The secrets of the match, if it has them, and others. */
+static bool has_secret;
+static const uint8_t secret[32] = "the secret of the players", watchers[32] = "the secret of the watchers";
+
+/* The last packets that were said. */
 static struct {
-    uint8_t bytes[C8_DATAGRAM], to;
+    uint8_t bytes[C8_PACKET], to;
     uint32_t length;
 } mail[MAIL];
 static uint64_t kept;
@@ -145,17 +151,31 @@ static void open_one(int i) {
     } else {
         why = c8_open(text, text_length, player, match, any_patience(), &sessions[i]);
     }
-    if (!answered(why) && c8_ticked(&sessions[i]) && c8_epoch(&sessions[i]) == 1) fail("a new session has ticked", 0);
+    if (answered(why)) return;
+    if (c8_ticked(&sessions[i]) && c8_epoch(&sessions[i]) == 1) fail("a new session has ticked", 0);
+    is_sealed[i] = has_secret;
+    if (has_secret && c8_secret(&sessions[i], secret, roll(2) ? watchers : NULL)) fail("no secret", 0);
 }
 
 /* All three players open the same match. */
 static void open_all(void) {
     any_text();
+    has_secret = roll(2);
     for (int i = 0; i < SESSIONS; i++)
         if (roll(16)) open_one(i);
 }
 
-/* Delivers bytes: mostly one of the last datagrams, to its addressee. */
+/* A delivery's sender is known exactly if the session has a secret and accepted the packet. */
+static void sender(c8_session *s, uint32_t answer) {
+    bool newest = false, is_refused = answer == C8_NOT_SEALED || answer == C8_SEEN_BEFORE;
+    uint8_t from = c8_sender(s, &newest);
+    if (from > 4) fail("from nobody", from);
+    if (!from && newest) fail("the newest of nobody", 0);
+    if (s->at && (from != 0) != (is_sealed[s - sessions] && !is_refused)) fail("a sender", from);
+    if (is_refused && !is_sealed[s - sessions]) fail("no secret, and refused", answer);
+}
+
+/* Delivers bytes: mostly one of the last packets, to its addressee. */
 static void deliver(c8_session *s) {
     uint8_t bytes[300];
     uint64_t kind = roll(16), place = (kept - roll(roll(4) ? 4 : MAIL)) % MAIL;
@@ -172,6 +192,9 @@ static void deliver(c8_session *s) {
         bytes[0] = 0x43, bytes[1] = 0x38, bytes[2] = (uint8_t)(1 + roll(2)), bytes[3] = (uint8_t)(1 + roll(9));
     }
     uint32_t answer = answered(c8_deliver(s, bytes, length));
+    sender(s, answer);
+    unsealed += answer == C8_NOT_SEALED;
+    repeated += answer == C8_SEEN_BEFORE;
     heard += answer == 1;
     drops += answer == 2;
     refusals += answer > 2;
@@ -188,7 +211,7 @@ static void keep(uint32_t length, uint8_t to) {
 static void next(c8_session *s) {
     uint8_t to = 0;
     uint32_t length = c8_next(s, clear(), &to);
-    at_most(length, C8_DATAGRAM);
+    at_most(length, is_sealed[s - sessions] ? C8_PACKET : C8_DATAGRAM);
     if (length && (to < 1 || to > 4)) fail("to nobody", to);
     keep(length, to);
 }
@@ -196,7 +219,7 @@ static void next(c8_session *s) {
 static void say(c8_session *s) {
     uint8_t to = (uint8_t)roll(6);
     uint32_t length = 0, answer = answered(c8_say(s, to, (uint8_t)roll(8), (uint8_t)roll(6), clear(), &length));
-    at_most(length, C8_DATAGRAM);
+    at_most(length, is_sealed[s - sessions] ? C8_PACKET : C8_DATAGRAM);
     if (answer && length) fail("refused and said", answer);
     keep(length, to);
 }
@@ -218,9 +241,11 @@ static void read_all(c8_session *s) {
     bool is_closed = c8_player(s, 1, &state) == C8_CLOSED;
     if (is_closed != (s->at == NULL)) fail("open or closed", is_closed);
     if (is_closed && (ticked || confirmed || epoch || c8_tone(s) || !c8_is_over(s))) fail("closed", ticked);
+    if (is_closed && c8_is_lost(s)) fail("closed and lost", 0);
     answered(c8_player(s, (uint8_t)roll(7), &state));
     c8_tone(s);
     c8_is_over(s);
+    c8_is_lost(s);
 }
 
 static void look(c8_session *s) {
@@ -242,32 +267,24 @@ static void make_rules(void) {
     untouched(length);
 }
 
-static void seal(void) {
-    uint8_t secret[32], bytes[300];
+/* Secrets: bad ones, a second one, and seldom a good one. */
+static void give_secret(c8_session *s) {
+    bool *has_one = &is_sealed[s - sessions];
+    uint8_t bytes[64];
     size_t length = roll(sizeof bytes + 1);
-    uint64_t session = roll(UINT64_MAX);
-    any_bytes(secret, sizeof secret), any_bytes(bytes, length);
-    uint32_t sealed = c8_seal(secret, session, bytes, length, clear());
-    at_most(sealed, C8_SEALED);
-    if (sealed != (length > C8_DATAGRAM ? 0 : length + 16)) fail("sealed", sealed);
-    if (sealed) {
-        if (c8_unseal(secret, session, room, sealed) != length || memcmp(room, bytes, length)) fail("not opened", length);
-        room[roll(sealed)] ^= 1;
-    }
-    if (c8_unseal(secret, session, room, sealed)) fail("opened", sealed);
-    if (c8_unseal(secret, session, bytes, length)) fail("opened", length);
+    any_bytes(bytes, sizeof bytes);
+    bool is_bad = length != 0 && length != 32;
+    uint32_t answer = answered(is_bad ? c8_secrets(s, secret, bytes, length)
+                               : roll(2) ? c8_secret(s, secret, secret)
+                               : *has_one || !roll(100) ? c8_secret(s, secret, NULL) : C8_BAD_SECRET);
+    if (answer <= 2) *has_one = true;
+    if (is_bad && !answer) fail("a secret of another length", length);
+    if (!s->at && answer != C8_CLOSED && answer != C8_BAD_SECRET) fail("closed", answer);
 }
 
 static void explain(void) {
     size_t length = roll(200);
     at_most(c8_explain((uint32_t)roll(1500), clear(), length), length);
-}
-
-static void session_of(void) {
-    uint64_t live = taken - given_back, session = 0;
-    any_text();
-    answered(c8_session_of(text, text_length, roll(3), &session));
-    if (taken - given_back != live) fail("kept memory", taken - given_back - live);
 }
 
 /* Calls that change a session. */
@@ -284,14 +301,14 @@ static void change(c8_session *s) {
     }
 }
 
-/* Any call but an opening, a close and c8_session_of. */
+/* Any call but an opening and a close. */
 static void call(c8_session *s) {
     switch (roll(16)) {
     case 0: what = "readers"; read_all(s); break;
     case 1: what = "c8_say"; say(s); break;
     case 2: what = "c8_explain"; explain(); break;
     case 3: what = "c8_rules"; make_rules(); break;
-    case 4: what = "c8_seal"; if (!roll(8)) seal(); break;
+    case 4: what = "c8_secret"; if (!roll(8)) give_secret(s); break;
     case 5: what = "c8_state"; if (!roll(8)) look(s); break;
     case 6: case 7: what = "c8_step"; step(s); break;
     case 8: case 9: what = "c8_next"; next(s); break;
@@ -334,6 +351,56 @@ static void fail_disk(void) {
     openings += 2;
 }
 
+/* Delivers a packet to player `to` of two with a secret: altered, then as it is, then again, and to its sender. */
+static void deliver_sealed(c8_session two[2], const uint8_t *packet, uint32_t length, uint8_t to) {
+    uint8_t altered[C8_PACKET];
+    bool newest = false;
+    memcpy(altered, packet, length);
+    altered[roll(length)] ^= (uint8_t)(1 << roll(8));
+    if (c8_deliver(&two[to - 1], altered, length) != C8_NOT_SEALED) fail("altered", length);
+    if (c8_deliver(&two[to - 1], packet, length - 1) != C8_NOT_SEALED) fail("cut", length);
+    if (c8_deliver(&two[2 - to], packet, length) != C8_NOT_SEALED) fail("to its sender", length);
+    if (c8_sender(&two[2 - to], &newest) || newest) fail("its own sender", 0);
+    uint32_t answer = answered(c8_deliver(&two[to - 1], packet, length));
+    if (answer == C8_NOT_SEALED || answer == C8_SEEN_BEFORE) fail("refused", answer);
+    if (c8_sender(&two[to - 1], &newest) != 3 - to || !newest) fail("not from the other", to);
+    if (c8_deliver(&two[to - 1], packet, length) != C8_SEEN_BEFORE) fail("repeated", length);
+    if (c8_sender(&two[to - 1], &newest) || newest) fail("a repeated packet has a sender", 0);
+}
+
+/* Two players of a match with a secret. A packet that another overtook is accepted, and is not the newest. */
+static void play_sealed(void) {
+    enum { FRAMES = 300 };
+    c8_session two[2] = {{0}};
+    uint8_t id[32] = {3}, packet[C8_PACKET], first[C8_PACKET], to;
+    bool newest = true;
+    uint32_t length, first_length = 0;
+    what = "a match with a secret";
+    text_length = c8_rules(2, FRAMES, 1, 8, id, text, sizeof text);
+    for (uint8_t i = 0; i < 2; i++) {
+        if (c8_open(text, text_length, i + 1, 5, 0, &two[i])) fail("not opened", i);
+        if (c8_secret(&two[i], secret, secret) != C8_BAD_SECRET) fail("the same secret", i);
+        if (c8_secrets(&two[i], secret, watchers, 31) != C8_BAD_SECRET) fail("a short secret", i);
+        if (c8_secret(&two[i], secret, i ? watchers : NULL)) fail("no secret", i);
+        if (c8_secret(&two[i], watchers, NULL) != C8_SEALED_ALREADY) fail("two secrets", i);
+    }
+    if (c8_say(&two[0], 2, 0, 0, first, &first_length) || first_length != 48) fail("a HELLO", first_length);
+    for (int turn = 0; turn < 4 * FRAMES && !(c8_is_over(&two[0]) && c8_is_over(&two[1])); turn++) {
+        for (uint8_t i = 0; i < 2; i++) {
+            c8_tick(&two[i], (uint16_t)roll(65536));
+            if (c8_turn(&two[i])) fail("no turn", i);
+            while ((length = c8_next(&two[i], packet, &to)) > 0)
+                if (turn == 0 || roll(4)) deliver_sealed(two, packet, length, to);
+        }
+        if (turn == 0 && c8_deliver(&two[1], first, first_length) > 2) fail("an old one", first_length);
+        if (turn == 0 && (c8_sender(&two[1], &newest) != 1 || newest)) fail("the newest", newest);
+    }
+    for (int i = 0; i < 2; i++)
+        if (c8_confirmed(&two[i]) != FRAMES || c8_is_lost(&two[i])) fail("no end", c8_confirmed(&two[i]));
+    c8_close(&two[0]), c8_close(&two[1]);
+    openings += 2;
+}
+
 int main(int count, char **words) {
     uint64_t most = count > 1 ? strtoull(words[1], NULL, 10) : 1000000;
     dice = (count > 2 ? strtoull(words[2], NULL, 10) : 1) * 0x9e3779b97f4a7c15 | 1;
@@ -357,15 +424,13 @@ int main(int count, char **words) {
             what = "c8_close";
             c8_close(s);
             c8_close(s);
-        } else if (roll(100) == 0) {
-            what = "c8_session_of";
-            session_of();
         } else {
             uint64_t before = taken;
             call(s);
             if (taken != before) fail("took memory", taken - before);
         }
     }
+    play_sealed();
     fail_disk();
     what = "the end";
     for (int i = 0; i < SESSIONS; i++) c8_close(&sessions[i]);
@@ -374,8 +439,9 @@ int main(int count, char **words) {
     rmdir(folder);
     printf("random: %" PRIu64 " calls, fine\n", calls);
     fprintf(stderr,
-            "openings %" PRIu64 ", ticks %" PRIu64 ", rows %" PRIu64 ", datagrams kept %" PRIu64 ", refused %" PRIu64
-            ", dropped %" PRIu64 ", blocks lost %" PRIu64 "\n",
-            openings, ticks, rows, heard, refusals, drops, taken - given_back);
+            "openings %" PRIu64 ", ticks %" PRIu64 ", rows %" PRIu64 ", packets kept %" PRIu64 ", refused %" PRIu64
+            ", not sealed %" PRIu64 ", seen before %" PRIu64 ", dropped %" PRIu64 ", blocks lost %" PRIu64 "\n",
+            openings, ticks, rows, heard, refusals, unsealed, repeated, drops, taken - given_back);
+    if (most >= 100000 && (!unsealed || !repeated)) fail("no packet was refused as one", unsealed);
     return 0;
 }

@@ -1,6 +1,6 @@
 //! Two ships: the game of `embed/game.c`, bit for bit. A player of this program plays with one of that program.
 //!
-//!     game ROLE LOCAL_PORT HOST PORT [--frames N] [--journal FILE] [--script SEED] [--lose PERCENT]
+//!     game ROLE LOCAL_PORT HOST PORT [--frames N] [--journal FILE] [--secret FILE] [--script SEED] [--lose PERCENT]
 //!
 //! ROLE is 1 or 2; HOST and PORT are where the other player listens. Keys: a and d turn, w accelerates, space fires, q
 //! quits. `game.c` explains the options.
@@ -8,8 +8,9 @@
 use c8play_session::{Journal, Refusal, Rules, Session, Steps};
 use std::env;
 use std::error::Error;
+use std::fs;
 use std::io::{self, Read, Write};
-use std::net::UdpSocket;
+use std::net::{SocketAddr, ToSocketAddrs, UdpSocket};
 use std::process::{exit, Command, Stdio};
 use std::sync::mpsc::{self, Receiver};
 use std::thread;
@@ -254,29 +255,37 @@ fn draw(state: &State, message: &str) -> io::Result<()> {
 
 struct Network {
     udp: UdpSocket,
+    /// Where the other player is; with a secret, where its newest packet came from.
+    there: SocketAddr,
     lose: u64,
     sent: u64,
 }
 
 impl Network {
-    /// A connected socket receives from this address alone.
     fn open(options: &Options) -> io::Result<Network> {
         let udp = UdpSocket::bind(("0.0.0.0", options.local))?;
-        udp.connect((options.host.as_str(), options.port))?;
+        let mut found = (options.host.as_str(), options.port).to_socket_addrs()?.filter(SocketAddr::is_ipv4);
+        let there = found.next().ok_or(io::ErrorKind::NotFound)?;
+        if options.secret.is_none() {
+            udp.connect(there)?; // a connected socket receives from this address alone
+        }
         udp.set_nonblocking(true)?;
-        Ok(Network { udp, lose: options.lose, sent: 0 })
+        Ok(Network { udp, there, lose: options.lose, sent: 0 })
     }
 
     /// Delivers what comes until this moment. A hasty player goes on once something came.
-    fn receive_until(&self, session: &mut Session, end: Instant, is_hasty: bool) -> Result<(), Refusal> {
+    fn receive_until(&mut self, session: &mut Session, end: Instant, is_hasty: bool) -> Result<(), Refusal> {
         let mut bytes = [0; 256];
         loop {
             let mut has_come = false;
-            while let Ok(length) = self.udp.recv(&mut bytes) {
+            while let Ok((length, from)) = self.udp.recv_from(&mut bytes) {
                 has_come = true;
-                // Other refusals are of datagrams that came late or twice, or from a stranger.
+                // Other refusals are of packets that came late or twice, or from a stranger.
                 if let Err(why @ (Refusal::DiskFailed | Refusal::DiskFull)) = session.deliver(&bytes[..length]) {
                     return Err(why);
+                }
+                if session.sender().is_some_and(|sender| sender.is_newest) {
+                    self.there = from;
                 }
             }
             if Instant::now() >= end || (is_hasty && has_come) {
@@ -287,10 +296,10 @@ impl Network {
     }
 
     fn send_all(&mut self, session: &mut Session) {
-        for datagram in session.datagrams() {
+        for packet in session.packets() {
             self.sent += 1;
             if mix(self.sent) % 100 >= self.lose {
-                let _ = self.udp.send(&datagram); // a datagram that is not sent is one that is lost
+                let _ = self.udp.send_to(&packet, self.there); // a packet that is not sent is one that is lost
             }
         }
     }
@@ -321,6 +330,7 @@ struct Options {
     port: u16,
     frames: u32,
     journal: Option<String>,
+    secret: Option<String>,
     script: Option<u64>,
     lose: u64,
 }
@@ -337,6 +347,7 @@ impl Options {
             port: port.parse().ok()?,
             frames: 3600,
             journal: None,
+            secret: None,
             script: None,
             lose: 0,
         };
@@ -347,6 +358,7 @@ impl Options {
             match name.as_str() {
                 "--frames" => options.frames = value.parse().ok()?,
                 "--journal" => options.journal = Some(value.clone()),
+                "--secret" => options.secret = Some(value.clone()),
                 "--script" => options.script = Some(value.parse().ok()?),
                 "--lose" => options.lose = value.parse().ok()?,
                 _ => return None,
@@ -360,11 +372,26 @@ impl Options {
         id[..11].copy_from_slice(b"two ships 1");
         let rules = Rules { players: 2, frames: self.frames, delay: DELAY, window: WINDOW, id }.text()?;
         let (room, patience) = (1, if self.script.is_some() { 0 } else { 600 });
-        Ok(match &self.journal {
+        let mut session = match &self.journal {
             Some(path) => Session::open_journal(rules, self.me, room, patience, Journal::open(path)?)?,
             None => Session::open(rules, self.me, room, patience)?,
-        })
+        };
+        if let Some(path) = &self.secret {
+            session.secret(&read_secret(path)?, None)?;
+        }
+        Ok(session)
     }
+}
+
+/// The secret of this file: 64 hexadecimal digits.
+fn read_secret(path: &str) -> Result<[u8; 32], Box<dyn Error>> {
+    let text = fs::read_to_string(path)?;
+    let mut secret = [0; 32];
+    for (place, byte) in secret.iter_mut().enumerate() {
+        let digits = text.get(2 * place..2 * place + 2).ok_or("a secret has 64 hexadecimal digits")?;
+        *byte = u8::from_str_radix(digits, 16)?;
+    }
+    Ok(secret)
 }
 
 /// Plays to the end, or until the person quits.
@@ -402,6 +429,9 @@ fn play(options: &Options, session: &mut Session, states: &mut States) -> Result
             }
         }
         session.turn()?;
+        if session.is_lost() {
+            return Err("the other player has inputs that this journal does not have".into());
+        }
         network.send_all(session);
         states.run(session);
         if keyboard.is_some() {
@@ -415,7 +445,10 @@ fn play(options: &Options, session: &mut Session, states: &mut States) -> Result
 fn main() -> Result<(), Box<dyn Error>> {
     let words: Vec<String> = env::args().skip(1).collect();
     let Some(options) = Options::read(&words) else {
-        eprintln!("usage: game 1|2 LOCAL_PORT HOST PORT [--frames N] [--journal FILE] [--script SEED] [--lose PERCENT]");
+        eprintln!(
+            "usage: game 1|2 LOCAL_PORT HOST PORT [--frames N] [--journal FILE] [--secret FILE] [--script SEED] \
+             [--lose PERCENT]"
+        );
         exit(2);
     };
     let mut session = options.open()?;

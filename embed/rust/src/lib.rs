@@ -1,7 +1,7 @@
 //! One peer of a rollback match, for any machine: the calls of `c8.h` as safe Rust.
 //!
 //! A match has two to four players. Each runs one [`Session`], ticks it once a frame with its own player's input, and
-//! carries datagrams between the sessions over any network that may lose, repeat or reorder them. The session predicts
+//! carries packets between the sessions over any network that may lose, repeat or reorder them. The session predicts
 //! missing inputs, rolls back when a real one differs, and agrees with the others on every confirmed frame.
 //!
 //! ```
@@ -19,8 +19,8 @@
 //! }
 //! let _ = session.tick(0x0001);
 //! session.turn()?;
-//! for datagram in session.datagrams() {
-//!     let _send = (datagram.to(), &datagram[..]);
+//! for packet in session.packets() {
+//!     let _send = (packet.to(), &packet[..]);
 //! }
 //! session.run(&mut steps, |frame, row| {
 //!     states[frame as usize + 1] = row.iter().fold(states[frame as usize], |sum, input| sum * 31 + u64::from(*input));
@@ -40,8 +40,8 @@ mod rules;
 mod session;
 mod sys;
 
-pub use packet::{Datagram, Packet, Seal};
+pub use packet::{Packet, Sender};
 pub use refusal::Refusal;
 pub use rules::Rules;
-pub use session::{Datagrams, Heard, Journal, Kind, Session, Steps};
+pub use session::{Heard, Journal, Kind, Packets, Session, Steps};
 pub use sys::PlayerState;

@@ -50,6 +50,15 @@ refusals! {
     Closed = 101,
     /// Not the number of a player.
     NoPlayer = 102,
+    // a secret, and sealed packets
+    /// A packet of a stranger, or an altered one.
+    NotSealed = 103,
+    /// A repeated packet.
+    SeenBefore = 104,
+    /// The watchers' secret is that of the players.
+    BadSecret = 105,
+    /// The session has a secret already.
+    SealedAlready = 106,
     // the text of a game
     GameLine = 201,
     GameRange = 202,

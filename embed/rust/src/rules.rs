@@ -1,7 +1,6 @@
 //! The rules of a match.
 
 use crate::refusal::Refusal;
-use crate::session::done;
 use crate::sys;
 
 /// The longest text of [`Rules`].
@@ -26,13 +25,19 @@ impl Rules {
     /// The text of these rules, for [`crate::Session::open`]. Refused with [`Refusal::GameRange`] if a number is out of
     /// its range.
     pub fn text(&self) -> Result<String, Refusal> {
-        if self.players > 4 {
+        if !self.are_in_range() {
             return Err(Refusal::GameRange);
         }
         let mut text = vec![0; LONGEST];
         let length = sys::rules(self.players, self.frames, self.delay, self.window, &self.id, &mut text);
         text.truncate(length as usize);
-        done(sys::session_of(&text, 0, &mut 0))?;
         Ok(String::from_utf8(text).expect("the text of a game is ASCII"))
+    }
+
+    fn are_in_range(&self) -> bool {
+        (2..=4).contains(&self.players)
+            && (1..=262_144).contains(&self.frames)
+            && self.delay <= 4
+            && (1..=12).contains(&self.window)
     }
 }

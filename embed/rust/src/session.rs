@@ -1,6 +1,6 @@
 //! One peer of a match.
 
-use crate::packet::Datagram;
+use crate::packet::{Packet, Sender};
 use crate::refusal::Refusal;
 use crate::sys::{self, Handle, PlayerState};
 use std::fmt;
@@ -20,7 +20,7 @@ pub(crate) fn done(answer: u32) -> Result<(), Refusal> {
 /// One peer of a match. It is closed when it is dropped.
 ///
 /// In each frame, in this order: [`deliver`](Session::deliver) what came, [`tick`](Session::tick) the own input, make the
-/// [`turn`](Session::turn), send the [`datagrams`](Session::datagrams), and run the machine on the rows of a
+/// [`turn`](Session::turn), send the [`packets`](Session::packets), and run the machine on the rows of a
 /// [`step`](Session::step).
 ///
 /// Only an opening takes memory. A session may move to another thread, but is not shared between threads:
@@ -105,7 +105,26 @@ impl Session {
         done(answer).map(|()| Session { handle })
     }
 
-    /// Processes a received datagram: any bytes. Refusals are normal, since datagrams come late, twice or from strangers:
+    /// Gives the session the players' secret, and the watchers' own one if the match has watchers. All players of a match
+    /// have the same. Call it after an opening and before anything is sent.
+    ///
+    /// Nobody without the secret can make a packet, and each packet counts once: [`deliver`](Session::deliver) refuses
+    /// others with [`Refusal::NotSealed`] and [`Refusal::SeenBefore`]. A player that starts again needs its journal, since
+    /// the others refuse packets of its first opening as repeated. The secret does not hide what packets say.
+    pub fn secret(&mut self, secret: &[u8; 32], watchers: Option<&[u8; 32]>) -> Result<(), Refusal> {
+        done(self.handle.secrets(secret, watchers.map_or(&[], |watchers| &watchers[..])))
+    }
+
+    /// The player whose sealed packet the last delivery accepted.
+    pub fn sender(&self) -> Option<Sender> {
+        let mut is_newest = false;
+        match self.handle.sender(&mut is_newest) {
+            0 => None,
+            player => Some(Sender { player, is_newest }),
+        }
+    }
+
+    /// Processes a received packet: any bytes. Refusals are normal, since packets come late, twice or from strangers:
     /// only [`Refusal::DiskFailed`], [`Refusal::DiskFull`] and [`Refusal::Desync`] need an answer.
     pub fn deliver(&mut self, bytes: &[u8]) -> Result<Heard, Refusal> {
         match self.handle.deliver(bytes) {
@@ -123,21 +142,27 @@ impl Session {
     }
 
     /// Begins a turn: player 1 drops silent players and cuts their inputs, a journal gets a part of its checkpoint (one
-    /// every 3,600 frames), and [`datagrams`](Session::datagrams) gives the turn's datagrams. Call it once a frame, also
+    /// every 3,600 frames), and [`packets`](Session::packets) gives what the turn sends. Call it once a frame, also
     /// when the tick was refused.
     pub fn turn(&mut self) -> Result<(), Refusal> {
         done(self.handle.turn())
     }
 
-    /// The datagrams of this turn that are still to be sent.
-    pub fn datagrams(&mut self) -> Datagrams<'_> {
-        Datagrams { session: self }
+    /// The packets of this turn that are still to be sent.
+    pub fn packets(&mut self) -> Packets<'_> {
+        Packets { session: self }
     }
 
     /// Whether the match is over for this session: it was dropped, or everything was confirmed and acknowledged for more
     /// than 120 turns.
     pub fn is_over(&self) -> bool {
         self.handle.is_over()
+    }
+
+    /// Whether another player acknowledged inputs of this player that its journal does not have: the journal was lost or
+    /// replaced by an older copy, and this session cannot go on.
+    pub fn is_lost(&self) -> bool {
+        self.handle.is_lost()
     }
 
     /// Writes the rows that changed to `steps`, as many as have room there. If `steps` is full, step again for the rest.
@@ -212,7 +237,7 @@ impl Session {
     }
 
     /// A datagram of a kind to a player, for a schedule other than that of [`turn`](Session::turn).
-    pub fn say(&mut self, to: u8, kind: Kind) -> Result<Datagram, Refusal> {
+    pub fn say(&mut self, to: u8, kind: Kind) -> Result<Packet, Refusal> {
         let (number, leaver) = match kind {
             Kind::Hello => (0, 0),
             Kind::Welcome => (1, 0),
@@ -221,9 +246,9 @@ impl Session {
             Kind::Frozen(leaver) => (4, leaver),
             Kind::Cut(leaver) => (5, leaver),
         };
-        let (mut bytes, mut length) = ([0; sys::DATAGRAM], 0);
+        let (mut bytes, mut length) = ([0; sys::PACKET], 0);
         done(self.handle.say(to, number, leaver, &mut bytes, &mut length))?;
-        Ok(Datagram { bytes, length: length as usize, to })
+        Ok(Packet { bytes, length: length as usize, to })
     }
 
     /// Player 1 drops a player.
@@ -256,20 +281,20 @@ impl fmt::Debug for Session {
     }
 }
 
-/// The datagrams of a turn that are still to be sent.
+/// The packets of a turn that are still to be sent.
 #[derive(Debug)]
-pub struct Datagrams<'s> {
+pub struct Packets<'s> {
     session: &'s mut Session,
 }
 
-impl Iterator for Datagrams<'_> {
-    type Item = Datagram;
+impl Iterator for Packets<'_> {
+    type Item = Packet;
 
-    fn next(&mut self) -> Option<Datagram> {
-        let (mut bytes, mut to) = ([0; sys::DATAGRAM], 0);
+    fn next(&mut self) -> Option<Packet> {
+        let (mut bytes, mut to) = ([0; sys::PACKET], 0);
         match self.session.handle.next(&mut bytes, &mut to) {
             0 => None,
-            length => Some(Datagram { bytes, length: length as usize, to }),
+            length => Some(Packet { bytes, length: length as usize, to }),
         }
     }
 }

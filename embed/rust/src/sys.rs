@@ -15,8 +15,7 @@ use std::cell::UnsafeCell;
 use std::os::fd::{IntoRawFd, OwnedFd};
 use std::ptr;
 
-pub const DATAGRAM: usize = 174;
-pub const SEALED: usize = 190;
+pub const PACKET: usize = 198;
 pub const PICTURE: usize = 256;
 pub const STATE: usize = 4419;
 
@@ -30,7 +29,7 @@ struct Raw {
 #[repr(C)]
 #[derive(Clone, Copy, Debug, Default, PartialEq, Eq)]
 pub struct PlayerState {
-    /// Turns in a row without a datagram from it, with the present one.
+    /// Turns in a row without a datagram that its open link admitted, with the present one.
     pub silent: u64,
     /// Its inputs that are here, with the empty ones of the delay.
     pub held: u32,
@@ -60,6 +59,7 @@ extern "C" {
     fn c8_turn(session: *mut Raw) -> u32;
     fn c8_next(session: *mut Raw, out: *mut u8, to: *mut u8) -> u32;
     fn c8_is_over(session: *mut Raw) -> bool;
+    fn c8_is_lost(session: *mut Raw) -> bool;
     fn c8_step(session: *mut Raw, from: *mut u32, rows: *mut u16, words: usize) -> u32;
     fn c8_check(session: *mut Raw, depth: u32) -> u32;
     fn c8_rules(players: u8, frames: u32, delay: u8, window: u8, id: *const u8, out: *mut u8, length: usize) -> u32;
@@ -75,9 +75,8 @@ extern "C" {
     fn c8_leave(session: *mut Raw, leaver: u8) -> u32;
     fn c8_decide(session: *mut Raw, leaver: u8) -> u32;
     fn c8_checkpoint(session: *mut Raw) -> u32;
-    fn c8_session_of(text: *const u8, length: usize, room: u64, session: *mut u64) -> u32;
-    fn c8_seal(secret: *const u8, session: u64, datagram: *const u8, length: usize, out: *mut u8) -> u32;
-    fn c8_unseal(secret: *const u8, session: u64, packet: *const u8, length: usize) -> u32;
+    fn c8_secrets(session: *mut Raw, secret: *const u8, watchers: *const u8, length: usize) -> u32;
+    fn c8_sender(session: *mut Raw, newest: *mut bool) -> u8;
     fn c8_explain(number: u32, out: *mut u8, length: usize) -> u32;
 }
 
@@ -123,12 +122,24 @@ impl Handle {
         unsafe { c8_turn(self.0.get()) }
     }
 
-    pub fn next(&mut self, out: &mut [u8; DATAGRAM], to: &mut u8) -> u32 {
+    pub fn next(&mut self, out: &mut [u8; PACKET], to: &mut u8) -> u32 {
         unsafe { c8_next(self.0.get(), out.as_mut_ptr(), to) }
     }
 
     pub fn is_over(&self) -> bool {
         unsafe { c8_is_over(self.0.get()) }
+    }
+
+    pub fn is_lost(&self) -> bool {
+        unsafe { c8_is_lost(self.0.get()) }
+    }
+
+    pub fn secrets(&mut self, secret: &[u8; 32], watchers: &[u8]) -> u32 {
+        unsafe { c8_secrets(self.0.get(), secret.as_ptr(), watchers.as_ptr(), watchers.len()) }
+    }
+
+    pub fn sender(&self, newest: &mut bool) -> u8 {
+        unsafe { c8_sender(self.0.get(), newest) }
     }
 
     /// Four words in a row are an array: a slice of arrays has no gaps.
@@ -172,7 +183,7 @@ impl Handle {
         unsafe { c8_mark(self.0.get(), out.as_mut_ptr()) }
     }
 
-    pub fn say(&mut self, to: u8, kind: u8, leaver: u8, out: &mut [u8; DATAGRAM], length: &mut u32) -> u32 {
+    pub fn say(&mut self, to: u8, kind: u8, leaver: u8, out: &mut [u8; PACKET], length: &mut u32) -> u32 {
         unsafe { c8_say(self.0.get(), to, kind, leaver, out.as_mut_ptr(), length) }
     }
 
@@ -191,18 +202,6 @@ impl Handle {
 
 pub fn rules(players: u8, frames: u32, delay: u8, window: u8, id: &[u8; 32], out: &mut [u8]) -> u32 {
     unsafe { c8_rules(players, frames, delay, window, id.as_ptr(), out.as_mut_ptr(), out.len()) }
-}
-
-pub fn session_of(text: &[u8], room: u64, session: &mut u64) -> u32 {
-    unsafe { c8_session_of(text.as_ptr(), text.len(), room, session) }
-}
-
-pub fn seal(secret: &[u8; 32], session: u64, datagram: &[u8], out: &mut [u8; SEALED]) -> u32 {
-    unsafe { c8_seal(secret.as_ptr(), session, datagram.as_ptr(), datagram.len(), out.as_mut_ptr()) }
-}
-
-pub fn unseal(secret: &[u8; 32], session: u64, packet: &[u8]) -> u32 {
-    unsafe { c8_unseal(secret.as_ptr(), session, packet.as_ptr(), packet.len()) }
 }
 
 pub fn explain(number: u32, out: &mut [u8]) -> u32 {

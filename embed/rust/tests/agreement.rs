@@ -1,6 +1,6 @@
 //! Players over a queue that loses datagrams end with the same state of a machine of the engine's.
 
-use c8play_session::{Heard, Kind, Refusal, Rules, Seal, Session, Steps};
+use c8play_session::{Heard, Kind, Refusal, Rules, Sender, Session, Steps};
 
 const FRAMES: u32 = 400;
 
@@ -36,7 +36,7 @@ impl Player {
         let input = self.session.ticked().wrapping_mul(7919 * u32::from(self.number)) >> 3;
         let _ = self.session.tick(input as u16);
         self.session.turn().unwrap();
-        queue.extend(self.session.datagrams().map(|datagram| (datagram.to(), datagram.to_vec())));
+        queue.extend(self.session.packets().map(|packet| (packet.to(), packet.to_vec())));
         let states = &mut self.states;
         let before = states.len();
         self.session.run(&mut self.steps, |frame, row| {
@@ -143,16 +143,45 @@ fn chip_8_has_a_picture() {
 }
 
 #[test]
-fn a_seal_opens_with_its_secret_alone() {
-    let seal = Seal::new([1; 32], rules(2), 3).unwrap();
-    let packet = seal.seal(b"bytes").unwrap();
-    assert_eq!(packet.len(), 21);
-    assert_eq!(seal.unseal(&packet), Some(&b"bytes"[..]));
-    assert_eq!(Seal::new([2; 32], rules(2), 3).unwrap().unseal(&packet), None);
-    assert_eq!(Seal::new([1; 32], rules(2), 4).unwrap().unseal(&packet), None);
-    assert_eq!(seal.unseal(&packet[1..]), None);
-    assert!(seal.seal(&[0; 174]).is_some() && seal.seal(&[0; 175]).is_none());
-    assert_eq!(Seal::new([1; 32], "", 3).err(), Some(Refusal::GameMissing));
+fn a_packet_opens_with_its_secret_alone_and_once() {
+    let opened = |number| Session::open(rules(2), number, 3, 0).unwrap();
+    let sealed = |number, secret| {
+        let mut session = opened(number);
+        session.secret(&[secret; 32], Some(&[9; 32])).unwrap();
+        session
+    };
+    let (mut one, mut two) = (sealed(1, 1), sealed(2, 1));
+    let first = one.say(2, Kind::Hello).unwrap();
+    let second = one.say(2, Kind::Hello).unwrap();
+    assert_eq!((first.len(), second.len()), (48, 48));
+    assert_eq!(two.deliver(&second), Ok(Heard::Nothing));
+    assert_eq!(two.sender(), Some(Sender { player: 1, is_newest: true }));
+    assert_eq!((two.deliver(&second), two.sender()), (Err(Refusal::SeenBefore), None));
+    assert_eq!(two.deliver(&first), Ok(Heard::Nothing));
+    assert_eq!(two.sender(), Some(Sender { player: 1, is_newest: false }));
+
+    assert_eq!(one.deliver(&first), Err(Refusal::NotSealed));
+    assert_eq!(sealed(2, 2).deliver(&first), Err(Refusal::NotSealed));
+    assert_eq!(two.deliver(&first[..24]), Err(Refusal::NotSealed));
+    let plain = opened(1).say(2, Kind::Hello).unwrap();
+    assert_eq!(two.deliver(&plain), Err(Refusal::NotSealed));
+    assert_eq!((opened(2).deliver(&plain), opened(2).sender()), (Ok(Heard::Nothing), None));
+
+    assert_eq!(one.secret(&[1; 32], None), Err(Refusal::SealedAlready));
+    assert_eq!(opened(1).secret(&[1; 32], Some(&[1; 32])), Err(Refusal::BadSecret));
+}
+
+#[test]
+fn a_journal_is_lost_that_others_acknowledge() {
+    let (mut one, mut two) = (Session::open(rules(2), 1, 3, 0).unwrap(), Session::open(rules(2), 2, 3, 0).unwrap());
+    greet(&mut one, &mut two);
+    one.tick(5).unwrap();
+    two.deliver(&one.say(2, Kind::Data).unwrap()).unwrap();
+    assert!(!one.is_lost() && !two.is_lost());
+    let mut again = Session::open(rules(2), 1, 3, 0).unwrap();
+    greet(&mut again, &mut two);
+    let _ = again.deliver(&two.say(1, Kind::Data).unwrap());
+    assert!(again.is_lost() && !two.is_lost());
 }
 
 /// Opens the link between two players.

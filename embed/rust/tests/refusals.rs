@@ -76,6 +76,10 @@ fn texts_of_games() {
         let rules = Rules { players, frames, delay, window, id: [0; 32] };
         assert_eq!(rules.text(), Err(Refusal::GameRange), "{rules:?}");
     }
+    for (players, frames, delay, window) in [(2, 1, 0, 1), (4, 262_144, 4, 12)] {
+        let rules = Rules { players, frames, delay, window, id: [0; 32] };
+        assert!(Session::open(rules.text().unwrap(), 1, ROOM, 0).is_ok(), "{rules:?}");
+    }
 }
 
 #[test]
