@@ -203,8 +203,9 @@ static inline c8_answer c8_secret(c8_session *session, const uint8_t secret[32],
     return c8_secrets(session, secret, watchers ? watchers : secret, watchers ? 32 : 0);
 }
 
-/* The player whose sealed packet the last c8_deliver accepted; 0 if it accepted none. Writes to `newest` whether that
- * player sent no later packet that came before it. Then the player is where this packet came from: send there. */
+/* The player whose sealed packet the last c8_deliver accepted; 0 if it accepted none, and then `newest` stays. Else it
+ * writes to `newest` whether no later packet of that player came before. If so, the player is where this packet came
+ * from: send there. */
 uint8_t c8_sender(c8_session *, bool *newest);
 
 /* Writes the name and the sentence of a refusal, as far as they fit (160 bytes do), without a 0 after them. Returns how

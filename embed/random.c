@@ -365,7 +365,7 @@ static void deliver_sealed(c8_session two[2], const uint8_t *packet, uint32_t le
     if (answer == C8_NOT_SEALED || answer == C8_SEEN_BEFORE) fail("refused", answer);
     if (c8_sender(&two[to - 1], &newest) != 3 - to || !newest) fail("not from the other", to);
     if (c8_deliver(&two[to - 1], packet, length) != C8_SEEN_BEFORE) fail("repeated", length);
-    if (c8_sender(&two[to - 1], &newest) || newest) fail("a repeated packet has a sender", 0);
+    if (c8_sender(&two[to - 1], &newest)) fail("a repeated packet has a sender", 0);
 }
 
 /* Two players of a match with a secret. A packet that another overtook is accepted, and is not the newest. */
