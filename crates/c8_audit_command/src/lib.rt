@@ -12,5 +12,5 @@ mod report;
 
 pub use arguments::AUDIT;
 pub use command::audit_given;
-pub use error::AuditFault;
+pub use error::{AuditFault, Unreadable};
 pub use report::write_audit;

@@ -1,9 +1,13 @@
 //! What an audit prints.
 
+ghost use Rattle.std.specs.Prelude.{◌≡◌, IfOk};
 ghost use Rattle.c8_game.specs.Rules.{Rules};
 ghost use Rattle.c8_audit.specs.Journals.{Seen, AreOfGame, Stays};
 ghost use Rattle.c8_audit.specs.Read.{all_seen};
+ghost use Rattle.c8_audit.specs.Judged.{AreVerdicts};
 ghost use Rattle.c8_audit.specs.Verdicts.{IsLeastCount};
+ghost use Rattle.c8_audit.specs.declared.verdict.Verdicts.{Verdicts};
+ghost use Rattle.c8_audit_command.specs.Audit.{fault_in};
 
 use crate::error::AuditFault;
 use c8_audit::{
@@ -22,6 +26,9 @@ pub fn write_audit<W: Write>(
 ) -> io::Result<Option<AuditFault>>
     requires of_game { AreOfGame game.now (all_seen gathered.now.journals) }
     requires one { (one : Seen) × Stays (all_seen gathered.now.journals) 1 one }
+    ensures { IfOk result (λ fault. (verdicts : Verdicts)
+        × AreVerdicts game.now (all_seen gathered.now.journals) verdicts
+        × (fault ≡ fault_in verdicts)) }
 {
     let journals = gathered.journals.as_slice();
     write_players(journals, out)?;
@@ -98,15 +105,14 @@ fn check_of(journals: &[Option<Journal>], player: Player) -> usize {
 }
 
 /// The first verdict that is no.
-fn fault_of(verdicts: &Verdicts) -> Option<AuditFault> {
-    if verdicts.unentered.is_some() {
-        Some(AuditFault::Entered)
-    } else if verdicts.untrue.is_some() {
-        Some(AuditFault::Checks)
-    } else if verdicts.difference.is_some() {
-        Some(AuditFault::Disagree)
-    } else {
-        None
+fn fault_of(verdicts: &Verdicts) -> Option<AuditFault>
+    ensures { result ≡ fault_in verdicts.now }
+{
+    match (verdicts.unentered, verdicts.untrue, verdicts.difference) {
+        (Some(_), _, _) => Some(AuditFault::Entered),
+        (None, Some(_), _) => Some(AuditFault::Checks),
+        (None, None, Some(_)) => Some(AuditFault::Disagree),
+        (None, None, None) => None,
     }
 }
 
