@@ -50,7 +50,7 @@ pub struct Gathered {
 
 /// Reads the journals from the bytes of files. A file without a record is skipped. The first faulty file gives the error
 /// `File`, with its place. If no file is at fault, the error is `Journals` if two journals are of one player or of
-/// different rooms, or if player 1's is missing.
+/// different rooms, or if player 1's is missing. It names the first file that does not belong to an earlier one.
 pub fn gather(alloc: Global, game: &Game, files: &[Twice]) -> Result<Gathered, GatherError>
     ensures gathered { IfOk result (λ gathered. AreGathered game.now
         (evidence_of files.now) gathered.journals) }

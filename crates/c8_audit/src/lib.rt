@@ -3,9 +3,9 @@
 //!
 //! [`gather`] reads the journals from the bytes of files; each file is read twice. [`judge`] audits the journals, and
 //! [`digest_of`] returns the digest of the final machine. `specs/Images.antt` says which journal a file keeps,
-//! `Journals.antt` what the journals make known, `Verdicts.antt` when each verdict is yes and which fault a no names,
-//! `Honest.antt` which journals an honest match leaves. [`laws`] has what follows: a yes means agreement, and an honest
-//! match is never accused.
+//! `OneMatch.antt` when files keep the journals of one match, `Journals.antt` what the journals make known,
+//! `Verdicts.antt` when each verdict is yes and which fault a no names, `Honest.antt` which journals and files an honest
+//! match leaves. [`laws`] has what follows: a yes means agreement, and an honest match is never accused.
 #![tactic(auto)]
 
 mod agreed;
