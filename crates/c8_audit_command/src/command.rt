@@ -1,6 +1,6 @@
 //! `c8play audit`: judges the journals of a match.
 
-ghost use Rattle.std.specs.Prelude.{◌≡◌, ◌⊎◌, IfOk, IfErr, Result};
+ghost use Rattle.std.specs.Prelude.{◌≡◌, ◌⊎◌, Some, IfOk, IfErr, Result};
 ghost use Rattle.c8_audit.specs.Gathered.{AreGathered};
 ghost use Rattle.c8_audit.specs.Images.{evidence_of};
 ghost use Rattle.c8_audit.specs.Journals.{Seen, AreOfGame, Stays};
@@ -186,7 +186,8 @@ fn later_of(why: Mismatch) -> Option<usize> {
 }
 /// A fault of the journal of a number.
 fn at(place: usize, fault: AuditFault) -> Unjudged
-    ensures { result.fault ≡ fault }
+    ensures fault { result.fault ≡ fault }
+    ensures place { result.place ≡ Some place }
 {
     Unjudged {
         fault,

@@ -1,6 +1,7 @@
 //! What an audit prints.
 
-ghost use Rattle.std.specs.Prelude.{◌≡◌, IfOk};
+ghost use Rattle.std.specs.Prelude.{◌≡◌, ℕ, IfOk, OnOk};
+ghost use Rattle.std.specs.Io.KnownBytes.{Appends};
 ghost use Rattle.c8_game.specs.Rules.{Rules};
 ghost use Rattle.c8_audit.specs.Journals.{Seen, AreOfGame, Stays};
 ghost use Rattle.c8_audit.specs.Read.{all_seen};
@@ -8,6 +9,7 @@ ghost use Rattle.c8_audit.specs.Judged.{AreVerdicts};
 ghost use Rattle.c8_audit.specs.Verdicts.{IsLeastCount};
 ghost use Rattle.c8_audit.specs.declared.verdict.Verdicts.{Verdicts};
 ghost use Rattle.c8_audit_command.specs.Audit.{fault_in};
+ghost use Rattle.c8_audit_command.specs.Printed.{entered_text, checks_text, agree_text, verdicts_text};
 
 use crate::error::AuditFault;
 use c8_audit::{
@@ -81,18 +83,55 @@ fn write_verdicts<W: Write>(
     journals: &[Option<Journal>],
     verdicts: &Verdicts,
     out: &mut W,
-) -> io::Result<()> {
-    match verdicts.unentered {
-        Some(Fault { frame, one, other }) => writeln!(out, "entered no {one} {frame} {other}")?,
-        None => writeln!(out, "entered yes")?,
+) -> io::Result<()>
+    ensures { OnOk result ((check : ℕ) × Appends (W.contents out.old) (W.contents out.new)
+        (verdicts_text verdicts.now check)) }
+{
+    write_entered(verdicts.unentered, out)?;
+    write_checks(verdicts.untrue, journals, out)?;
+    write_agree(verdicts.difference, verdicts.count, out)
+}
+
+fn write_entered<W: Write>(unentered: Option<Fault>, out: &mut W) -> io::Result<()>
+    ensures { OnOk result (Appends (W.contents out.old) (W.contents out.new)
+        (entered_text unentered)) }
+{
+    match unentered {
+        Some(fault) => {
+            let (frame, one, other) = (fault.frame, fault.one.number, fault.other.number);
+            writeln!(out, "entered no {one} {frame} {other}")
+        }
+        None => writeln!(out, "entered yes"),
     }
-    match verdicts.untrue {
-        Some(player) => writeln!(out, "checks no {player} {}", check_of(journals, player))?,
-        None => writeln!(out, "checks yes")?,
+}
+
+fn write_checks<W: Write>(
+    untrue: Option<Player>,
+    journals: &[Option<Journal>],
+    out: &mut W,
+) -> io::Result<()>
+    ensures { OnOk result ((check : ℕ) × Appends (W.contents out.old) (W.contents out.new)
+        (checks_text untrue check)) }
+{
+    match untrue {
+        Some(player) => {
+            let (number, check) = (player.number, check_of(journals, player));
+            writeln!(out, "checks no {number} {check}")
+        }
+        None => writeln!(out, "checks yes"),
     }
-    match verdicts.difference {
-        Some(Fault { frame, one, other }) => writeln!(out, "agree no {frame} {one} {other}"),
-        None => writeln!(out, "agree yes {}", verdicts.count),
+}
+
+fn write_agree<W: Write>(difference: Option<Fault>, count: u32, out: &mut W) -> io::Result<()>
+    ensures { OnOk result (Appends (W.contents out.old) (W.contents out.new)
+        (agree_text difference count)) }
+{
+    match difference {
+        Some(fault) => {
+            let (frame, one, other) = (fault.frame, fault.one.number, fault.other.number);
+            writeln!(out, "agree no {frame} {one} {other}")
+        }
+        None => writeln!(out, "agree yes {count}"),
     }
 }
 
