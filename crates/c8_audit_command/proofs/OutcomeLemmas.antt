@@ -20,6 +20,7 @@ use Rattle.c8_audit.specs.declared.journal.Journal.{Journal}
 use Rattle.c8_audit.specs.declared.verdict.Verdicts.{Verdicts}
 use Rattle.c8_audit_command.specs.Audit.{first_no, fault_in, IsJudged, AreJudged, IsWithout, AreRefused, IsUnjudged, HasAudited}
 use Rattle.c8_audit_command.specs.Errors.{audit_part}
+use Rattle.c8_audit_command.specs.Printed.{Tells}
 use Rattle.c8_audit_command.specs.declared.error.AuditFault.{AuditFault}
 use Rattle.c8_audit_command.specs.declared.error.AuditFault.TheVariants.{Game}
 
@@ -27,9 +28,9 @@ use Rattle.c8_audit_command.specs.declared.error.AuditFault.TheVariants.{Game}
 abbrev pub TellsJudged : Rules → AllSeen → Status → Type 0
 TellsJudged rules all status = (outcome : Result Verdicts AuditFault) × IsJudged rules all outcome × (status ≡ status_of_outcome audit_part outcome)
 
-pub judged_by : (rules : Rules) (given shown : List (Option Journal)) (verdicts : Verdicts) (fault : Option AuditFault) → shown ≡ given → AreVerdicts rules (all_seen shown) verdicts → fault ≡ fault_in verdicts
-    → (found : Verdicts) × AreVerdicts rules (all_seen given) found × (fault ≡ fault_in found)
-judged_by rules given shown verdicts fault same are is = (verdicts, subst (λ (journals : List (Option Journal)). AreVerdicts rules (all_seen journals) verdicts) same are, is)
+pub judged_by : (rules : Rules) (given shown : List (Option Journal)) (verdicts : Verdicts) (fault : Option AuditFault) (old new : Option (List ℕ)) → shown ≡ given → AreVerdicts rules (all_seen shown) verdicts
+    → fault ≡ fault_in verdicts → Tells old new verdicts → (found : Verdicts) × AreVerdicts rules (all_seen given) found × (fault ≡ fault_in found) × Tells old new found
+judged_by rules given shown verdicts fault old new same are is tells = (verdicts, subst (λ (journals : List (Option Journal)). AreVerdicts rules (all_seen journals) verdicts) same are, is, tells)
 
 pub told_no : {E : Type 0} (rules : Rules) (all : AllSeen) (told : Result Status E) (fault : AuditFault) (verdicts : Verdicts) → AreVerdicts rules all verdicts → Some fault ≡ fault_in verdicts
     → IfOk told (λ status. status ≡ status_of (audit_part fault)) → IfOk told (TellsJudged rules all)

@@ -9,7 +9,7 @@ ghost use Rattle.c8_audit.specs.Judged.{AreVerdicts};
 ghost use Rattle.c8_audit.specs.Verdicts.{IsLeastCount};
 ghost use Rattle.c8_audit.specs.declared.verdict.Verdicts.{Verdicts};
 ghost use Rattle.c8_audit_command.specs.Audit.{fault_in};
-ghost use Rattle.c8_audit_command.specs.Printed.{entered_text, checks_text, agree_text, verdicts_text};
+ghost use Rattle.c8_audit_command.specs.Printed.{entered_text, checks_text, agree_text, verdicts_text, Grows, Tells};
 
 use crate::error::AuditFault;
 use c8_audit::{
@@ -30,13 +30,12 @@ pub fn write_audit<W: Write>(
     requires one { (one : Seen) × Stays (all_seen gathered.now.journals) 1 one }
     ensures { IfOk result (λ fault. (verdicts : Verdicts)
         × AreVerdicts game.now (all_seen gathered.now.journals) verdicts
-        × (fault ≡ fault_in verdicts)) }
+        × (fault ≡ fault_in verdicts)
+        × Tells (W.contents out.old) (W.contents out.new) verdicts) }
 {
     let journals = gathered.journals.as_slice();
     write_players(journals, out)?;
-    if gathered.empty > 0 {
-        writeln!(out, "empty {}", gathered.empty)?;
-    }
+    write_empty(gathered.empty, out)?;
     write_dropped(journals, out)?;
     let verdicts = judge(game, journals);
     write_verdicts(journals, &verdicts, out)?;
@@ -48,34 +47,64 @@ pub fn write_audit<W: Write>(
 }
 
 /// Writes a line for each journal.
-fn write_players<W: Write>(journals: &[Option<Journal>], out: &mut W) -> io::Result<()> {
+fn write_players<W: Write>(journals: &[Option<Journal>], out: &mut W) -> io::Result<()>
+    ensures { OnOk result (Grows (W.contents out.old) (W.contents out.new)) }
+{
     for number in 1..PLAYERS_END {
-        if let Some(journal) = journal_of(journals, Player { number }) {
-            let (records, epochs) = (journal.tally.records, journal.tally.epochs);
-            let (now, confirmed) = (journal.first.ticks(), journal.first.confirmed());
-            writeln!(
-                out,
-                "player {number} records {records} epochs {epochs} now {now} confirmed {confirmed}"
-            )?;
-        }
+        write_player(number, journal_of(journals, Player { number }), out)?;
     }
     Ok(())
+}
+
+/// Writes the line of a player's journal, if it is given.
+fn write_player<W: Write>(number: u8, journal: Option<&Journal>, out: &mut W) -> io::Result<()>
+    ensures { OnOk result (Grows (W.contents out.old) (W.contents out.new)) }
+{
+    let Some(journal) = journal else {
+        return Ok(());
+    };
+    let (records, epochs) = (journal.tally.records, journal.tally.epochs);
+    let (now, confirmed) = (journal.first.ticks(), journal.first.confirmed());
+    writeln!(
+        out,
+        "player {number} records {records} epochs {epochs} now {now} confirmed {confirmed}"
+    )
+}
+
+/// Writes how many files keep no record, if there are any.
+fn write_empty<W: Write>(empty: usize, out: &mut W) -> io::Result<()>
+    ensures { OnOk result (Grows (W.contents out.old) (W.contents out.new)) }
+{
+    if empty == 0 {
+        return Ok(());
+    }
+    writeln!(out, "empty {empty}")
 }
 
 /// Writes a line for each player who was dropped.
 fn write_dropped<W: Write>(journals: &[Option<Journal>], out: &mut W) -> io::Result<()>
     requires { (rules : Rules) × AreOfGame rules (all_seen journals.now) }
+    ensures { OnOk result (Grows (W.contents out.old) (W.contents out.new)) }
 {
     for number in 1..PLAYERS_END {
-        let player = Player { number };
-        if is_dropped(journals, player) {
-            match cut_of(journals, player) {
-                Some(cut) => writeln!(out, "dropped {number} at {cut}")?,
-                None => writeln!(out, "dropped {number}")?,
-            }
-        }
+        write_drop(journals, Player { number }, out)?;
     }
     Ok(())
+}
+
+/// Writes the line of a player, if player 1 dropped it.
+fn write_drop<W: Write>(journals: &[Option<Journal>], player: Player, out: &mut W) -> io::Result<()>
+    requires { (rules : Rules) × AreOfGame rules (all_seen journals.now) }
+    ensures { OnOk result (Grows (W.contents out.old) (W.contents out.new)) }
+{
+    if !is_dropped(journals, player) {
+        return Ok(());
+    }
+    let number = player.number;
+    match cut_of(journals, player) {
+        Some(cut) => writeln!(out, "dropped {number} at {cut}"),
+        None => writeln!(out, "dropped {number}"),
+    }
 }
 
 /// Writes a line for each verdict.
@@ -164,10 +193,18 @@ fn write_result<W: Write>(
 ) -> io::Result<()>
     requires one { (one : Seen) × Stays (all_seen journals.now) 1 one }
     requires count { IsLeastCount (all_seen journals.now) count }
+    ensures { OnOk result (Grows (W.contents out.old) (W.contents out.new)) }
 {
     write!(out, "result {count} ")?;
-    for byte in digest_of(game, journals, count) {
+    write_hex(&digest_of(game, journals, count), out)?;
+    writeln!(out)
+}
+
+fn write_hex<W: Write>(bytes: &[u8], out: &mut W) -> io::Result<()>
+    ensures { OnOk result (Grows (W.contents out.old) (W.contents out.new)) }
+{
+    for byte in bytes {
         write!(out, "{byte:02x}")?;
     }
-    writeln!(out)
+    Ok(())
 }
