@@ -1,5 +1,5 @@
 -- The status of an outcome.
-use Rattle.std.proofs.Common.{◌≡◌, ◌⊎◌, inl, inr, List, ℕ, Option, Some, None, Result, Ok, Err, IfOk, refl, sym, ap, subst}
+use Rattle.std.proofs.Common.{◌≡◌, ◌⊎◌, inl, inr, List, ℕ, Option, Some, None, Result, Ok, Err, IfOk, refl, sym, ap, subst, ◌∙◌, ◌++◌}
 use Rattle.c8_command.specs.Status.{status_of, status_of_outcome}
 use Rattle.c8_command.specs.declared.status.Status.{Status}
 use Rattle.c8_game.specs.GameFaults.{IsRefused}
@@ -20,7 +20,10 @@ use Rattle.c8_audit.specs.declared.journal.Journal.{Journal}
 use Rattle.c8_audit.specs.declared.verdict.Verdicts.{Verdicts}
 use Rattle.c8_audit_command.specs.Audit.{first_no, fault_in, IsJudged, AreJudged, IsWithout, AreRefused, IsUnjudged, HasAudited}
 use Rattle.c8_audit_command.specs.Errors.{audit_part}
-use Rattle.c8_audit_command.specs.Printed.{Tells}
+use Rattle.c8_audit_command.specs.Printed.{entered_text, checks_text, agree_text, yes_text, Tells, TellsYes}
+use Rattle.c8_command.specs.declared.status.Status.TheVariants as statuses
+use Rattle.std.specs.Io.KnownBytes.{Appends}
+use Rattle.c8_audit_command.specs.declared.error.AuditFault.TheVariants as faults
 use Rattle.c8_audit_command.specs.declared.error.AuditFault.{AuditFault}
 use Rattle.c8_audit_command.specs.declared.error.AuditFault.TheVariants.{Game}
 
@@ -72,3 +75,28 @@ module _ (law : (rules : Rules) (files : List Twice) (journals : List (Option Jo
       let judged : AreJudged rules files tells.0 = record { journals = journals; gathered = gathered; one_match = one_match; judged = tells.1; story = story_of tells.0 tells.1 } in
       (tells.0, inl (text, rules, files, spells, judged), tells.2)
   told_judged text (Err error) spells tells = tt
+
+-- ---- done
+
+pub never_done : {E : Type 0} (P : Type 0) (told : Result Status E) (fault : AuditFault) → IfOk told (λ status. status ≡ status_of (audit_part fault)) → IfOk told (λ status. status ≡ statuses.Done → P)
+never_done P (Ok status) (faults.Game error) same = λ done. absurd (let no_way : statuses.Done ≡ statuses.Refused = sym done ∙ same in cc)
+never_done P (Ok status) (faults.Journal error) same = λ done. absurd (let no_way : statuses.Done ≡ statuses.Refused = sym done ∙ same in cc)
+never_done P (Ok status) faults.Entered same = λ done. absurd (let no_way : statuses.Done ≡ statuses.Refused = sym done ∙ same in cc)
+never_done P (Ok status) faults.Checks same = λ done. absurd (let no_way : statuses.Done ≡ statuses.Refused = sym done ∙ same in cc)
+never_done P (Ok status) faults.Disagree same = λ done. absurd (let no_way : statuses.Done ≡ statuses.Refused = sym done ∙ same in cc)
+never_done P (Ok status) (faults.Journals why) same = λ done. absurd (let no_way : statuses.Done ≡ statuses.Refused = sym done ∙ same in cc)
+never_done P (Ok status) (faults.Disk why) same = λ done. absurd (let no_way : statuses.Done ≡ statuses.Failed = sym done ∙ same in cc)
+never_done P (Err error) fault same = tt
+
+-- the lines of three yes
+yes_lines : (unentered : Option Fault) (untrue : Option Player) (difference : Option Fault) (count check : ℕ) → first_no unentered untrue difference ≡ None
+    → entered_text unentered ++ (checks_text untrue check ++ agree_text difference count) ≡ yes_text count
+yes_lines None None None count check is = refl
+yes_lines (Some fault) untrue difference count check is = absurd cc
+yes_lines None (Some player) difference count check is = absurd cc
+yes_lines None None (Some fault) count check is = absurd cc
+
+pub tells_yes : (old new : Option (List ℕ)) (verdicts : Verdicts) → fault_in verdicts ≡ None → Tells old new verdicts → TellsYes old new
+tells_yes old new verdicts none (before, check, after, appends) =
+    let same = yes_lines verdicts.unentered verdicts.untrue verdicts.difference verdicts.count check none in
+    (before, verdicts.count, after, subst (λ (text : List ℕ). Appends old new (before ++ (text ++ after))) same appends)

@@ -8,8 +8,10 @@ ghost use Rattle.c8_audit.specs.OneMatch.{AreOneMatch};
 ghost use Rattle.c8_audit.specs.Read.{all_seen};
 ghost use Rattle.c8_audit.specs.declared.verdict.Verdicts.{Verdicts};
 ghost use Rattle.c8_command.specs.Status.{status_of, status_of_outcome};
+ghost use Rattle.c8_command.specs.declared.status.Status.TheVariants as statuses;
 ghost use Rattle.c8_audit_command.specs.Audit.{IsJudged, AreRefused, HasAudited, IsFaultOf, IsWithout};
 ghost use Rattle.c8_audit_command.specs.Errors.{audit_part};
+ghost use Rattle.c8_audit_command.specs.Printed.{TellsYes};
 ghost use Rattle.c8_audit_command.specs.declared.error.AuditFault.{AuditFault};
 ghost use Rattle.c8_audit_command.specs.declared.error.AuditFault.TheVariants as faults;
 
@@ -46,7 +48,9 @@ pub fn audit_given<R: Files + AllocGlobal, W: Write, E: Write>(
     out: &mut W,
     refused: &mut E,
 ) -> io::Result<Status>
-    ensures { IfOk result HasAudited }
+    ensures audited { IfOk result HasAudited }
+    ensures printed { IfOk result (λ status. status ≡ statuses.Done
+        → TellsYes (W.contents out.old) (W.contents out.new)) }
 {
     let path = word_of(given, "GAME");
     let files = given.get_strs("JOURNAL").unwrap_or(&[]);
@@ -82,9 +86,11 @@ fn judge_all<W: Write, E: Write>(
 ) -> io::Result<Status>
     requires of_game { AreOfGame game.now (all_seen gathered.now.journals) }
     requires one { (one : Seen) × Stays (all_seen gathered.now.journals) 1 one }
-    ensures { IfOk result (λ status. (outcome : Result Verdicts AuditFault)
+    ensures judged { IfOk result (λ status. (outcome : Result Verdicts AuditFault)
         × IsJudged game.now (all_seen gathered.now.journals) outcome
         × (status ≡ status_of_outcome audit_part outcome)) }
+    ensures printed { IfOk result (λ status. status ≡ statuses.Done
+        → TellsYes (W.contents out.old) (W.contents out.new)) }
 {
     match write_audit(game, gathered, out)? {
         Some(fault) => fault.tell_at(explain.then_some(Site::Nowhere), refused),
