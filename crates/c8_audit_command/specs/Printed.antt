@@ -35,9 +35,10 @@ Grows old new = (text : List ℕ) × Appends old new text
 abbrev pub Tells : Option (List ℕ) → Option (List ℕ) → Verdicts → Type 0
 Tells old new verdicts = (before : List ℕ) × (check : ℕ) × (after : List ℕ) × Appends old new (before ++ (verdicts_text verdicts check ++ after))
 
--- the same of three verdicts that are yes
+-- the lines of three verdicts that are yes
 abbrev pub yes_text : ℕ → List ℕ
 yes_text count = codes "entered yes\n" ++ (codes "checks yes\n" ++ line (codes "agree yes " ∷ decimal count ∷ []))
 
+-- these lines are added, others before them, and perhaps one after them
 abbrev pub TellsYes : Option (List ℕ) → Option (List ℕ) → Type 0
 TellsYes old new = (before : List ℕ) × (count : ℕ) × (after : List ℕ) × Appends old new (before ++ (yes_text count ++ after))
