@@ -18,8 +18,10 @@ use Rattle.c8_audit.proofs.ReadingLemmas.{some_same}
 use Rattle.c8_audit.specs.Gathered.{with_file, seen_or, with_journal, IsGathered, AreGathered}
 use Rattle.c8_audit.specs.Images.{readings_of, names_player, if_of, only_in, or_else, evidence_in, IsReadTwice}
 use Rattle.c8_audit.specs.Journals.{Readings, Evidence, Seen, seen_of, IsGiven, dropped_by}
-use Rattle.c8_audit.specs.Read.{seen, seen_at, all_seen}
+use Rattle.c8_audit.specs.Read.{seen, seen_at, all_seen, named_at, all_named}
+use Rattle.c8_audit.specs.checked.Roster.{named_or}
 use Rattle.c8_audit.specs.declared.journal.Journal.{Journal}
+use Rattle.c8_audit.specs.declared.journal.Named.{Named}
 
 -- ---- lists
 
@@ -47,32 +49,113 @@ item_of X Y f xs i x within is = slice_get-map f xs i ∙ ap (option_map f) (sli
 
 -- ---- one more journal
 
-pub none_unless : (o : Option Seen) → ((s : Seen) × (o ≡ Some s) → ⊥) → o ≡ None
-none_unless None never = refl
-none_unless (Some s) never = absurd (never (s, refl))
+-- a view of the journal at a seat
+abbrev view_at : {X : Type 0} → (Journal → X) → Option (Option Journal) → Option X
+view_at view None = None
+view_at view (Some None) = None
+view_at view (Some (Some j)) = Some (view j)
 
-pub put_seen : (journals : List (Option Journal)) (place : ℕ) (j : Journal) → place + 1 ≡ j.first.me → place < length journals → all_seen journals j.first.me ≡ None
-    → (p : ℕ) → 1 ≤ p → all_seen (slice_set journals place (Some j)) p ≡ with_journal (all_seen journals) j p
-put_seen journals place j next within none p from =
+abbrev view_or : {X : Type 0} → Option X → Bool → X → Option X
+view_or (Some x) b y = Some x
+view_or None true y = Some y
+view_or None false y = None
+
+put_view : (X : Type 0) (view : Journal → X) (journals : List (Option Journal)) (place p : ℕ) (j : Journal) → place + 1 ≡ j.first.me → place < length journals → view_at view (slice_get journals place) ≡ None → 1 ≤ p
+    → view_at view (slice_get (slice_set journals place (Some j)) (p - 1)) ≡ view_or (view_at view (slice_get journals (p - 1))) (j.first.me == p) (view j)
+put_view X view journals place p j next within none from =
     elim (eqb_tells j.first.me p) [
       | inl yes_it ↦
           let same : j.first.me ≡ p = yes_it.1 in
           let at : p - 1 ≡ place = omega (arith, same, next) in
-          let now : all_seen (slice_set journals place (Some j)) p ≡ Some (seen j) = ap (λ (n : ℕ). seen_at (slice_get (slice_set journals place (Some j)) n)) at ∙ ap seen_at (set_here journals place (Some j) within) in
-          let before : all_seen journals p ≡ None = ap (all_seen journals) (sym same) ∙ none in
+          let now : view_at view (slice_get (slice_set journals place (Some j)) (p - 1)) ≡ Some (view j) = ap (λ (n : ℕ). view_at view (slice_get (slice_set journals place (Some j)) n)) at ∙ ap (view_at view) (set_here journals place (Some j) within) in
+          let before : view_at view (slice_get journals (p - 1)) ≡ None = ap (λ (n : ℕ). view_at view (slice_get journals n)) at ∙ none in
           let test : (j.first.me == p) ≡ true = yes_it.0 in
-          now ∙ sym (ap (λ (o : Option Seen). seen_or o (j.first.me == p) (seen j)) before ∙ ap (λ (b : Bool). seen_or None b (seen j)) test)
+          now ∙ sym (ap (λ (o : Option X). view_or o (j.first.me == p) (view j)) before ∙ ap (λ (b : Bool). view_or None b (view j)) test)
       | inr no_it ↦
           let apart : j.first.me ≢ p = no_it.1 in
           let other : p - 1 ≢ place = λ e. apart (omega (arith, e, next, from)) in
-          let now : all_seen (slice_set journals place (Some j)) p ≡ all_seen journals p = ap seen_at (set_there journals place (p - 1) (Some j) other) in
+          let now : view_at view (slice_get (slice_set journals place (Some j)) (p - 1)) ≡ view_at view (slice_get journals (p - 1)) = ap (view_at view) (set_there journals place (p - 1) (Some j) other) in
           let test : (j.first.me == p) ≡ false = no_it.0 in
-          now ∙ sym (ap (λ (b : Bool). seen_or (all_seen journals p) b (seen j)) test ∙ kept_same (all_seen journals p) (seen j))
+          now ∙ sym (ap (λ (b : Bool). view_or (view_at view (slice_get journals (p - 1))) b (view j)) test ∙ kept_same (view_at view (slice_get journals (p - 1))) (view j))
     ]
   where
-    kept_same : (o : Option Seen) (s : Seen) → seen_or o false s ≡ o
-    kept_same None s = refl
-    kept_same (Some t) s = refl
+    kept_same : (o : Option X) (x : X) → view_or o false x ≡ o
+    kept_same None x = refl
+    kept_same (Some y) x = refl
+
+-- a taken seat stays
+view_stays : (X : Type 0) (view : Journal → X) (journals : List (Option Journal)) (place p : ℕ) (j old : Journal) → place + 1 ≡ j.first.me → slice_get journals place ≡ Some (Some old) → 1 ≤ p
+    → view_at view (slice_get journals (p - 1)) ≡ view_or (view_at view (slice_get journals (p - 1))) (j.first.me == p) (view j)
+view_stays X view journals place p j old next taken from =
+    elim (eqb_tells j.first.me p) [
+      | inl yes_it ↦
+          let same = yes_it.1 in
+          let at : p - 1 ≡ place = omega (arith, same, next) in
+          let before : view_at view (slice_get journals (p - 1)) ≡ Some (view old) = ap (λ (n : ℕ). view_at view (slice_get journals n)) at ∙ ap (view_at view) taken in
+          before ∙ sym (ap (λ (o : Option X). view_or o (j.first.me == p) (view j)) before)
+      | inr no_it ↦ sym (ap (λ (b : Bool). view_or (view_at view (slice_get journals (p - 1))) b (view j)) no_it.0 ∙ kept_same (view_at view (slice_get journals (p - 1))) (view j))
+    ]
+  where
+    kept_same : (o : Option X) (x : X) → view_or o false x ≡ o
+    kept_same None x = refl
+    kept_same (Some y) x = refl
+
+-- ---- the two views of a seat
+
+free_view : (X : Type 0) (view : Journal → X) (o : Option (Option Journal)) → named_at o ≡ None → view_at view o ≡ None
+free_view X view None free = refl
+free_view X view (Some None) free = refl
+free_view X view (Some (Some j)) free = absurd cc
+
+taken_by : (o : Option (Option Journal)) (n : Named) → named_at o ≡ Some n → (old : Journal) × (o ≡ Some (Some old))
+taken_by None n is = absurd cc
+taken_by (Some None) n is = absurd cc
+taken_by (Some (Some j)) n is = (j, refl)
+
+as_seen : (o : Option (Option Journal)) → seen_at o ≡ view_at seen o
+as_seen None = refl
+as_seen (Some None) = refl
+as_seen (Some (Some j)) = refl
+
+as_named : (o : Option (Option Journal)) → named_at o ≡ view_at (λ j. j.named) o
+as_named None = refl
+as_named (Some None) = refl
+as_named (Some (Some j)) = refl
+
+as_seen_or : (o : Option Seen) (b : Bool) (s : Seen) → view_or o b s ≡ seen_or o b s
+as_seen_or (Some t) b s = refl
+as_seen_or None true s = refl
+as_seen_or None false s = refl
+
+as_named_or : (o : Option Named) (b : Bool) (n : Named) → view_or o b n ≡ named_or o b n
+as_named_or (Some t) b n = refl
+as_named_or None true n = refl
+as_named_or None false n = refl
+
+-- the journals after one was put at its seat, as both views show them
+pub record IsPut (before after : List (Option Journal)) (j : Journal) : Type 0 where
+  pub seen : (p : ℕ) → 1 ≤ p → all_seen after p ≡ with_journal (all_seen before) j p
+  pub named : (p : ℕ) → 1 ≤ p → all_named after p ≡ named_or (all_named before p) (j.first.me == p) j.named
+
+put_by : (before after : List (Option Journal)) (j : Journal)
+    → ((X : Type 0) (view : Journal → X) (p : ℕ) → 1 ≤ p → view_at view (slice_get after (p - 1)) ≡ view_or (view_at view (slice_get before (p - 1))) (j.first.me == p) (view j)) → IsPut before after j
+put_by before after j views = record {
+  seen = λ p from.
+      as_seen (slice_get after (p - 1)) ∙ views Seen seen p from ∙ ap (λ (o : Option Seen). view_or o (j.first.me == p) (seen j)) (sym (as_seen (slice_get before (p - 1))))
+      ∙ as_seen_or (all_seen before p) (j.first.me == p) (seen j);
+  named = λ p from.
+      as_named (slice_get after (p - 1)) ∙ views Named (λ j. j.named) p from ∙ ap (λ (o : Option Named). view_or o (j.first.me == p) j.named) (sym (as_named (slice_get before (p - 1))))
+      ∙ as_named_or (all_named before p) (j.first.me == p) j.named;
+}
+
+pub put_free : (journals : List (Option Journal)) (place : ℕ) (j : Journal) → place + 1 ≡ j.first.me → place < length journals → named_at (slice_get journals place) ≡ None → IsPut journals (slice_set journals place (Some j)) j
+put_free journals place j next within free =
+    put_by journals (slice_set journals place (Some j)) j (λ X view p from. put_view X view journals place p j next within (free_view X view (slice_get journals place) free) from)
+
+pub put_taken : (journals : List (Option Journal)) (place : ℕ) (j : Journal) (n : Named) → place + 1 ≡ j.first.me → named_at (slice_get journals place) ≡ Some n → IsPut journals journals j
+put_taken journals place j n next taken =
+    let old = taken_by (slice_get journals place) n taken in
+    put_by journals journals j (λ X view p from. view_stays X view journals place p j old.0 next old.1 from)
 
 -- ---- one more file
 

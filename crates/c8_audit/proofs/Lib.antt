@@ -14,3 +14,7 @@ pub mod AccusedLemmas
 pub mod YesLemmas
 pub mod ReadingLemmas
 pub mod FileLemmas
+pub mod RosterLemmas
+pub mod SortedLemmas
+pub mod StoryLemmas
+pub mod HonestFileLemmas

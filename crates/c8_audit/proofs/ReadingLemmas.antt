@@ -1,5 +1,5 @@
 -- The records that two readings of a file keep.
-use Rattle.std.proofs.Common.{◌≡◌, ℕ, suc, ◌<◌, ◌≤◌, List, [], ◌∷◌, length, true, Option, Some, None, refl, sym, ap, subst, ◌∙◌, arith, eq-eqb}
+use Rattle.std.proofs.Common.{◌≡◌, ℕ, suc, ◌<◌, ◌≤◌, List, [], ◌∷◌, length, true, Option, Some, None, refl, sym, ap, subst, ◌∙◌, arith, eq-eqb, inr}
 use Rattle.std.specs.List.{slice_get}
 use Rattle.std.proofs.lemmas.List.{append-nil, map-append}
 use Rattle.c8_game.specs.Rules.{Rules, id_of}
@@ -14,9 +14,11 @@ use Rattle.c8_known.specs.Known.{KnownValue, known_of, IsKnown, IsOfGame}
 use Rattle.c8_record.specs.Allowed.{IsJournal}
 use Rattle.c8_image.specs.Journal.{IsKept}
 use Rattle.c8_log.specs.Slots.{kept}
-use Rattle.c8_audit.specs.Images.{names_player, readings_of, IsReadTwice}
+use Rattle.c8_audit.specs.Images.{names_player, readings_of, IsReadTwice, IsUnread, IsUnreadLater}
 use Rattle.c8_audit.specs.Read.{later_of, IsLater}
 use Rattle.c8_audit.specs.Journals.{Seen, seen_of}
+use Rattle.c8_audit.specs.declared.error.Unread.{Unread}
+use Rattle.c8_audit.specs.declared.error.Unread.TheVariants.{Journal, Changed}
 
 pub some_same : {X : Type 0} (x y : X) → Some x ≡ Some y → x ≡ y
 some_same x y same = cc
@@ -88,3 +90,8 @@ seen_is rules first later room one (Some two) checks is (again, begins) =
     let mine : again.me ≡ one.me = same_owner (kept first) (kept later) one.me again.me (id_of rules) (id_of rules) room again.room begins is.head again.head in
     let late : two ≡ known_of rules one.me (records_of (kept later)) = again.known_is ∙ ap (λ (p : ℕ). known_of rules p (records_of (kept later))) mine in
     λ i. record { first = is.known_is i; later = late i; last = (is.checks_is i).last }
+
+-- a second reading that is refused, in the room of the first
+pub unread_again : (rules : Rules) (first later : List ℕ) (player room : ℕ) (why : Unread) → BeginsWithHead (kept first) player (id_of rules) room → IsUnreadLater rules room first later why → IsUnread rules first later why
+unread_again rules first later player room (Journal error) head is = inr (player, room, head, is)
+unread_again rules first later player room Changed head is = (player, room, head, is)

@@ -1,14 +1,17 @@
 -- The journals of a match, file by file.
-use Rattle.std.specs.Prelude.{◌≡◌, ℕ, ◌≤◌, ◌==◌, List, Bool, true, false, Option, Some, None}
+use Rattle.std.specs.Prelude.{◌≡◌, ℕ, ◌≤◌, ◌==◌, List, length, Bool, true, false, Option, Some, None}
 use Rattle.std.specs.List.{slice_get}
 use Rattle.c8_game.specs.Rules.{Rules}
 use Rattle.c8_audit.specs.Images.{first_bytes, later_bytes, only_in, or_else, IsReadTwice, IsUnread}
 use Rattle.c8_audit.specs.Journals.{Readings, Evidence, AllSeen, Seen, seen_in, AreOfGame, Stays}
+use Rattle.c8_audit.specs.OneMatch.{IsMismatch, keeps_nothing, AreSoundBelow}
 use Rattle.c8_audit.specs.Read.{seen, all_seen}
 use Rattle.c8_audit.specs.declared.error.GatherError.{GatherError}
 use Rattle.c8_audit.specs.declared.error.GatherError.TheVariants.{File, Journals}
 use Rattle.c8_audit.specs.declared.files.Twice.{Twice}
+use Rattle.c8_audit.specs.declared.error.Unread.TheVariants as unread
 use Rattle.c8_audit.specs.declared.journal.Journal.{Journal}
+use Rattle.c8_image.specs.declared.error.JournalError.TheVariants as errors
 
 -- the readings with one more file
 abbrev pub with_file : Evidence → List ℕ → List ℕ → Evidence
@@ -34,7 +37,13 @@ pub record AreGathered (rules : Rules) (e : Evidence) (journals : List (Option J
   pub of_game : AreOfGame rules (all_seen journals)
   pub one : (s : Seen) × Stays (all_seen journals) 1 s
 
--- why the journals cannot be judged
+-- Why the journals cannot be judged: the first file at fault, which keeps a record; or, if none is, a mismatch.
 abbrev pub IsNotGathered : Rules → List Twice → GatherError → Type 0
-IsNotGathered rules files (File place why) = (file : Twice) × (slice_get files place ≡ Some file) × IsUnread rules (first_bytes file) (later_bytes file) why
-IsNotGathered rules files Journals = Unit {0}
+IsNotGathered rules files (File place why) =
+    AreSoundBelow rules files place × (file : Twice) × (slice_get files place ≡ Some file) × (keeps_nothing file ≡ false) × IsUnread rules (first_bytes file) (later_bytes file) why
+IsNotGathered rules files (Journals why) = AreSoundBelow rules files (length files) × IsMismatch rules files why
+
+-- memory ran out while a file was read
+abbrev pub IsOutOfMemory : GatherError → Type 0
+IsOutOfMemory (File place why) = why ≡ unread.Journal errors.Memory
+IsOutOfMemory (Journals why) = ⊥

@@ -1,11 +1,17 @@
 -- The readings of an honest match's journals, and readings that are journals of a world.
-use Rattle.std.specs.Prelude.{◌≡◌, ℕ, List, Bool, Some}
+use Rattle.std.specs.Prelude.{◌≡◌, ℕ, List, Bool, false, Some, map}
+use Rattle.std.specs.List.{slice_get}
 use Rattle.c8_game.specs.Rules.{Rules}
 use Rattle.c8_known.specs.Growth.{Begins}
 use Rattle.c8_peer.specs.Opening.{found}
 use Rattle.c8_world.specs.World.{World, Event, Answer, Chain, IsReached, peer_of, journal_of}
 use Rattle.c8_world.specs.Agreement.{IsPlayer}
+use Rattle.c8_log.specs.Slots.{kept}
+use Rattle.c8_record.specs.Body.{body_of}
+use Rattle.c8_audit.specs.Images.{first_bytes, later_bytes}
 use Rattle.c8_audit.specs.Journals.{Readings, Evidence}
+use Rattle.c8_audit.specs.OneMatch.{keeps_nothing}
+use Rattle.c8_audit.specs.declared.files.Twice.{Twice}
 
 -- A player's journal was read twice. The world `between` is a moment of the match between the two readings; any events
 -- may happen between it and each reading. Each reading finds the pending record or not. The second reading begins with
@@ -33,6 +39,27 @@ pub record IsHonest (rules : Rules) (room : ℕ) (e : Evidence) : Type 0 where
   pub one_given : e 1 ≡ Some one
   pub players : (p : ℕ) (r : Readings) → e p ≡ Some r → IsPlayer rules p
   pub read : (p : ℕ) (r : Readings) → e p ≡ Some r → WasReadTwice rules room between p r
+
+-- The file is that of player p, read twice: by each reading its bytes keep the spellings of the records that a read of
+-- the player's disk finds.
+pub record IsFileOf (rules : Rules) (room : ℕ) (between : World) (p : ℕ) (file : Twice) : Type 0 where
+  pub plays : IsPlayer rules p
+  pub readings : Readings
+  pub read : WasReadTwice rules room between p readings
+  pub first_is : kept (first_bytes file) ≡ map body_of readings.first
+  pub later_is : kept (later_bytes file) ≡ map body_of readings.later
+
+-- The files are those of peers of one match, one file a player. Player 1's is among them, and keeps a record.
+pub record AreHonestFiles (rules : Rules) (room : ℕ) (files : List Twice) : Type 0 where
+  pub between : World
+  pub owner : ℕ → ℕ
+  pub each : (n : ℕ) (file : Twice) → slice_get files n ≡ Some file → IsFileOf rules room between (owner n) file
+  pub apart : (m n : ℕ) (a b : Twice) → slice_get files m ≡ Some a → slice_get files n ≡ Some b → owner m ≡ owner n → m ≡ n
+  pub one : ℕ
+  pub one_file : Twice
+  pub one_given : slice_get files one ≡ Some one_file
+  pub one_owner : owner one ≡ 1
+  pub one_keeps : keeps_nothing one_file ≡ false
 
 -- The first readings are the journals of one world, the second ones those of another.
 pub record AreOfWorlds (rules : Rules) (e : Evidence) (earlier later : World) : Type 0 where

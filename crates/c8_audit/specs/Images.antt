@@ -1,12 +1,13 @@
 -- The journals that files keep, by the bytes of two readings of each file.
-use Rattle.std.specs.Prelude.{◌⊎◌, ℕ, ◌≤◌, ◌==◌, List, [], ◌∷◌, Bool, true, false, Option, Some, None, Vec}
+use Rattle.std.specs.Prelude.{◌⊎◌, ℕ, ◌≤◌, ◌==◌, List, [], ◌∷◌, Bool, true, false, Option, Some, None, Vec, map}
 use Rattle.std.specs.Global.{Global}
-use Rattle.c8_game.specs.Rules.{Rules}
+use Rattle.c8_game.specs.Rules.{Rules, id_of}
 use Rattle.c8_known.specs.Growth.{Begins}
 use Rattle.c8_known.specs.Journal.{Record, player_of}
 use Rattle.c8_log.specs.Slots.{kept}
 use Rattle.c8_record.specs.Allowed.{IsJournal}
 use Rattle.c8_record.specs.Body.{records_of}
+use Rattle.c8_record.specs.Replay.{BeginsWithHead}
 use Rattle.c8_image.specs.Journal.{IsRefusalOfJournal}
 use Rattle.c8_audit.specs.Journals.{Readings, Evidence}
 use Rattle.c8_audit.specs.declared.files.Twice.{Twice}
@@ -52,6 +53,10 @@ evidence_in [] laters p = None
 evidence_in (first ∷ firsts) [] p = None
 evidence_in (first ∷ firsts) (later ∷ laters) p = or_else (only_in first later p) (evidence_in firsts laters p)
 
+-- the readings that files keep, by player
+abbrev pub evidence_of : List Twice → Evidence
+evidence_of files = evidence_in (map first_bytes files) (map later_bytes files)
+
 -- Both readings are journals of the player in the room, and the second one begins with the first.
 pub record IsReadTwice (rules : Rules) (room p : ℕ) (r : Readings) : Type 0 where
   pub from_one : 1 ≤ p
@@ -60,7 +65,16 @@ pub record IsReadTwice (rules : Rules) (room p : ℕ) (r : Readings) : Type 0 wh
   pub later_is : IsJournal rules p room r.later
   pub continues : Begins r.first r.later
 
--- why a file is at fault: a reading is refused, or the second one does not begin with the first
+-- why the second reading is refused: it is no journal of this room, or it does not begin with the first
+abbrev pub IsUnreadLater : Rules → ℕ → List ℕ → List ℕ → Unread → Type 0
+IsUnreadLater rules room first later (Journal error) = IsRefusalOfJournal rules (Some room) (kept later) error
+IsUnreadLater rules room first later Changed = Begins (kept first) (kept later) → ⊥
+
+abbrev pub IsUnreadAgain : Rules → List ℕ → List ℕ → Unread → Type 0
+IsUnreadAgain rules first later why = (player room : ℕ) × BeginsWithHead (kept first) player (id_of rules) room × IsUnreadLater rules room first later why
+
+-- why a file is at fault: the first reading is refused; or it is not, and the second one is refused, in the room that the
+-- first one names
 abbrev pub IsUnread : Rules → List ℕ → List ℕ → Unread → Type 0
-IsUnread rules first later (Journal error) = IsRefusalOfJournal rules None (kept first) error ⊎ ((room : ℕ) × IsRefusalOfJournal rules (Some room) (kept later) error)
-IsUnread rules first later Changed = Begins (kept first) (kept later) → ⊥
+IsUnread rules first later (Journal error) = IsRefusalOfJournal rules None (kept first) error ⊎ IsUnreadAgain rules first later (Journal error)
+IsUnread rules first later Changed = IsUnreadAgain rules first later Changed

@@ -8,4 +8,6 @@ pub mod Marked
 pub mod Counts
 pub mod Images
 pub mod Gathered
+pub mod OneMatch
+pub mod Judged
 pub mod checked

@@ -9,6 +9,7 @@ use Rattle.c8_known.specs.Known.{KnownValue}
 use Rattle.c8_log.specs.Slots.{kept}
 use Rattle.c8_audit.specs.Journals.{Seen, AllSeen}
 use Rattle.c8_audit.specs.declared.journal.Journal.{Journal}
+use Rattle.c8_audit.specs.declared.journal.Named.{Named}
 
 -- the second reading of a file makes known what the first one does, if it is None
 abbrev pub later_of : KnownValue → Option KnownValue → KnownValue
@@ -31,3 +32,12 @@ seen_at (Some (Some j)) = Some (seen j)
 -- player 1's journal is at place 0
 abbrev pub all_seen : List (Option Journal) → AllSeen
 all_seen journals p = seen_at (slice_get journals (p - 1))
+
+abbrev pub named_at : Option (Option Journal) → Option Named
+named_at None = None
+named_at (Some None) = None
+named_at (Some (Some j)) = Some j.named
+
+-- the file of a player's journal, and what its HEAD names
+abbrev pub all_named : List (Option Journal) → ℕ → Option Named
+all_named journals p = named_at (slice_get journals (p - 1))

@@ -1,14 +1,17 @@
 //! Reads the journals of a match from two readings of each file.
 
-ghost use Rattle.std.specs.Prelude.{◌≡◌, ◌≤◌, ◌↔◌, ℕ, map, Some, true, IfOk, IfErr, OnOk};
-ghost use Rattle.c8_audit.specs.Gathered.{IsGathered, AreGathered, IsNotGathered, with_file, with_journal};
-ghost use Rattle.c8_audit.specs.Images.{first_bytes, later_bytes, evidence_in, IsUnread};
-ghost use Rattle.c8_audit.specs.Journals.{Evidence, Seen};
-ghost use Rattle.c8_audit.specs.Read.{all_seen};
+ghost use Rattle.std.specs.Prelude.{◌≡◌, ◌<◌, ◌≤◌, ◌^◌, ◌+◌, ◌==◌, ℕ, List, length, Some, None, false, IfOk, IfErr, OnOk, IfSome, IfNone};
+ghost use Rattle.std.specs.List.{slice_get, count_by};
+ghost use Rattle.c8_game.specs.Rules.{Rules};
+ghost use Rattle.c8_audit.specs.Gathered.{AreGathered, IsNotGathered, with_journal};
+ghost use Rattle.c8_audit.specs.Images.{first_bytes, later_bytes, evidence_of, IsUnread};
+ghost use Rattle.c8_audit.specs.OneMatch.{AreOneMatch, IsMismatch, keeps_nothing};
+ghost use Rattle.c8_audit.specs.Read.{all_seen, all_named};
+ghost use Rattle.c8_audit.specs.checked.Roster.{IsSorted, named_or, clash_of, earlier_mismatch};
 
-use crate::error::{GatherError, Unread};
-use crate::journal::{Journal, journal_of};
-use crate::reading::{Reading, read_twice};
+use crate::error::{GatherError, Mismatch, Unread};
+use crate::journal::{Journal, Named, named_of};
+use crate::reading::read_twice;
 use c8_game::{Game, MOST_PLAYERS, Player};
 use c8_log::kept_len;
 use std::alloc::Global;
@@ -39,18 +42,20 @@ pub struct Gathered {
     pub journals: [Option<Journal>; MOST_PLAYERS],
     /// How many files keep no record, because their players never began.
     pub empty: usize,
-    /// The room of the first journal.
-    room: Option<u64>,
-    /// Whether two journals are of the same player, or of different rooms.
-    is_mixed: bool,
+    /// The first file that keeps a journal.
+    first: Option<Named>,
+    /// The first mismatch that was found.
+    mismatch: Option<Mismatch>,
 }
 
 /// Reads the journals from the bytes of files. A file without a record is skipped. The first faulty file gives the error
 /// `File`, with its place. If no file is at fault, the error is `Journals` if two journals are of one player or of
-/// different rooms, or if player 1's is missing.
+/// different rooms, or if player 1's is missing. It names the first file that does not belong to an earlier one.
 pub fn gather(alloc: Global, game: &Game, files: &[Twice]) -> Result<Gathered, GatherError>
     ensures gathered { IfOk result (λ gathered. AreGathered game.now
-        (evidence_in (map first_bytes files.now) (map later_bytes files.now)) gathered.journals) }
+        (evidence_of files.now) gathered.journals) }
+    ensures one_match { IfOk result (λ gathered. AreOneMatch game.now files.now) }
+    ensures empty { IfOk result (λ gathered. gathered.empty ≡ count_by keeps_nothing files.now) }
     ensures refused { IfErr result (λ error. IsNotGathered game.now files.now error) }
 {
     // For the proof: a game has at most four players.
@@ -58,58 +63,93 @@ pub fn gather(alloc: Global, game: &Game, files: &[Twice]) -> Result<Gathered, G
     let mut gathered = Gathered {
         journals: [None, None, None, None],
         empty: 0,
-        room: None,
-        is_mixed: false,
+        first: None,
+        mismatch: None,
     };
     for place in 0..files.len() {
-        match gathered.add(alloc, game, &files[place]) {
+        match gathered.add(alloc, game, place, &files[place]) {
             Ok(()) => {}
             Err(why) => return Err(GatherError::File(place, why)),
         }
     }
-    if gathered.is_mixed || !is_given(&gathered.journals, Player::CHAIR) {
-        return Err(GatherError::Journals);
+    match gathered.mismatch() {
+        Some(why) => Err(GatherError::Journals(why)),
+        None => Ok(gathered),
     }
-    Ok(gathered)
-}
-
-/// Returns whether a player's journal is given.
-fn is_given(journals: &[Option<Journal>], player: Player) -> bool
-    ensures { (result ≡ true) ↔ ((s : Seen) × (all_seen journals.now player.number ≡ Some s)) }
-{
-    journal_of(journals, player).is_some()
 }
 
 impl Gathered {
-    /// Reads the journal of one more file.
-    fn add(&mut self, alloc: Global, game: &Game, file: &Twice) -> Result<(), Unread>
+    /// Reads the journal of the next file, which has this number.
+    fn add(&mut self, alloc: Global, game: &Game, place: usize, file: &Twice) -> Result<(), Unread>
         ensures unread { IfErr result (λ why. IsUnread game.now (first_bytes file.now) (later_bytes file.now) why) }
-        ensures gathered { OnOk result ((e : Evidence) → IsGathered game.now e self.old.journals
-            → IsGathered game.now (with_file e (first_bytes file.now) (later_bytes file.now)) self.new.journals) }
+        ensures some { IfErr result (λ _. keeps_nothing file.now ≡ false) }
+        ensures sorted { OnOk result ((files : List Twice) → slice_get files place ≡ Some file.now
+            → length files < 2 ^ 64 → IsSorted game.now files place self.old
+            → IsSorted game.now files (place + 1) self.new) }
     {
         if kept_len(&file.first) == 0 {
             self.empty = self.empty.saturating_add(1);
             return Ok(());
         }
-        let Reading { room, journal } = read_twice(alloc, game, file)?;
-        self.is_mixed |= self.room.is_some_and(|other| other != room);
-        self.room = Some(room);
-        if !put(&mut self.journals, journal) {
-            self.is_mixed = true;
-        }
+        let journal = read_twice(alloc, game, place, file)?;
+        let named = journal.named;
+        let same = named_of(&self.journals, named.player);
+        self.mismatch = earlier(self.mismatch, clash(self.first, same, named));
+        self.first = Some(self.first.unwrap_or(named));
+        put(&mut self.journals, journal);
         Ok(())
+    }
+
+    /// Returns why the files do not keep the journals of one match, if they do not.
+    fn mismatch(&self) -> Option<Mismatch>
+        ensures some { IfSome result (λ why. (rules : Rules) (files : List Twice)
+            → IsSorted rules files (length files) self.now → IsMismatch rules files why) }
+        ensures none { IfNone result ((self.now.mismatch ≡ None)
+            × ((one : Named) × (all_named self.now.journals 1 ≡ Some one))) }
+    {
+        match (self.mismatch, named_of(&self.journals, Player::CHAIR)) {
+            (Some(why), _) => Some(why),
+            (None, None) => Some(Mismatch::NoPlayerOne),
+            (None, Some(_)) => None,
+        }
     }
 }
 
-/// Puts a journal at its player's place, and returns whether the place was free. A taken place does not change.
-fn put(journals: &mut [Option<Journal>; MOST_PLAYERS], journal: Journal) -> bool
-    ensures { (p : ℕ) → 1 ≤ p
-        → all_seen journals.new p ≡ with_journal (all_seen journals.old) journal p }
+/// Returns the mismatch that was found first.
+fn earlier(found: Option<Mismatch>, next: Option<Mismatch>) -> Option<Mismatch>
+    ensures { result ≡ earlier_mismatch found next }
 {
-    let player = journal.first.me();
-    if is_given(&*journals, player) {
-        return false;
+    match found {
+        Some(why) => Some(why),
+        None => next,
+    }
+}
+
+/// Returns why a file does not belong to the first file with a journal, or to the one of its player.
+fn clash(first: Option<Named>, same: Option<Named>, named: Named) -> Option<Mismatch>
+    ensures { result ≡ clash_of first same named }
+{
+    match first {
+        Some(one) if one.room != named.room => Some(Mismatch::TwoRooms(one, named)),
+        _ => match same {
+            Some(other) => Some(Mismatch::SamePlayer(other, named)),
+            None => None,
+        },
+    }
+}
+
+/// Puts a journal at its player's place. A taken place does not change.
+fn put(journals: &mut [Option<Journal>; MOST_PLAYERS], journal: Journal)
+    requires { journal.named.player.number ≡ journal.first.me }
+    ensures seen { (p : ℕ) → 1 ≤ p
+        → all_seen journals.new p ≡ with_journal (all_seen journals.old) journal p }
+    ensures named { (p : ℕ) → 1 ≤ p
+        → all_named journals.new p
+        ≡ named_or (all_named journals.old p) (journal.first.me == p) journal.named }
+{
+    let player = journal.named.player;
+    if named_of(&*journals, player).is_some() {
+        return;
     }
     journals[player.place()] = Some(journal);
-    true
 }

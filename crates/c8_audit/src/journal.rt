@@ -1,16 +1,27 @@
 //! The journals of a match, as an audit reads them.
 
 ghost use Rattle.std.specs.Prelude.{◌≡◌, option_map};
-ghost use Rattle.c8_audit.specs.Read.{later_of, seen, all_seen};
+ghost use Rattle.c8_audit.specs.Read.{later_of, seen, all_seen, all_named};
 
 use crate::tallies::Tally;
 use c8_check::Checks;
 use c8_game::Player;
 use c8_known::Known;
 
+/// A file that keeps a journal, and what the journal's HEAD names.
+#[derive(Clone, Copy, Debug, PartialEq, Eq)]
+pub struct Named {
+    /// The number of the file, counted from 0.
+    pub place: usize,
+    pub player: Player,
+    pub room: u64,
+}
+
 /// A player's journal, by two readings of its file.
 #[derive(Drop)]
 pub struct Journal {
+    /// Its file, player and room.
+    pub named: Named,
     /// What the first reading makes known.
     pub first: Known,
     /// What the first reading says of checkpoints.
@@ -39,6 +50,16 @@ pub fn journal_of(journals: &[Option<Journal>], player: Player) -> Option<&Journ
 {
     match journals.get(player.place()) {
         Some(Some(journal)) => Some(journal),
+        _ => None,
+    }
+}
+
+/// Returns the file, the player and the room of a player's journal, if it is given.
+pub(crate) fn named_of(journals: &[Option<Journal>], player: Player) -> Option<Named>
+    ensures { result ≡ all_named journals.now player.number }
+{
+    match journals.get(player.place()) {
+        Some(Some(journal)) => Some(journal.named),
         _ => None,
     }
 }

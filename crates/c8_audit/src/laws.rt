@@ -1,5 +1,5 @@
 //! What the verdicts of an audit mean. Each law is the contract of a function that calls only laws of the crates below.
-ghost use Rattle.std.specs.Prelude.{◌≡◌, ℕ, ◌^◌, ◌<◌, Some};
+ghost use Rattle.std.specs.Prelude.{◌≡◌, ℕ, ◌^◌, ◌<◌, List, Option, Some};
 ghost use Rattle.c8_game.specs.Rules.{Rules, AreInRange};
 ghost use Rattle.c8_known.specs.Known.{player_in};
 ghost use Rattle.c8_known.specs.Confirmed.{confirmed, input_of, rows_below};
@@ -8,8 +8,16 @@ ghost use Rattle.c8_peer.specs.TrueChecks.{HasTrueLast};
 ghost use Rattle.c8_world.specs.World.{World, journal_of, known_by};
 ghost use Rattle.c8_world.specs.Agreement.{IsUndropped, AgreeUpTo, IsEntered};
 ghost use Rattle.c8_audit.specs.Journals.{Readings, Evidence, Seen, AllSeen, seen_in, Stays};
-ghost use Rattle.c8_audit.specs.Honest.{IsHonest, AreOfWorlds};
+ghost use Rattle.c8_audit.specs.Honest.{IsHonest, AreOfWorlds, AreHonestFiles};
 ghost use Rattle.c8_audit.specs.Verdicts.{AreEntered, AreTrue, AreAgreed, IsLeastCount};
+ghost use Rattle.c8_audit.specs.Gathered.{AreGathered, IsNotGathered, IsOutOfMemory};
+ghost use Rattle.c8_audit.specs.Images.{evidence_of};
+ghost use Rattle.c8_audit.specs.Judged.{AreVerdicts, AreYes, AlwaysTellOneStory};
+ghost use Rattle.c8_audit.specs.Read.{all_seen};
+ghost use Rattle.c8_audit.specs.declared.error.GatherError.{GatherError};
+ghost use Rattle.c8_audit.specs.declared.files.Twice.{Twice};
+ghost use Rattle.c8_audit.specs.declared.journal.Journal.{Journal};
+ghost use Rattle.c8_audit.specs.declared.verdict.Verdicts.{Verdicts};
 
 use crate::below::worlds_are_lawful;
 
@@ -40,6 +48,15 @@ pub fn a_yes_means_agreement()
         → rows_below a.first N ≡ rows_below b.first N }
 {}
 
+/// Three yes over files mean agreement, whoever wrote them: from the bytes of the files to all worlds whose journals the
+/// files keep. It joins what `gather` and `judge` promise to [`a_yes_means_agreement`].
+pub fn a_yes_of_files_means_agreement()
+    ensures { (rules : Rules) (files : List Twice) (journals : List (Option Journal)) (verdicts : Verdicts)
+        → AreGathered rules (evidence_of files) journals
+        → AreVerdicts rules (all_seen journals) verdicts → AreYes verdicts
+        → AlwaysTellOneStory rules (evidence_of files) }
+{}
+
 /// An honest match is never accused, whichever journals are given beside player 1's. They may be read at any moments,
 /// if all first readings come before all second ones, and each second reading begins with the first (`IsHonest`).
 ///
@@ -58,6 +75,23 @@ pub fn an_honest_match_is_never_accused()
     ensures journals { (rules : Rules) (room : ℕ) (e : Evidence) → AreInRange rules
         → room < 2 ^ 64 → IsHonest rules room e → (p : ℕ) (r : Readings) → e p ≡ Some r
         → IsJournal rules p room r.first × IsJournal rules p room r.later }
+{
+    worlds_are_lawful();
+}
+
+/// The files of an honest match are never accused: the step from their bytes to [`an_honest_match_is_never_accused`]. Each
+/// reading of a file keeps what a read of its player's disk finds at some moment (`AreHonestFiles`).
+///
+/// - `gathered`: `gather` refuses them only if memory runs out.
+/// - `yes`: if it does not, each verdict of `judge` is yes.
+pub fn honest_files_are_never_accused()
+    ensures gathered { (rules : Rules) (room : ℕ) (files : List Twice) (error : GatherError)
+        → AreInRange rules → room < 2 ^ 64 → AreHonestFiles rules room files
+        → IsNotGathered rules files error → IsOutOfMemory error }
+    ensures yes { (rules : Rules) (room : ℕ) (files : List Twice) (journals : List (Option Journal))
+        (verdicts : Verdicts) → AreInRange rules → room < 2 ^ 64 → AreHonestFiles rules room files
+        → AreGathered rules (evidence_of files) journals
+        → AreVerdicts rules (all_seen journals) verdicts → AreYes verdicts }
 {
     worlds_are_lawful();
 }

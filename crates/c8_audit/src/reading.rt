@@ -2,14 +2,16 @@
 
 ghost use Rattle.std.specs.Prelude.{◌≡◌, ◌↔◌, true, IfOk, IfErr};
 ghost use Rattle.c8_known.specs.Growth.{Begins};
+ghost use Rattle.c8_game.specs.Rules.{id_of};
 ghost use Rattle.c8_log.specs.Slots.{kept};
-ghost use Rattle.c8_audit.specs.Images.{first_bytes, later_bytes, IsReadTwice, names_player, readings_of, IsUnread};
+ghost use Rattle.c8_record.specs.Replay.{BeginsWithHead};
+ghost use Rattle.c8_audit.specs.Images.{first_bytes, later_bytes, IsReadTwice, names_player, readings_of, IsUnread, IsUnreadLater};
 ghost use Rattle.c8_audit.specs.Journals.{seen_of};
 ghost use Rattle.c8_audit.specs.Read.{seen, IsLater};
 
 use crate::error::Unread;
 use crate::files::Twice;
-use crate::journal::Journal;
+use crate::journal::{Journal, Named};
 use crate::tallies::{Tally, tally_of};
 use c8_check::Checks;
 use c8_game::Game;
@@ -18,23 +20,25 @@ use c8_known::Known;
 use c8_log::{BODY_LENGTH, kept_body, kept_len};
 use std::alloc::Global;
 
-/// A journal, and the room that its HEAD names.
-#[derive(Drop)]
-pub(crate) struct Reading {
-    pub(crate) room: u64,
-    pub(crate) journal: Journal,
-}
-
-/// Reads a journal from two readings of its file. Errors are checked in this order: the first reading is refused, the
-/// second one is refused, `Changed`.
-pub(crate) fn read_twice(alloc: Global, game: &Game, file: &Twice) -> Result<Reading, Unread>
-    ensures read { IfOk result (λ reading. IsReadTwice game.now reading.room
-        reading.journal.first.me (readings_of (first_bytes file.now) (later_bytes file.now))) }
-    ensures seen { IfOk result (λ reading. seen reading.journal
-        ≡ seen_of game.now reading.journal.first.me
+/// Reads a journal from two readings of the file with a number. Errors are checked in this order: the first reading is
+/// refused, the second one is refused, `Changed`.
+pub(crate) fn read_twice(
+    alloc: Global,
+    game: &Game,
+    place: usize,
+    file: &Twice,
+) -> Result<Journal, Unread>
+    ensures read { IfOk result (λ journal. IsReadTwice game.now journal.named.room
+        journal.first.me (readings_of (first_bytes file.now) (later_bytes file.now))) }
+    ensures seen { IfOk result (λ journal. seen journal
+        ≡ seen_of game.now journal.first.me
         (readings_of (first_bytes file.now) (later_bytes file.now))) }
-    ensures named { IfOk result (λ reading. names_player reading.journal.first.me
+    ensures named { IfOk result (λ journal. names_player journal.first.me
         (readings_of (first_bytes file.now) (later_bytes file.now)).first ≡ true) }
+    ensures head { IfOk result (λ journal. BeginsWithHead (kept (first_bytes file.now))
+        journal.named.player.number (id_of game.now) journal.named.room) }
+    ensures place { IfOk result (λ journal. journal.named.place ≡ place) }
+    ensures player { IfOk result (λ journal. journal.named.player.number ≡ journal.first.me) }
     ensures unread { IfErr result
         (λ error. IsUnread game.now (first_bytes file.now) (later_bytes file.now) error) }
 {
@@ -42,22 +46,29 @@ pub(crate) fn read_twice(alloc: Global, game: &Game, file: &Twice) -> Result<Rea
         Ok(one) => one,
         Err(error) => return Err(Unread::Journal(error)),
     };
-    let later = known_later(alloc, game, one.room, file)?;
-    // For the proof: the knowledge is sound.
-    let _me = one.known.me();
+    let later = match known_later(alloc, game, one.room, file) {
+        Ok(later) => later,
+        Err(why) => return Err(why),
+    };
+    let player = one.known.me();
     let KeptJournal {
         room,
         known,
         checks,
     } = one;
-    Ok(joined(room, known, checks, later, tally_of(&file.first)))
+    let named = Named {
+        place,
+        player,
+        room,
+    };
+    Ok(joined(named, known, checks, later, tally_of(&file.first)))
 }
 
 /// Reads what the second reading makes known. Returns `None` if it found the same bytes as the first.
 fn known_later(alloc: Global, game: &Game, room: u64, file: &Twice) -> Result<Option<Known>, Unread>
     ensures later { IfOk result (λ known. IsLater game.now room (first_bytes file.now) (later_bytes file.now) known) }
     ensures unread { IfErr result
-        (λ error. IsUnread game.now (first_bytes file.now) (later_bytes file.now) error) }
+        (λ error. IsUnreadLater game.now room (first_bytes file.now) (later_bytes file.now) error) }
 {
     let Some(later) = &file.later else {
         return Ok(None);
@@ -73,20 +84,20 @@ fn known_later(alloc: Global, game: &Game, room: u64, file: &Twice) -> Result<Op
 }
 
 /// Joins what two readings of a journal say.
-fn joined(room: u64, first: Known, checks: Checks, later: Option<Known>, tally: Tally) -> Reading
-    ensures room { result.room ≡ room }
-    ensures first { result.journal.first ≡ first }
-    ensures checks { result.journal.checks ≡ checks }
-    ensures later { result.journal.later ≡ later }
-    ensures tally { result.journal.tally ≡ tally }
+fn joined(named: Named, first: Known, checks: Checks, later: Option<Known>, tally: Tally) -> Journal
+    ensures named { result.named ≡ named }
+    ensures first { result.first ≡ first }
+    ensures checks { result.checks ≡ checks }
+    ensures later { result.later ≡ later }
+    ensures tally { result.tally ≡ tally }
 {
-    let journal = Journal {
+    Journal {
+        named,
         first,
         checks,
         later,
         tally,
-    };
-    Reading { room, journal }
+    }
 }
 
 /// Returns whether the records of `later` begin with those of `first`.

@@ -1,12 +1,23 @@
 //! `c8play audit`: judges the journals of a match.
 
-ghost use Rattle.std.specs.Prelude.{IfOk};
+ghost use Rattle.std.specs.Prelude.{◌≡◌, ◌⊎◌, Some, IfOk, IfErr, Result};
+ghost use Rattle.c8_audit.specs.Gathered.{AreGathered};
+ghost use Rattle.c8_audit.specs.Images.{evidence_of};
 ghost use Rattle.c8_audit.specs.Journals.{Seen, AreOfGame, Stays};
+ghost use Rattle.c8_audit.specs.OneMatch.{AreOneMatch};
 ghost use Rattle.c8_audit.specs.Read.{all_seen};
+ghost use Rattle.c8_audit.specs.declared.verdict.Verdicts.{Verdicts};
+ghost use Rattle.c8_command.specs.Status.{status_of, status_of_outcome};
+ghost use Rattle.c8_command.specs.declared.status.Status.TheVariants as statuses;
+ghost use Rattle.c8_audit_command.specs.Audit.{IsJudged, AreRefused, HasAudited, IsFaultOf, IsWithout};
+ghost use Rattle.c8_audit_command.specs.Errors.{audit_part};
+ghost use Rattle.c8_audit_command.specs.Printed.{TellsYes};
+ghost use Rattle.c8_audit_command.specs.declared.error.AuditFault.{AuditFault};
+ghost use Rattle.c8_audit_command.specs.declared.error.AuditFault.TheVariants as faults;
 
-use crate::error::AuditFault;
+use crate::error::{AuditFault, Unreadable};
 use crate::report::write_audit;
-use c8_audit::{GatherError, Gathered, Twice, Unread, gather};
+use c8_audit::{GatherError, Gathered, Mismatch, Twice, Unread, gather, laws};
 use c8_command::{Site, Status, Text, TextError, read_file};
 use c8_front::{is_explained, word_of};
 use c8_game::{Game, GameError};
@@ -25,7 +36,7 @@ const MOST_TRIES: usize = 3;
 #[derive(Clone, Copy)]
 struct Unjudged {
     fault: AuditFault,
-    /// The number of the journal at fault, if it is one.
+    /// The number of the file at fault, if it is one.
     place: Option<usize>,
 }
 
@@ -36,7 +47,11 @@ pub fn audit_given<R: Files + AllocGlobal, W: Write, E: Write>(
     given: &ArgMatches<'_>,
     out: &mut W,
     refused: &mut E,
-) -> io::Result<Status> {
+) -> io::Result<Status>
+    ensures audited { IfOk result HasAudited }
+    ensures printed { IfOk result (λ status. status ≡ statuses.Done
+        → TellsYes (W.contents out.old) (W.contents out.new)) }
+{
     let path = word_of(given, "GAME");
     let files = given.get_strs("JOURNAL").unwrap_or(&[]);
     let explain = is_explained(given);
@@ -54,6 +69,7 @@ pub fn audit_given<R: Files + AllocGlobal, W: Write, E: Write>(
         Ok(game) => game,
         Err(error) => return refuse_game(rt.alloc(), path, &text, error, explain, refused),
     };
+    laws::a_yes_of_files_means_agreement();
     match gather_files(rt, &game, files, &mut readings) {
         Ok(gathered) => judge_all(&game, &gathered, explain, out, refused),
         Err(unjudged) => refuse(files, unjudged, explain, refused),
@@ -70,6 +86,11 @@ fn judge_all<W: Write, E: Write>(
 ) -> io::Result<Status>
     requires of_game { AreOfGame game.now (all_seen gathered.now.journals) }
     requires one { (one : Seen) × Stays (all_seen gathered.now.journals) 1 one }
+    ensures judged { IfOk result (λ status. (outcome : Result Verdicts AuditFault)
+        × IsJudged game.now (all_seen gathered.now.journals) outcome
+        × (status ≡ status_of_outcome audit_part outcome)) }
+    ensures printed { IfOk result (λ status. status ≡ statuses.Done
+        → TellsYes (W.contents out.old) (W.contents out.new)) }
 {
     match write_audit(game, gathered, out)? {
         Some(fault) => fault.tell_at(explain.then_some(Site::Nowhere), refused),
@@ -78,7 +99,9 @@ fn judge_all<W: Write, E: Write>(
 }
 
 /// Reads all files once.
-fn read_files<R: Files + AllocGlobal>(rt: &R, files: &[&str]) -> Result<Vec<Twice>, Unjudged> {
+fn read_files<R: Files + AllocGlobal>(rt: &R, files: &[&str]) -> Result<Vec<Twice>, Unjudged>
+    ensures { IfErr result (λ unjudged. IsWithout unjudged.fault) }
+{
     let mut readings = Vec::new(rt.alloc());
     for place in 0..files.len() {
         let first = match read_image(rt, files[place]) {
@@ -97,7 +120,9 @@ fn read_later<R: Files + AllocGlobal>(
     rt: &R,
     files: &[&str],
     readings: &mut [Twice],
-) -> Result<(), Unjudged> {
+) -> Result<(), Unjudged>
+    ensures { IfErr result (λ unjudged. IsWithout unjudged.fault) }
+{
     for (place, (file, reading)) in files.iter().zip(readings).enumerate() {
         reading.step();
         match read_again(rt, file, &reading.first) {
@@ -115,34 +140,61 @@ fn gather_files<R: Files + AllocGlobal>(
     files: &[&str],
     readings: &mut [Twice],
 ) -> Result<Gathered, Unjudged>
-    ensures of_game { IfOk result (λ gathered.
-        AreOfGame game.now (all_seen gathered.journals)) }
-    ensures one { IfOk result (λ gathered.
-        (one : Seen) × Stays (all_seen gathered.journals) 1 one) }
+    ensures gathered { IfOk result (λ gathered.
+        AreGathered game.now (evidence_of readings.new) gathered.journals) }
+    ensures one_match { IfOk result (λ gathered. AreOneMatch game.now readings.new) }
+    ensures refused { IfErr result (λ unjudged. IsWithout unjudged.fault
+        ⊎ AreRefused game.now readings.new unjudged.fault) }
 {
     let mut lost = 0;
     for _try in 0..MOST_TRIES {
         read_later(rt, files, readings)?;
         match gather(rt.alloc(), game, readings) {
             Ok(gathered) => return Ok(gathered),
-            Err(GatherError::Journals) => {
-                return Err(Unjudged {
-                    fault: AuditFault::Journals,
-                    place: None,
-                });
-            }
-            Err(GatherError::File(place, Unread::Journal(error))) => {
-                return Err(at(place, AuditFault::Journal(error)));
-            }
-            Err(GatherError::File(place, Unread::Changed)) => lost = place,
+            Err(error) => match lost_in(error) {
+                Some(place) => lost = place,
+                None => return Err(unjudged_by(error)),
+            },
         }
     }
-    let sentence = "a journal that lost records while it was read";
-    Err(at(lost, AuditFault::Disk(sentence)))
+    Err(at(lost, AuditFault::Disk(Unreadable::Lost)))
 }
 
+/// The number of the file that lost records while it was read, if one did.
+fn lost_in(error: GatherError) -> Option<usize> {
+    match error {
+        GatherError::File(place, Unread::Changed) => Some(place),
+        _ => None,
+    }
+}
+
+/// Why journals are not judged that were not gathered. Of two files that are not of one match, the later one is at fault.
+fn unjudged_by(error: GatherError) -> Unjudged
+    ensures { IsFaultOf error result.fault }
+{
+    match error {
+        GatherError::File(place, Unread::Journal(error)) => at(place, AuditFault::Journal(error)),
+        GatherError::File(place, Unread::Changed) => at(place, AuditFault::Disk(Unreadable::Lost)),
+        GatherError::Journals(why) => Unjudged {
+            fault: AuditFault::Journals(why),
+            place: later_of(why),
+        },
+    }
+}
+
+/// The number of the later of two files that are not of one match.
+fn later_of(why: Mismatch) -> Option<usize> {
+    match why {
+        Mismatch::SamePlayer(_, later) => Some(later.place),
+        Mismatch::TwoRooms(_, later) => Some(later.place),
+        Mismatch::NoPlayerOne => None,
+    }
+}
 /// A fault of the journal of a number.
-fn at(place: usize, fault: AuditFault) -> Unjudged {
+fn at(place: usize, fault: AuditFault) -> Unjudged
+    ensures fault { result.fault ≡ fault }
+    ensures place { result.place ≡ Some place }
+{
     Unjudged {
         fault,
         place: Some(place),
@@ -150,34 +202,36 @@ fn at(place: usize, fault: AuditFault) -> Unjudged {
 }
 
 /// Why the file of the game is not read.
-fn text_fault(error: TextError) -> AuditFault {
+fn text_fault(error: TextError) -> AuditFault
+    ensures { IsWithout result }
+{
     match error {
-        TextError::Failed => {
-            AuditFault::Disk("a file that cannot be read, or has more than 16777216 bytes")
-        }
+        TextError::Failed => AuditFault::Disk(Unreadable::Game),
         TextError::Memory => AuditFault::Game(GameError::Memory),
     }
 }
 
 /// Why the file of a journal is not read.
-fn image_fault(error: TextError) -> AuditFault {
+fn image_fault(error: TextError) -> AuditFault
+    ensures { IsWithout result }
+{
     match error {
-        TextError::Failed => {
-            AuditFault::Disk("a file that cannot be read, or has more than 1073741824 bytes")
-        }
+        TextError::Failed => AuditFault::Disk(Unreadable::Journal),
         TextError::Memory => AuditFault::Journal(JournalError::Memory),
     }
 }
 
 /// Writes why a game's text is refused.
-fn refuse_game<E: Write>(
+fn refuse_game<'t, E: Write>(
     alloc: Global,
-    file: &str,
-    bytes: &[u8],
+    file: &'t str,
+    bytes: &'t [u8],
     error: GameError,
     explain: bool,
     refused: &mut E,
-) -> io::Result<Status> {
+) -> io::Result<Status>
+    ensures { IfOk result (λ status. status ≡ status_of (audit_part (faults.Game error))) }
+{
     let site = explain.then_some(game_site(alloc, Text { file, bytes }, error));
     AuditFault::Game(error).tell_at(site, refused)
 }
@@ -188,13 +242,23 @@ fn refuse<E: Write>(
     unjudged: Unjudged,
     explain: bool,
     refused: &mut E,
-) -> io::Result<Status> {
-    let site = match (unjudged.fault, unjudged.place) {
-        (AuditFault::Journal(JournalError::Memory), _) | (_, None) => Site::Nowhere,
-        (_, Some(place)) => match files.get(place) {
+) -> io::Result<Status>
+    ensures { IfOk result (λ status. status ≡ status_of (audit_part unjudged.fault)) }
+{
+    let site = explain.then_some(site_of(files, unjudged));
+    unjudged.fault.tell_of(files, site, refused)
+}
+
+/// Where a fault is; without memory it is nowhere.
+fn site_of<'a>(files: &[&'a str], unjudged: Unjudged) -> Site<'a> {
+    if unjudged.fault == AuditFault::Journal(JournalError::Memory) {
+        return Site::Nowhere;
+    }
+    match unjudged.place {
+        Some(place) => match files.get(place) {
             Some(file) => Site::File(file),
             None => Site::Nowhere,
         },
-    };
-    unjudged.fault.tell_at(explain.then_some(site), refused)
+        None => Site::Nowhere,
+    }
 }

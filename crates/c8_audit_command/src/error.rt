@@ -1,10 +1,15 @@
-//! Why the command `audit` refuses, and the line that says so.
+//! Why the command `audit` refuses, and the lines that say so.
 
+ghost use Rattle.std.specs.Prelude.{◌≡◌, IfOk};
+ghost use Rattle.c8_command.specs.Status.{status_of};
+ghost use Rattle.c8_audit_command.specs.Errors.{audit_part, audit_error_number};
+
+use c8_audit::Mismatch;
 use c8_command::{Part, Refusal, Site, Status};
 use c8_game::GameError;
 use c8_image::JournalError;
-use std::io;
 use std::io::Write;
+use std::{fmt, io};
 use thiserror::Error;
 
 /// Why the command `audit` refuses.
@@ -22,23 +27,38 @@ pub enum AuditFault {
     Checks,
     #[error("two players who were not dropped differ")]
     Disagree,
-    #[error("two journals of one player, none of player 1, or two rooms")]
-    Journals,
+    /// The journals are not of one match.
+    #[error("{0}")]
+    Journals(Mismatch),
     /// A file is not read.
     #[error("{0}")]
-    Disk(&'static str),
+    Disk(Unreadable),
+}
+
+/// Why a file is not read.
+#[derive(Clone, Copy, Debug, PartialEq, Eq, Error)]
+pub enum Unreadable {
+    #[error("a file that cannot be read, or has more than 16777216 bytes")]
+    Game,
+    #[error("a file that cannot be read, or has more than 1073741824 bytes")]
+    Journal,
+    #[error("a journal that lost records while it was read")]
+    Lost,
 }
 
 impl AuditFault {
     /// The refusal as it is printed.
-    fn refusal(self) -> Refusal {
+    fn refusal(self) -> Refusal
+        ensures part { result.part ≡ audit_part self }
+        ensures number { result.number ≡ audit_error_number self }
+    {
         let (part, number, name) = match self {
             AuditFault::Game(error) => (Part::Game, error.number(), error.name()),
             AuditFault::Journal(error) => (Part::Open, error.number(), error.name()),
             AuditFault::Entered => (Part::Audit, 1, "Entered"),
             AuditFault::Checks => (Part::Audit, 2, "Checks"),
             AuditFault::Disagree => (Part::Audit, 3, "Disagree"),
-            AuditFault::Journals => (Part::Audit, 4, "Journals"),
+            AuditFault::Journals(_) => (Part::Audit, 4, "Journals"),
             AuditFault::Disk(_) => return Refusal::DISK,
         };
         Refusal { part, number, name }
@@ -46,11 +66,61 @@ impl AuditFault {
 
     /// Writes the line of the refusal, and a second line with the sentence of the error if there is a site. Returns the
     /// exit status.
-    pub(crate) fn tell_at<W: Write>(
+    pub(crate) fn tell_at<W: Write>(self, site: Option<Site<'_>>, out: &mut W) -> io::Result<Status>
+        ensures { IfOk result (λ status. status ≡ status_of (audit_part self)) }
+    {
+        self.refusal().tell_at(site, &self, out)
+    }
+
+    /// The same for a fault of these files: the sentence names the files that are not of one match.
+    pub(crate) fn tell_of<W: Write>(
         self,
+        files: &[&str],
         site: Option<Site<'_>>,
         out: &mut W,
-    ) -> io::Result<Status> {
-        self.refusal().tell_at(site, &self, out)
+    ) -> io::Result<Status>
+        ensures { IfOk result (λ status. status ≡ status_of (audit_part self)) }
+    {
+        match self {
+            AuditFault::Journals(why) => {
+                self.refusal().tell_at(site, &Sentence { why, files }, out)
+            }
+            _ => self.tell_at(site, out),
+        }
+    }
+}
+
+/// Says why files do not keep the journals of one match. It follows the name of the later file.
+#[derive(Clone, Copy)]
+struct Sentence<'a> {
+    why: Mismatch,
+    files: &'a [&'a str],
+}
+
+impl fmt::Display for Sentence<'_> {
+    fn fmt<W: fmt::Write>(&self, f: &mut fmt::Formatter<W>) -> fmt::Result {
+        match self.why {
+            Mismatch::SamePlayer(one, other) => {
+                let (player, file) = (other.player, name_of(self.files, one.place));
+                write!(f, "a second journal of player {player}, beside {file}")
+            }
+            Mismatch::TwoRooms(one, other) => {
+                let file = name_of(self.files, one.place);
+                write!(
+                    f,
+                    "a journal of room {}, but {file} is of room {}",
+                    other.room, one.room
+                )
+            }
+            Mismatch::NoPlayerOne => f.write_str("no journal of player 1 is given"),
+        }
+    }
+}
+
+/// The name of the file with a number.
+pub(crate) fn name_of<'a>(files: &[&'a str], place: usize) -> &'a str {
+    match files.get(place) {
+        Some(file) => file,
+        None => "",
     }
 }

@@ -1,9 +1,15 @@
 //! What an audit prints.
 
+ghost use Rattle.std.specs.Prelude.{◌≡◌, ℕ, IfOk, OnOk};
+ghost use Rattle.std.specs.Io.KnownBytes.{Appends};
 ghost use Rattle.c8_game.specs.Rules.{Rules};
 ghost use Rattle.c8_audit.specs.Journals.{Seen, AreOfGame, Stays};
 ghost use Rattle.c8_audit.specs.Read.{all_seen};
+ghost use Rattle.c8_audit.specs.Judged.{AreVerdicts};
 ghost use Rattle.c8_audit.specs.Verdicts.{IsLeastCount};
+ghost use Rattle.c8_audit.specs.declared.verdict.Verdicts.{Verdicts};
+ghost use Rattle.c8_audit_command.specs.Audit.{fault_in};
+ghost use Rattle.c8_audit_command.specs.Printed.{entered_text, checks_text, agree_text, verdicts_text, Grows, Tells};
 
 use crate::error::AuditFault;
 use c8_audit::{
@@ -22,12 +28,14 @@ pub fn write_audit<W: Write>(
 ) -> io::Result<Option<AuditFault>>
     requires of_game { AreOfGame game.now (all_seen gathered.now.journals) }
     requires one { (one : Seen) × Stays (all_seen gathered.now.journals) 1 one }
+    ensures { IfOk result (λ fault. (verdicts : Verdicts)
+        × AreVerdicts game.now (all_seen gathered.now.journals) verdicts
+        × (fault ≡ fault_in verdicts)
+        × Tells (W.contents out.old) (W.contents out.new) verdicts) }
 {
     let journals = gathered.journals.as_slice();
     write_players(journals, out)?;
-    if gathered.empty > 0 {
-        writeln!(out, "empty {}", gathered.empty)?;
-    }
+    write_empty(gathered.empty, out)?;
     write_dropped(journals, out)?;
     let verdicts = judge(game, journals);
     write_verdicts(journals, &verdicts, out)?;
@@ -39,34 +47,64 @@ pub fn write_audit<W: Write>(
 }
 
 /// Writes a line for each journal.
-fn write_players<W: Write>(journals: &[Option<Journal>], out: &mut W) -> io::Result<()> {
+fn write_players<W: Write>(journals: &[Option<Journal>], out: &mut W) -> io::Result<()>
+    ensures { OnOk result (Grows (W.contents out.old) (W.contents out.new)) }
+{
     for number in 1..PLAYERS_END {
-        if let Some(journal) = journal_of(journals, Player { number }) {
-            let (records, epochs) = (journal.tally.records, journal.tally.epochs);
-            let (now, confirmed) = (journal.first.ticks(), journal.first.confirmed());
-            writeln!(
-                out,
-                "player {number} records {records} epochs {epochs} now {now} confirmed {confirmed}"
-            )?;
-        }
+        write_player(number, journal_of(journals, Player { number }), out)?;
     }
     Ok(())
+}
+
+/// Writes the line of a player's journal, if it is given.
+fn write_player<W: Write>(number: u8, journal: Option<&Journal>, out: &mut W) -> io::Result<()>
+    ensures { OnOk result (Grows (W.contents out.old) (W.contents out.new)) }
+{
+    let Some(journal) = journal else {
+        return Ok(());
+    };
+    let (records, epochs) = (journal.tally.records, journal.tally.epochs);
+    let (now, confirmed) = (journal.first.ticks(), journal.first.confirmed());
+    writeln!(
+        out,
+        "player {number} records {records} epochs {epochs} now {now} confirmed {confirmed}"
+    )
+}
+
+/// Writes how many files keep no record, if there are any.
+fn write_empty<W: Write>(empty: usize, out: &mut W) -> io::Result<()>
+    ensures { OnOk result (Grows (W.contents out.old) (W.contents out.new)) }
+{
+    if empty == 0 {
+        return Ok(());
+    }
+    writeln!(out, "empty {empty}")
 }
 
 /// Writes a line for each player who was dropped.
 fn write_dropped<W: Write>(journals: &[Option<Journal>], out: &mut W) -> io::Result<()>
     requires { (rules : Rules) × AreOfGame rules (all_seen journals.now) }
+    ensures { OnOk result (Grows (W.contents out.old) (W.contents out.new)) }
 {
     for number in 1..PLAYERS_END {
-        let player = Player { number };
-        if is_dropped(journals, player) {
-            match cut_of(journals, player) {
-                Some(cut) => writeln!(out, "dropped {number} at {cut}")?,
-                None => writeln!(out, "dropped {number}")?,
-            }
-        }
+        write_drop(journals, Player { number }, out)?;
     }
     Ok(())
+}
+
+/// Writes the line of a player, if player 1 dropped it.
+fn write_drop<W: Write>(journals: &[Option<Journal>], player: Player, out: &mut W) -> io::Result<()>
+    requires { (rules : Rules) × AreOfGame rules (all_seen journals.now) }
+    ensures { OnOk result (Grows (W.contents out.old) (W.contents out.new)) }
+{
+    if !is_dropped(journals, player) {
+        return Ok(());
+    }
+    let number = player.number;
+    match cut_of(journals, player) {
+        Some(cut) => writeln!(out, "dropped {number} at {cut}"),
+        None => writeln!(out, "dropped {number}"),
+    }
 }
 
 /// Writes a line for each verdict.
@@ -74,18 +112,55 @@ fn write_verdicts<W: Write>(
     journals: &[Option<Journal>],
     verdicts: &Verdicts,
     out: &mut W,
-) -> io::Result<()> {
-    match verdicts.unentered {
-        Some(Fault { frame, one, other }) => writeln!(out, "entered no {one} {frame} {other}")?,
-        None => writeln!(out, "entered yes")?,
+) -> io::Result<()>
+    ensures { OnOk result ((check : ℕ) × Appends (W.contents out.old) (W.contents out.new)
+        (verdicts_text verdicts.now check)) }
+{
+    write_entered(verdicts.unentered, out)?;
+    write_checks(verdicts.untrue, journals, out)?;
+    write_agree(verdicts.difference, verdicts.count, out)
+}
+
+fn write_entered<W: Write>(unentered: Option<Fault>, out: &mut W) -> io::Result<()>
+    ensures { OnOk result (Appends (W.contents out.old) (W.contents out.new)
+        (entered_text unentered)) }
+{
+    match unentered {
+        Some(fault) => {
+            let (frame, one, other) = (fault.frame, fault.one.number, fault.other.number);
+            writeln!(out, "entered no {one} {frame} {other}")
+        }
+        None => writeln!(out, "entered yes"),
     }
-    match verdicts.untrue {
-        Some(player) => writeln!(out, "checks no {player} {}", check_of(journals, player))?,
-        None => writeln!(out, "checks yes")?,
+}
+
+fn write_checks<W: Write>(
+    untrue: Option<Player>,
+    journals: &[Option<Journal>],
+    out: &mut W,
+) -> io::Result<()>
+    ensures { OnOk result ((check : ℕ) × Appends (W.contents out.old) (W.contents out.new)
+        (checks_text untrue check)) }
+{
+    match untrue {
+        Some(player) => {
+            let (number, check) = (player.number, check_of(journals, player));
+            writeln!(out, "checks no {number} {check}")
+        }
+        None => writeln!(out, "checks yes"),
     }
-    match verdicts.difference {
-        Some(Fault { frame, one, other }) => writeln!(out, "agree no {frame} {one} {other}"),
-        None => writeln!(out, "agree yes {}", verdicts.count),
+}
+
+fn write_agree<W: Write>(difference: Option<Fault>, count: u32, out: &mut W) -> io::Result<()>
+    ensures { OnOk result (Appends (W.contents out.old) (W.contents out.new)
+        (agree_text difference count)) }
+{
+    match difference {
+        Some(fault) => {
+            let (frame, one, other) = (fault.frame, fault.one.number, fault.other.number);
+            writeln!(out, "agree no {frame} {one} {other}")
+        }
+        None => writeln!(out, "agree yes {count}"),
     }
 }
 
@@ -98,15 +173,14 @@ fn check_of(journals: &[Option<Journal>], player: Player) -> usize {
 }
 
 /// The first verdict that is no.
-fn fault_of(verdicts: &Verdicts) -> Option<AuditFault> {
-    if verdicts.unentered.is_some() {
-        Some(AuditFault::Entered)
-    } else if verdicts.untrue.is_some() {
-        Some(AuditFault::Checks)
-    } else if verdicts.difference.is_some() {
-        Some(AuditFault::Disagree)
-    } else {
-        None
+fn fault_of(verdicts: &Verdicts) -> Option<AuditFault>
+    ensures { result ≡ fault_in verdicts.now }
+{
+    match (verdicts.unentered, verdicts.untrue, verdicts.difference) {
+        (Some(_), _, _) => Some(AuditFault::Entered),
+        (None, Some(_), _) => Some(AuditFault::Checks),
+        (None, None, Some(_)) => Some(AuditFault::Disagree),
+        (None, None, None) => None,
     }
 }
 
@@ -119,10 +193,18 @@ fn write_result<W: Write>(
 ) -> io::Result<()>
     requires one { (one : Seen) × Stays (all_seen journals.now) 1 one }
     requires count { IsLeastCount (all_seen journals.now) count }
+    ensures { OnOk result (Grows (W.contents out.old) (W.contents out.new)) }
 {
     write!(out, "result {count} ")?;
-    for byte in digest_of(game, journals, count) {
+    write_hex(&digest_of(game, journals, count), out)?;
+    writeln!(out)
+}
+
+fn write_hex<W: Write>(bytes: &[u8], out: &mut W) -> io::Result<()>
+    ensures { OnOk result (Grows (W.contents out.old) (W.contents out.new)) }
+{
+    for byte in bytes {
         write!(out, "{byte:02x}")?;
     }
-    writeln!(out)
+    Ok(())
 }

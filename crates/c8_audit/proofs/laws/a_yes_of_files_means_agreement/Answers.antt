@@ -1,0 +1,5 @@
+use Rattle.c8_audit.proofs.StoryLemmas.{one_story}
+use Rattle.c8_audit.proofs.laws.a_yes_of_files_means_agreement.Goals as goal
+
+pub returns : goal.returns
+returns c = one_story
