@@ -11,7 +11,7 @@ from abc import ABC, abstractmethod
 from collections.abc import Callable
 from dataclasses import dataclass, field
 
-from .sealed import COUNTER, HELLO, TAG, Header, Refused, Sealer, number_in
+from .sealed import COUNTER, HELLO, OF_EPOCH, TAG, Header, Refused, Sealer, number_in
 
 Address = tuple[str, int]
 
@@ -109,11 +109,14 @@ class Network(threading.Thread, ABC):
             raise self.fault
 
 
+def counter_of(packet: bytes) -> int:
+    return number_in(packet, len(packet) - TAG - COUNTER, COUNTER)
+
+
 def forged(packet: bytes) -> bytes:
     """A packet with a much greater counter, that nobody sealed."""
-    place = len(packet) - TAG - COUNTER
-    counter = number_in(packet, place, COUNTER) + (1 << 20)
-    return packet[:place] + counter.to_bytes(COUNTER, "big") + packet[-TAG:]
+    counter = counter_of(packet) + (1 << 20)
+    return packet[: -TAG - COUNTER] + counter.to_bytes(COUNTER, "big") + packet[-TAG:]
 
 
 def send(by: socket.socket, packet: bytes, to: Address) -> None:
@@ -132,6 +135,8 @@ class Player:
     is_open: bool = False
     epoch: int = 0
     kept: list[bytes] = field(default_factory=list)
+    # the counter of its last packet
+    counter: int = -1
     copies: int = 0
     # of a match with a secret: which packets it has to take, and where it has to see the other player
     model: Sealer | None = None
@@ -158,7 +163,7 @@ class Replayer(Network):
         # the socket that stands for this player
         self.doors = {1: self.opened(), 2: self.opened()}
         self.stranger = self.opened()
-        self.strays, self.carried = 0, 0
+        self.strays, self.misnumbered, self.carried = 0, 0, 0
 
     def door(self, number: int) -> Address:
         """Where the other player finds this one."""
@@ -217,9 +222,18 @@ class Replayer(Network):
         is_stray = by is self.stranger and (number == 2 or player.sees_door)
         if is_stray and time.monotonic() > player.since + self.SETTLED:
             self.strays += 1
+        if self.secret:
+            self.note_counter(player, packet)
         player.kept.append(packet)
         if not self.is_silent:
             self.carry(number, packet)
+
+    def note_counter(self, player: Player, packet: bytes) -> None:
+        """Each packet has a counter of its sender's epoch, greater than the one before."""
+        counter = counter_of(packet)
+        if counter // OF_EPOCH != Header.of(packet).epoch or counter <= player.counter:
+            self.misnumbered += 1
+        player.counter = counter
 
     def carry(self, number: int, packet: bytes) -> None:
         """Carries a packet of a player to the other one, with its copies."""
