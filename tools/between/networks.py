@@ -224,8 +224,8 @@ class Replayer(Network):
             self.strays += 1
         if self.secret:
             self.note_counter(player, packet)
-        player.kept.append(packet)
         if not self.is_silent:
+            player.kept.append(packet)
             self.carry(number, packet)
 
     def note_counter(self, player: Player, packet: bytes) -> None:
