@@ -137,7 +137,6 @@ class Player:
     kept: list[bytes] = field(default_factory=list)
     # the counter of its last packet
     counter: int = -1
-    copies: int = 0
     # of a match with a secret: which packets it has to take, and where it has to see the other player
     model: Sealer | None = None
     sees_door: bool = True
@@ -208,11 +207,6 @@ class Replayer(Network):
             if sees_door != player.sees_door:
                 player.sees_door, player.since = sees_door, time.monotonic()
 
-    def copy(self, number: int, packet: bytes, by: socket.socket) -> None:
-        if self.players[number].is_open:
-            self.players[number].copies += 1
-        self.give(number, packet, by)
-
     def came(self, by: socket.socket, packet: bytes, sender: Address) -> None:
         number = next((it for it, player in self.players.items() if player.address == sender), 0)
         if not number:
@@ -244,14 +238,14 @@ class Replayer(Network):
             return
         if self.carried % 16:
             self.give(to, packet, door)
-            self.copy(to, packet, door)
-            self.copy(to, packet, self.stranger)
+            self.give(to, packet, door)
+            self.give(to, packet, self.stranger)
         else:
             self.after(self.OVERTAKEN, lambda: self.give(to, packet, self.stranger))
-        self.copy(to, forged(packet), self.stranger)
-        self.copy(number, packet, self.stranger)
-        self.after(self.LATER, lambda: self.copy(to, packet, door))
-        self.after(self.LATER, lambda: self.copy(to, packet, self.stranger))
+        self.give(to, forged(packet), self.stranger)
+        self.give(number, packet, self.stranger)
+        self.after(self.LATER, lambda: self.give(to, packet, door))
+        self.after(self.LATER, lambda: self.give(to, packet, self.stranger))
 
     def replay(self, number: int, most: int) -> None:
         """Sends this player copies of what the other one sent: the newest, and some of all times, from the stranger too."""
@@ -259,15 +253,15 @@ class Replayer(Network):
             kept = self.players[3 - number].kept
             step = max(1, 2 * len(kept) // most)
             for packet in kept[::step] + kept[-most // 2 :]:
-                self.copy(number, packet, self.stranger)
-                self.copy(number, packet, self.doors[3 - number])
+                self.give(number, packet, self.stranger)
+                self.give(number, packet, self.doors[3 - number])
 
 
     def haunt(self, number: int) -> None:
         """From now on copies of what this player sent come to the other one, one a millisecond."""
         with self.lock:
             kept = itertools.cycle(list(self.players[number].kept))
-            self.every(0.001, lambda: self.copy(3 - number, next(kept), self.doors[number]))
+            self.every(0.001, lambda: self.give(3 - number, next(kept), self.doors[number]))
 
 
 class Flooder(Replayer):
@@ -281,7 +275,7 @@ class Flooder(Replayer):
 
     def flood(self) -> None:
         for number, packet in self.hellos.items():
-            self.copy(3 - number, packet, self.doors[number])
+            self.give(3 - number, packet, self.doors[number])
 
     def carry(self, number: int, packet: bytes) -> None:
         super().carry(number, packet)
