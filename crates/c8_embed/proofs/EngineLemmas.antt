@@ -1,10 +1,10 @@
 -- What an engine keeps when its peer makes a call.
-use Rattle.std.proofs.Common.{◌≡◌, ◌≤◌, ◌+◌, ℕ, List, [], ◌∷◌, Bool, true, false, Some, take, length, refl, sym, ap, subst, ◌∙◌, arith}
+use Rattle.std.proofs.Common.{◌≡◌, ◌≤◌, ◌+◌, ℕ, List, [], ◌∷◌, Bool, false, take, length, refl, sym, ap, subst, ◌∙◌, arith}
 use Rattle.std.proofs.lemmas.Bool.{true≢false}
 use Rattle.c8_game.specs.Rules.{Rules}
 use Rattle.c8_game.specs.declared.row.Row.{Row}
 use Rattle.c8_disk.specs.declared.disk.Disk.{Ghosts}
-use Rattle.c8_known.specs.Known.{KnownValue, known_of}
+use Rattle.c8_known.specs.Known.{KnownValue}
 use Rattle.c8_known.specs.Confirmed.{confirmed, rows_below, best_rows_below, best_rows}
 use Rattle.c8_peer.specs.State.{Call, Reply}
 use Rattle.c8_peer.specs.Lawful.{IsCall}

@@ -1,6 +1,6 @@
 -- Rows that are given from a frame on, and the states of an engine that runs them.
-use Rattle.std.proofs.Common.{◌≡◌, ℕ, zero, suc, ◌+◌, ◌<◌, ◌≤◌, List, [], ◌∷◌, ◌++◌, length, take, drop, get_or, Some, refl, sym, ap, subst, ◌∙◌, arith, map}
-use Rattle.std.specs.List.{slice_get, range_with_len}
+use Rattle.std.proofs.Common.{◌≡◌, ℕ, zero, suc, ◌+◌, ◌<◌, ◌≤◌, List, [], ◌∷◌, ◌++◌, length, take, drop, get_or, Some, refl, sym, ap, ◌∙◌, arith}
+use Rattle.std.specs.List.{slice_get}
 use Rattle.std.proofs.Math.Seq.{take-suc}
 use Rattle.std.proofs.lemmas.List.FromFn.{length-map-range_with_len, take-map-range_with_len, map-range_with_len_more}
 use Rattle.c8_game.specs.declared.row.Row.{Row}
@@ -9,7 +9,7 @@ use Rattle.c8_known.specs.Journal.{Record, ticks}
 use Rattle.c8_known.specs.Known.{KnownValue, known_of}
 use Rattle.c8_known.specs.Confirmed.{confirmed, row, rows_below, best_row, best_rows_below}
 use Rattle.c8_known.specs.checked.ConfirmedLaws.{map_same, best_of_confirmed, confirmed_is}
-use Rattle.c8_embed.specs.Steps.{StepsValue, IsTrueTo, run, states, states_from, goes_back, IsStepped}
+use Rattle.c8_embed.specs.Steps.{StepsValue, IsTrueTo, run, states, goes_back, IsStepped}
 
 -- the state at a frame is the run of the rows before it
 pub state_at : {S : Type 0} (step : S → Row → S) (s : S) (rows : List Row) (n : ℕ) → n ≤ length rows → slice_get (states step s rows) n ≡ Some (run step s (take n rows))

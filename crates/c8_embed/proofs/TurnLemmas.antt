@@ -1,5 +1,5 @@
 -- Calls of a turn, one after another.
-use Rattle.std.proofs.Common.{◌≡◌, List, [], ◌∷◌, ◌++◌, refl, sym, subst}
+use Rattle.std.proofs.Common.{List, [], ◌∷◌, ◌++◌, refl, subst}
 use Rattle.c8_disk.specs.declared.disk.Disk.{Ghosts}
 use Rattle.c8_peer.specs.State.{Call, Reply}
 use Rattle.c8_peer.specs.Peer.{PeerValue, IsAnswered}

@@ -1,3 +1,4 @@
 pub mod Steps
 pub mod Engine
 pub mod Journal
+pub mod Session

@@ -17,7 +17,7 @@ use c8_peer::{
     Check, CheckError, DecideError, Heard, Kind, LeaveError, OpenError, Peer, Refused, TickError,
 };
 use c8_schedule::{MOST_DUE, Schedule};
-use c8_wire::{Header, LONGEST_DATAGRAM, view};
+use c8_wire::{Datagram, LONGEST_DATAGRAM, view};
 use std::alloc::Global;
 use std::fmt;
 use std::marker::Model;
@@ -100,7 +100,13 @@ impl<'g, D: Disk> Engine<'g, D> {
         &self.peer
     }
 
-    /// Returns how many turns a player has been silent.
+    /// Returns whether the others know more of this player than its journal does: a later epoch, or more inputs. The
+    /// journal that this came from is gone, and the player cannot play on.
+    pub fn is_lost(&self) -> bool {
+        self.schedule.is_lost()
+    }
+
+    /// Returns how many turns a player has been silent: turns in a row without a datagram that its open link admitted.
     pub fn silent(&self, player: Player) -> u64 {
         self.schedule.silent(player)
     }
@@ -123,7 +129,7 @@ impl<'g, D: Disk> Engine<'g, D> {
         self.peer.tick(keys)
     }
 
-    /// Processes a received datagram, as [`Peer::deliver`] does, and notes that its sender is not silent.
+    /// Processes a received datagram, as [`Peer::deliver`] does, and notes whether it is a sign of life of its sender.
     pub fn deliver(&mut self, bytes: &[u8]) -> Result<Heard, Refused>
         ensures answered { IsAnswered D.Disk self.old.peer (Deliver (read bytes.now)) (Delivered result) self.new.peer }
         ensures steps { self.new.steps ≡ self.old.steps }
@@ -133,9 +139,9 @@ impl<'g, D: Disk> Engine<'g, D> {
         deliveries_are_calls();
         let _sound = self.peer.is_down();
         self.is_told = false;
-        let (answer, header) = hear(&mut self.peer, bytes);
-        if let Some(header) = header {
-            self.schedule.heard(header, answer);
+        let (answer, datagram) = hear(&mut self.peer, bytes);
+        if let Some(datagram) = datagram {
+            self.schedule.heard(&self.peer, &datagram, answer);
         }
         answer
     }
@@ -219,15 +225,15 @@ impl<'g, D: Disk> Engine<'g, D> {
     }
 }
 
-/// Delivers received bytes to a peer, and lends the header if they are a datagram.
+/// Delivers received bytes to a peer, and lends the datagram if they are one.
 fn hear<'b, D: Disk>(
     peer: &mut Peer<'_, D>,
     bytes: &'b [u8],
-) -> (Result<Heard, Refused>, Option<Header<'b>>)
+) -> (Result<Heard, Refused>, Option<Datagram<'b>>)
     ensures { IsAnswered D.Disk peer.old (Deliver (read bytes.now)) (Delivered result.0) peer.new }
 {
     match view(bytes) {
-        Ok(datagram) => (peer.deliver_datagram(&datagram), Some(datagram.header())),
+        Ok(datagram) => (peer.deliver_datagram(&datagram), Some(datagram)),
         Err(_) => (peer.deliver(bytes), None),
     }
 }

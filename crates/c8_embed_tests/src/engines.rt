@@ -102,7 +102,13 @@ impl<'g> Side<'g> {
     }
 }
 
-/// Plays a turn of one side: it ticks, makes its turn, and sends; every datagram whose number three divides is lost.
+/// Whether the datagram with this number is lost: about a third is. What is lost has no period, since each turn may send
+/// the same kinds in the same order.
+fn is_lost(number: u32) -> bool {
+    number.wrapping_mul(0x9e37_79b9) % 3 == 0
+}
+
+/// Plays a turn of one side: it ticks, makes its turn, and sends; a third of the datagrams is lost.
 fn turn(side: &mut Side<'_>, other: &mut Side<'_>, keys: u16, sent: &mut u32) -> Option<()> {
     let _refused = side.engine.tick(Keys(keys));
     side.engine.turn().ok()?;
@@ -112,7 +118,7 @@ fn turn(side: &mut Side<'_>, other: &mut Side<'_>, keys: u16, sent: &mut u32) ->
             break;
         };
         *sent = sent.saturating_add(1);
-        if *sent % 3 != 0 {
+        if !is_lost(*sent) {
             let _refused = other.engine.deliver(&out[..size]);
         }
     }

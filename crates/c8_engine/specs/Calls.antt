@@ -1,38 +1,39 @@
 -- What the calls of a handle do to its session.
-use Rattle.std.specs.Prelude.{ℕ, ◌≡◌, ◌<◌, ◌/◌, min, List, [], ◌∷◌, ◌++◌, take, drop, map, Option, None, Some, Result, Err}
+use Rattle.std.specs.Prelude.{ℕ, ◌≡◌, ◌≢◌, ◌⊎◌, ◌<◌, ◌/◌, min, true, false, List, [], ◌∷◌, ◌++◌, length, map, Option, None, Some, Result, Err}
 use Rattle.c8_disk.specs.declared.error.DiskError.{DiskError}
 use Rattle.c8_disk.specs.declared.file.FileDisk.{FileDisk}
-use Rattle.c8_game.specs.Rules.{Rules}
+use Rattle.c8_game.specs.Rules.{Rules, session_of}
 use Rattle.c8_game.specs.GameText.{Spells}
 use Rattle.c8_game.specs.declared.row.Keys.{Keys}
 use Rattle.c8_game.specs.declared.row.Row.{Row}
-use Rattle.c8_wire.specs.checked.Read.{read}
 use Rattle.c8_peer.specs.declared.check.Check.{Check}
 use Rattle.c8_peer.specs.declared.heard.Heard.{Heard}
 use Rattle.c8_peer.specs.Opened.{IsOpened}
-use Rattle.c8_peer.specs.Peer.{IsAnswered, IsSaid, IsStep}
-use Rattle.c8_peer.specs.State.{Call, Reply, Saying, Hello, Welcome, Data, Freeze, Frozen, Cut, Said, Tick, Deliver, Say, Leave, Decide, Checkpoint, Ticked, Delivered, Left, Decided, Checked}
+use Rattle.c8_peer.specs.Peer.{IsStep}
+use Rattle.c8_peer.specs.State.{Saying, Hello, Welcome, Data, Freeze, Frozen, Cut, Said, Tick, Say, Leave, Decide, Checkpoint, Ticked, Left, Decided, Checked}
 use Rattle.c8_refusals.specs.declared.error.TickError.{TickError}
-use Rattle.c8_refusals.specs.declared.error.Refused.{Refused}
 use Rattle.c8_refusals.specs.declared.error.Unsayable.{Unsayable}
 use Rattle.c8_refusals.specs.declared.error.LeaveError.{LeaveError}
 use Rattle.c8_refusals.specs.declared.error.DecideError.{DecideError}
 use Rattle.c8_refusals.specs.declared.error.CheckError.{CheckError}
 use Rattle.c8_embed.specs.declared.medium.Medium.{Medium}
 use Rattle.c8_embed.specs.declared.session.Session.{Session}
-use Rattle.c8_embed.specs.Engine.{EngineValue, HasTurned}
+use Rattle.c8_embed.specs.Engine.{HasTurned}
+use Rattle.c8_embed.specs.Session.{EngineOf, HasCalled, HasSealing, HasDelivered, HasSent, IsAsBefore}
+use Rattle.c8_embed.specs.declared.session.Undelivered.{Undelivered}
+use Rattle.c8_sealed.specs.declared.keys.Secrets.{Secrets}
 use Rattle.c8_embed.specs.Journal.{disk}
-use Rattle.c8_engine.specs.Codes.{tick_code, heard_code, leave_code, decide_code, check_code, turn_code, say_code}
+use Rattle.c8_engine.specs.Codes.{delivered_code, bad_secret_code, sealed_already_code, tick_code, leave_code, decide_code, check_code, turn_code, say_code}
 
--- the engine of a session
-abbrev pub EngineOf : Type 0
-EngineOf = EngineValue (FileDisk Medium)
+-- if the handle was open, it still is, and this holds of its session before and after
+abbrev pub IfSession : Option Session → Option Session → (Session → Session → Type 0) → Type 0
+IfSession None new P = Unit {0}
+IfSession (Some e) None P = ⊥
+IfSession (Some e) (Some f) P = P e f
 
--- if the handle was open, it still is, and this holds of its engine before and after
+-- the same of its engine, and the secret stays
 abbrev pub IfOpen : Option Session → Option Session → (EngineOf → EngineOf → Type 0) → Type 0
-IfOpen None new P = Unit {0}
-IfOpen (Some e) None P = ⊥
-IfOpen (Some e) (Some f) P = P e.engine f.engine
+IfOpen old new P = IfSession old new (λ e f. P e.engine f.engine × (f.sealer ≡ e.sealer) × (f.number ≡ e.number))
 
 -- The handle has a session of this player in this room, of the game that the text spells. Its engine was given nothing.
 pub record IsOpenedBy (text : List ℕ) (player room : ℕ) (session : Session) : Type 0 where
@@ -42,26 +43,22 @@ pub record IsOpenedBy (text : List ℕ) (player room : ℕ) (session : Session) 
   pub opened : IsOpened disk kept rules room player session.engine.peer
   pub given : session.engine.steps.given ≡ []
   pub depth : session.engine.depth ≡ 0
+  pub number : session.number ≡ session_of rules room
+  pub sealer : session.sealer ≡ None
 
 abbrev pub IsOpenWith : List ℕ → ℕ → ℕ → Option Session → Type 0
 IsOpenWith text player room None = ⊥
 IsOpenWith text player room (Some session) = IsOpenedBy text player room session
-
--- a call of the peer, and the rows that were given stay
-pub record HasCalled (old new : EngineOf) (call : Call) (reply : Reply) : Type 0 where
-  pub answered : IsAnswered disk old.peer call reply new.peer
-  pub steps : new.steps ≡ old.steps
-  pub depth : new.depth ≡ old.depth
 
 pub record HasTicked (old new : EngineOf) (keys code : ℕ) : Type 0 where
   pub reply : Result (Unit {0}) TickError
   pub called : HasCalled old new (Tick keys) (Ticked reply)
   pub code_is : code ≡ tick_code reply
 
-pub record HasHeard (old new : EngineOf) (bytes : List ℕ) (code : ℕ) : Type 0 where
-  pub reply : Result Heard Refused
-  pub called : HasCalled old new (Deliver (read bytes)) (Delivered reply)
-  pub code_is : code ≡ heard_code reply
+pub record HasHeard (old : Session) (bytes : List ℕ) (code : ℕ) (new : Session) : Type 0 where
+  pub answer : Result Heard Undelivered
+  pub delivered : HasDelivered old bytes answer new
+  pub code_is : code ≡ delivered_code answer
 
 pub record HasLeft (old new : EngineOf) (leaver code : ℕ) : Type 0 where
   pub reply : Result (Unit {0}) LeaveError
@@ -85,9 +82,9 @@ pub record HasMadeTurn (old new : EngineOf) (code : ℕ) : Type 0 where
   pub depth : new.depth ≡ old.depth
   pub code_is : code ≡ turn_code reply
 
--- the first `size` bytes, if there are any, are a datagram that the peer says to this player
-abbrev pub HasSaid : EngineOf → ℕ → ℕ → List ℕ → Type 0
-HasSaid e to size out = 0 < size → (what : Saying) × IsSaid e.peer (Say to what) (take size out)
+-- the first `size` bytes, if there are any, are the packet of a datagram that the peer says to this player
+abbrev pub HasSaid : Session → ℕ → ℕ → List ℕ → Session → Type 0
+HasSaid e to size out f = 0 < size → (what : Saying) × HasSent e f to what size out
 
 -- the saying that a kind's number asks for, about this leaver if it is about one
 abbrev pub IsKind : ℕ → ℕ → Saying → Type 0
@@ -98,19 +95,41 @@ IsKind kind leaver (Freeze l) = (kind ≡ 3) × (l ≡ leaver)
 IsKind kind leaver (Frozen l) = (kind ≡ 4) × (l ≡ leaver)
 IsKind kind leaver (Cut l) = (kind ≡ 5) × (l ≡ leaver)
 
--- the first `size` bytes are a datagram of this kind that the peer says to this player
-pub record HasSaidKind (e : EngineOf) (to kind leaver size : ℕ) (out : List ℕ) : Type 0 where
+-- the first `size` bytes are the packet of a datagram of this kind that the peer says to this player; none can be sealed any
+-- more if there are none
+pub record HasSaidKind (e : Session) (to kind leaver size : ℕ) (out : List ℕ) (f : Session) : Type 0 where
   pub what : Saying
   pub kind_is : IsKind kind leaver what
-  pub said : IsSaid e.peer (Say to what) (take size out)
+  pub said : HasSent e f to what size out ⊎ ((size ≡ 0) × IsAsBefore e f)
 
 -- the peer refuses to say a datagram of this kind to this player, and the code tells why
-pub record HasRefusedToSay (e : EngineOf) (to kind leaver code : ℕ) : Type 0 where
+pub record HasRefusedToSay (e : Session) (to kind leaver code : ℕ) (f : Session) : Type 0 where
   pub what : Saying
   pub kind_is : IsKind kind leaver what
   pub why : Unsayable
-  pub step : IsStep e.peer (Say to what) (Said (Err why)) e.peer
+  pub step : IsStep e.engine.peer (Say to what) (Said (Err why)) e.engine.peer
+  pub before : IsAsBefore e f
   pub code_is : code ≡ say_code why
+
+-- ---- secrets
+
+-- the secret of the players, and that of the watchers if there are any bytes
+abbrev pub secret_in : List ℕ → Option (List ℕ)
+secret_in [] = None
+secret_in (byte ∷ bytes) = Some (byte ∷ bytes)
+
+pub record AreSecrets (players watchers : List ℕ) (secrets : Secrets) : Type 0 where
+  pub players_is : secrets.players ≡ Some players
+  pub watchers_is : secrets.watchers ≡ secret_in watchers
+  pub size : (length watchers ≡ 0) ⊎ (length watchers ≡ 32)
+  pub differ : watchers ≢ players
+
+-- The session gets a sealer with these secrets, or the code tells why not.
+abbrev pub HasSecrets : Session → List ℕ → List ℕ → ℕ → Session → Type 0
+HasSecrets e players watchers code f =
+    ((secrets : Secrets) × AreSecrets players watchers secrets × HasSealing e secrets true f × (code ≡ 0))
+    ⊎ ((secrets : Secrets) × AreSecrets players watchers secrets × HasSealing e secrets false f × (code ≡ sealed_already_code))
+    ⊎ (((secrets : Secrets) → AreSecrets players watchers secrets → ⊥) × (f ≡ e) × (code ≡ bad_secret_code))
 
 -- ---- rows as C reads them: four words each
 

@@ -14,6 +14,10 @@ use Rattle.c8_peer.specs.declared.check.Check.{Check}
 use Rattle.c8_peer.specs.declared.check.Check.TheVariants.{Piece, Done}
 use Rattle.c8_peer.specs.declared.heard.Heard.{Heard}
 use Rattle.c8_peer.specs.declared.heard.Heard.TheVariants.{Nothing, Kept, Out}
+use Rattle.c8_sealed.specs.declared.error.NotTaken.{NotTaken}
+use Rattle.c8_sealed.specs.declared.error.NotTaken.TheVariants.{NotSealed, SeenBefore}
+use Rattle.c8_embed.specs.declared.session.Undelivered.{Undelivered}
+use Rattle.c8_embed.specs.declared.session.Undelivered.TheVariants as undelivered
 use Rattle.c8_refusals.specs.Errors as refusing
 use Rattle.c8_refusals.specs.declared.error.OpenError.{OpenError}
 use Rattle.c8_refusals.specs.declared.error.OpenError.TheVariants as opens
@@ -36,6 +40,18 @@ closed_code = 101
 -- a number that is no player's
 abbrev pub nobody_code : ℕ
 nobody_code = 102
+
+-- a packet that is not sealed for this player, and one that came before
+abbrev pub not_taken_code : NotTaken → ℕ
+not_taken_code NotSealed = 103
+not_taken_code SeenBefore = 104
+
+-- bytes that are no secret of watchers, and a session that has a secret already
+abbrev pub bad_secret_code : ℕ
+bad_secret_code = 105
+
+abbrev pub sealed_already_code : ℕ
+sealed_already_code = 106
 
 abbrev pub disk_code : DiskError → ℕ
 disk_code why = 1300 + disks.disk_number_of why
@@ -76,6 +92,11 @@ heard_code (Err (refusals.Disk why)) = disk_code why
 heard_code (Err refusals.Down) = 816
 heard_code (Err refusals.Dropped) = 817
 heard_code (Err refusals.OtherWire) = 818
+
+abbrev pub delivered_code : Result Heard Undelivered → ℕ
+delivered_code (Ok heard) = heard_code (Ok heard)
+delivered_code (Err (undelivered.Refused why)) = heard_code (Err why)
+delivered_code (Err (undelivered.NotTaken why)) = not_taken_code why
 
 abbrev pub leave_code : Result (Unit {0}) LeaveError → ℕ
 leave_code (Ok done) = 0

@@ -1,10 +1,11 @@
 //! The calls of a session's peer, and its turn.
 ghost use Rattle.std.specs.Prelude.{◌≡◌, ◌≤◌, None};
 ghost use Rattle.c8_engine.specs.Codes.{closed_code, nobody_code};
-ghost use Rattle.c8_engine.specs.Calls.{IfOpen, HasTicked, HasHeard, HasLeft, HasDecided, HasSaved, HasMadeTurn};
+ghost use Rattle.c8_engine.specs.Calls.{IfOpen, IfSession, HasTicked, HasHeard, HasLeft, HasDecided, HasSaved, HasMadeTurn};
 
 use crate::codes::{
-    check_code, closed_code, decide_code, heard_code, leave_code, nobody_code, tick_code, turn_code,
+    check_code, closed_code, decide_code, delivered_code, leave_code, nobody_code, tick_code,
+    turn_code,
 };
 use crate::handle::Handle;
 use c8_game::{Keys, Player};
@@ -21,16 +22,16 @@ pub extern "C" fn c8_tick(handle: &mut Handle, keys: u16) -> u32
     tick_code(handle.session().engine.tick(Keys(keys)))
 }
 
-/// Processes a received datagram: any bytes, of any length.
+/// Processes received bytes, of any length: a datagram, or with a secret a sealed packet.
 #[unsafe(no_mangle)]
 pub extern "C" fn c8_deliver(handle: &mut Handle, bytes: &[u8]) -> u32
     ensures closed { handle.old.value ≡ None → (result ≡ closed_code) × (handle.new ≡ handle.old) }
-    ensures heard { IfOpen handle.old.value handle.new.value (λ e f. HasHeard e f bytes.now result) }
+    ensures heard { IfSession handle.old.value handle.new.value (λ e f. HasHeard e bytes.now result f) }
 {
     if !handle.is_open() {
         return closed_code();
     }
-    heard_code(handle.session().engine.deliver(bytes))
+    delivered_code(handle.session().deliver(bytes))
 }
 
 /// Drops a player, at player 1.

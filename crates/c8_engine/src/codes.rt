@@ -1,12 +1,14 @@
 //! The number that each answer has in C.
 ghost use Rattle.std.specs.Prelude.{◌≡◌, ◌<◌};
-ghost use Rattle.c8_engine.specs.Codes.{closed_code, nobody_code, disk_code, game_code, open_code, tick_code, heard_code, leave_code, decide_code, check_code, turn_code, file_code, say_code};
+ghost use Rattle.c8_engine.specs.Codes.{closed_code, nobody_code, not_taken_code, bad_secret_code, sealed_already_code, delivered_code, disk_code, game_code, open_code, tick_code, heard_code, leave_code, decide_code, check_code, turn_code, file_code, say_code};
 
 use c8_disk::{DiskError, FileError};
+use c8_embed::Undelivered;
 use c8_game::GameError;
 use c8_peer::{
     Check, CheckError, DecideError, Heard, LeaveError, OpenError, Refused, TickError, Unsayable,
 };
+use c8_sealed::NotTaken;
 
 /// What every call but an opening and a close answers at a closed handle.
 pub(crate) fn closed_code() -> u32
@@ -20,6 +22,29 @@ pub(crate) fn nobody_code() -> u32
     ensures { result ≡ nobody_code }
 {
     102
+}
+
+fn not_taken_code(why: NotTaken) -> u32
+    ensures { result ≡ not_taken_code why }
+{
+    match why {
+        NotTaken::NotSealed => 103,
+        NotTaken::SeenBefore => 104,
+    }
+}
+
+/// What `c8_secrets` answers to watchers' bytes that are no secret, or the players'.
+pub(crate) fn bad_secret_code() -> u32
+    ensures { result ≡ bad_secret_code }
+{
+    105
+}
+
+/// What `c8_secrets` answers at a session that has a secret.
+pub(crate) fn sealed_already_code() -> u32
+    ensures { result ≡ sealed_already_code }
+{
+    106
 }
 
 pub(crate) fn disk_code(why: DiskError) -> u32
@@ -53,7 +78,7 @@ pub(crate) fn tick_code(answer: Result<(), TickError>) -> u32
     }
 }
 
-pub(crate) fn heard_code(answer: Result<Heard, Refused>) -> u32
+fn heard_code(answer: Result<Heard, Refused>) -> u32
     ensures { result ≡ heard_code answer }
 {
     match answer {
@@ -65,6 +90,16 @@ pub(crate) fn heard_code(answer: Result<Heard, Refused>) -> u32
         Err(Refused::Known(error)) => 700 + u32::from(error.number()),
         Err(Refused::Disk(why)) => disk_code(why),
         Err(error) => 800 + u32::from(error.number()),
+    }
+}
+
+pub(crate) fn delivered_code(answer: Result<Heard, Undelivered>) -> u32
+    ensures { result ≡ delivered_code answer }
+{
+    match answer {
+        Ok(heard) => heard_code(Ok(heard)),
+        Err(Undelivered::Refused(why)) => heard_code(Err(why)),
+        Err(Undelivered::NotTaken(why)) => not_taken_code(why),
     }
 }
 

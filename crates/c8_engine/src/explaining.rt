@@ -6,6 +6,7 @@ use c8_game::GameError;
 use c8_hand::HandError;
 use c8_known::KnownError;
 use c8_peer::{CheckError, DecideError, LeaveError, OpenError, Refused, TickError, Unsayable};
+use c8_sealed::NotTaken;
 use c8_wire::WireError;
 use std::fmt;
 use std::fmt::Write;
@@ -68,6 +69,13 @@ fn own(number: u8, text: &mut Text) -> fmt::Result {
     match number {
         1 => write!(text, "Closed: the handle is closed"),
         2 => write!(text, "NoPlayer: not the number of a player, or of a kind"),
+        3 => write!(text, "NotSealed: {}", NotTaken::NotSealed),
+        4 => write!(text, "SeenBefore: {}", NotTaken::SeenBefore),
+        5 => write!(
+            text,
+            "BadSecret: the watchers' secret is that of the players, or has not 32 bytes"
+        ),
+        6 => write!(text, "SealedAlready: the session has a secret already"),
         _ => Ok(()),
     }
 }

@@ -1,4 +1,4 @@
-//! A session for C: one peer on a handle, with the calls of c8_embed's `Engine`. `embed/c8.h` declares the exports.
+//! A session for C: one peer on a handle, with the calls of c8_embed's `Session`. `embed/c8.h` declares the exports.
 //!
 //! [`Handle`] is the struct of one pointer that C sees. The clause of each export says what it does to the engine of an
 //! open handle (`specs/Calls.antt`) and which number it answers (`specs/Codes.antt`). `proofs/` has by hand what a raw
@@ -21,10 +21,10 @@ pub use explaining::c8_explain;
 pub use handle::Handle;
 pub use opening::{c8_close, c8_open, c8_open_journal};
 pub use reading::{
-    PlayerState, c8_confirmed, c8_epoch, c8_is_over, c8_mark, c8_player, c8_screen, c8_state,
-    c8_ticked, c8_tone,
+    PlayerState, c8_confirmed, c8_epoch, c8_is_lost, c8_is_over, c8_mark, c8_player, c8_screen,
+    c8_state, c8_ticked, c8_tone,
 };
-pub use rules::{c8_rules, c8_session_of};
+pub use rules::c8_rules;
 pub use saying::{c8_next, c8_say};
-pub use sealing::{c8_seal, c8_unseal};
+pub use sealing::{c8_secrets, c8_sender};
 pub use stepping::c8_step;

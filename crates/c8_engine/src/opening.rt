@@ -122,11 +122,12 @@ fn open_on(
     } else {
         Some(u64::from(patience))
     };
+    let number = game.session(room);
     let engine = match Engine::open(alloc, disk, game, me, room, patience, INTERVAL) {
         Ok(engine) => engine,
         Err((error, _)) => return open_code(error),
     };
-    match Box::new(alloc, Session { engine }) {
+    match Box::new(alloc, Session::new(engine, number)) {
         Ok(session) => {
             *handle = Handle::of(session);
             0

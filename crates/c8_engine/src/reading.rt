@@ -86,6 +86,17 @@ pub extern "C" fn c8_is_over(handle: &mut Handle) -> bool
     handle.session().engine.is_over()
 }
 
+/// Whether the others hold inputs that this session's journal does not have; false at a closed handle.
+#[unsafe(no_mangle)]
+pub extern "C" fn c8_is_lost(handle: &mut Handle) -> bool
+    ensures same { handle.new.value ≡ handle.old.value }
+{
+    if !handle.is_open() {
+        return false;
+    }
+    handle.session().engine.is_lost()
+}
+
 /// Writes what the peer knows of a player to `state`.
 #[unsafe(no_mangle)]
 pub extern "C" fn c8_player(handle: &mut Handle, player: u8, state: &mut PlayerState) -> u32

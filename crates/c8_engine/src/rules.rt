@@ -1,12 +1,6 @@
 //! Games for engines with a machine of their own.
-ghost use Rattle.std.specs.Prelude.{◌≡◌, IsSome};
-ghost use Rattle.c8_game.specs.GameText.{Spells};
-ghost use Rattle.c8_game.specs.Rules.{Rules, session_of};
 
-use crate::codes::game_code;
 use arrayvec::ArrayString;
-use c8_game::Game;
-use std::alloc::Global;
 use std::fmt;
 use std::fmt::Write;
 
@@ -57,19 +51,4 @@ fn rules(
         write!(text, "{byte:02x}")?;
     }
     write!(text, "\n")
-}
-
-/// Writes to `session` the number of the session that a game has in a room, which the key of sealed packets depends on.
-#[unsafe(no_mangle)]
-pub extern "C" fn c8_session_of(alloc: Global, text: &[u8], room: u64, session: &mut u64) -> u32
-    ensures { result ≡ 0 → (rules : Rules) × Spells text.now rules
-        × (session.new ≡ session_of rules room) }
-{
-    match Game::read(alloc, text) {
-        Ok(game) => {
-            *session = game.session(room);
-            0
-        }
-        Err(error) => game_code(error),
-    }
 }

@@ -1,26 +1,26 @@
-//! The datagrams of a session's peer.
+//! The packets of a session.
 ghost use Rattle.std.specs.Prelude.{◌≡◌, ◌≤◌, ◌<◌, None, IfSome};
 ghost use Rattle.c8_peer.specs.Asked.{saying_of};
 ghost use Rattle.c8_engine.specs.Codes.{closed_code, nobody_code};
-ghost use Rattle.c8_engine.specs.Calls.{IfOpen, IsKind, HasSaid, HasSaidKind, HasRefusedToSay};
+ghost use Rattle.c8_engine.specs.Calls.{IfSession, IsKind, HasSaid, HasSaidKind, HasRefusedToSay};
 
 use crate::codes::{closed_code, nobody_code, say_code};
 use crate::handle::Handle;
 use c8_game::Player;
 use c8_peer::Kind;
 
-/// Writes the next datagram of this turn to the front of `out`, and for whom it is to `to`. Returns its length; 0 once the
-/// turn has no more, and at a closed handle.
+/// Writes the next packet of this turn to the front of `out`, and for whom it is to `to`. Returns its length; 0 once the turn
+/// has no more, and at a closed handle.
 #[unsafe(no_mangle)]
-pub extern "C" fn c8_next(handle: &mut Handle, out: &mut [u8; 174], to: &mut u8) -> u32
-    ensures same { handle.new.value ≡ handle.old.value }
-    ensures said { IfOpen handle.old.value handle.new.value (λ e f. HasSaid e to.new result out.new) }
-    ensures fits { result ≤ 174 }
+pub extern "C" fn c8_next(handle: &mut Handle, out: &mut [u8; 198], to: &mut u8) -> u32
+    ensures closed { handle.old.value ≡ None → (result ≡ 0) × (handle.new ≡ handle.old) }
+    ensures said { IfSession handle.old.value handle.new.value (λ e f. HasSaid e to.new result out.new f) }
+    ensures fits { result ≤ 198 }
 {
     if !handle.is_open() {
         return 0;
     }
-    match handle.session().engine.next_datagram(out) {
+    match handle.session().next_packet(out) {
         Some((player, size)) => {
             *to = player.number;
             size as u32
@@ -29,24 +29,23 @@ pub extern "C" fn c8_next(handle: &mut Handle, out: &mut [u8; 174], to: &mut u8)
     }
 }
 
-/// Writes a datagram of a kind to the front of `out`, and its length to `length`: 0 is a HELLO, 1 a WELCOME, 2 a DATA, 3 a
-/// FREEZE, 4 a FROZEN, 5 a CUT; the last three are about `leaver`.
+/// Writes a packet of a kind to the front of `out`, and its length to `length`: 0 is a HELLO, 1 a WELCOME, 2 a DATA, 3 a
+/// FREEZE, 4 a FROZEN, 5 a CUT; the last three are about `leaver`. The length is 0 if no packet can be sealed any more.
 #[unsafe(no_mangle)]
 pub extern "C" fn c8_say(
     handle: &mut Handle,
     to: u8,
     kind: u8,
     leaver: u8,
-    out: &mut [u8; 174],
+    out: &mut [u8; 198],
     length: &mut u32,
 ) -> u32
-    ensures same { handle.new.value ≡ handle.old.value }
-    ensures closed { handle.old.value ≡ None → result ≡ closed_code }
-    ensures said { IfOpen handle.old.value handle.new.value (λ e f.
-        result ≡ 0 → HasSaidKind e to kind leaver length.new out.new) }
-    ensures refused { IfOpen handle.old.value handle.new.value (λ e f.
-        nobody_code < result → HasRefusedToSay e to kind leaver result) }
-    ensures fits { result ≡ 0 → length.new ≤ 174 }
+    ensures closed { handle.old.value ≡ None → (result ≡ closed_code) × (handle.new ≡ handle.old) }
+    ensures said { IfSession handle.old.value handle.new.value (λ e f.
+        result ≡ 0 → HasSaidKind e to kind leaver length.new out.new f) }
+    ensures refused { IfSession handle.old.value handle.new.value (λ e f.
+        nobody_code < result → HasRefusedToSay e to kind leaver result f) }
+    ensures fits { result ≡ 0 → length.new ≤ 198 }
 {
     if !handle.is_open() {
         return closed_code();
@@ -57,9 +56,13 @@ pub extern "C" fn c8_say(
     let Some(kind) = kind_of(kind, leaver) else {
         return nobody_code();
     };
-    match handle.session().engine.peer().say(to, kind, out) {
-        Ok(size) => {
+    match handle.session().say(to, kind, out) {
+        Ok(Some(size)) => {
             *length = size as u32;
+            0
+        }
+        Ok(None) => {
+            *length = 0;
             0
         }
         Err(error) => say_code(error),

@@ -1,38 +1,78 @@
-//! Packets that are sealed with the match's secret.
-ghost use Rattle.std.specs.Prelude.{◌≡◌, ◌≢◌, ◌≤◌, ◌<◌, ◌+◌, ℕ, List, length, take};
-ghost use Rattle.c8_seal.specs.Seal.{match_key, sealed};
+//! A session with a secret.
+ghost use Rattle.std.specs.Prelude.{◌≡◌, ℕ, List, None, MatchOption};
+ghost use Rattle.c8_engine.specs.Codes.{closed_code, bad_secret_code, sealed_already_code};
+ghost use Rattle.c8_engine.specs.Calls.{IfOpen, IfSession, AreSecrets, HasSecrets};
 
-use c8_seal::{Key, LONGEST_OPEN};
+use crate::codes::{bad_secret_code, closed_code, sealed_already_code};
+use crate::handle::Handle;
+use c8_embed::Session;
+use c8_sealed::{Secret, Secrets};
 
-/// Writes the sealed packet of a datagram of at most 174 bytes to the front of `out`, with the key of the match whose secret
-/// and session these are. Returns its length, 16 more than the datagram's; 0 for a longer datagram.
+/// From now on the session sends and takes sealed packets, with the secret of the players and, if there are any bytes, that of
+/// the watchers. A session takes a secret once, after its opening and before its first packet.
 #[unsafe(no_mangle)]
-pub extern "C" fn c8_seal(
-    secret: &[u8; 32],
-    session: u64,
-    datagram: &[u8],
-    out: &mut [u8; 190],
-) -> u32
-    ensures size { length datagram.now ≤ 174 → result ≡ length datagram.now + 16 }
-    ensures sealed { length datagram.now ≤ 174
-        → take result out.new ≡ sealed (match_key secret.now session) datagram.now }
-    ensures refused { 174 < length datagram.now → (result ≡ 0) × (out.new ≡ out.old) }
+pub extern "C" fn c8_secrets(handle: &mut Handle, secret: &[u8; 32], watchers: &[u8]) -> u32
+    ensures closed { handle.old.value ≡ None → (result ≡ closed_code) × (handle.new ≡ handle.old) }
+    ensures sealed { IfSession handle.old.value handle.new.value
+        (λ e f. HasSecrets e secret.now watchers.now result f) }
 {
-    if datagram.len() > LONGEST_OPEN {
-        return 0;
+    if !handle.is_open() {
+        return closed_code();
     }
-    Key::of_match(secret, session).seal(datagram, out) as u32
+    seal_with(handle.session(), secret, watchers)
 }
 
-/// Returns how many bytes at the front of a packet are its datagram, if the packet was sealed with the key of the match whose
-/// secret and session these are; else 0.
-#[unsafe(no_mangle)]
-pub extern "C" fn c8_unseal(secret: &[u8; 32], session: u64, packet: &[u8]) -> u32
-    ensures opened { 0 < result
-        → packet.now ≡ sealed (match_key secret.now session) (take result packet.now) }
+fn seal_with(session: &mut Session, secret: &[u8; 32], watchers: &[u8]) -> u32
+    ensures { HasSecrets session.old secret.now watchers.now result session.new }
 {
-    match Key::of_match(secret, session).open(packet) {
-        Some(datagram) if datagram.len() <= LONGEST_OPEN => datagram.len() as u32,
-        _ => 0,
+    let Some(secrets) = secrets_of(secret, watchers) else {
+        return bad_secret_code();
+    };
+    if session.seal_with(&secrets) {
+        0
+    } else {
+        sealed_already_code()
+    }
+}
+
+/// The secrets of these bytes; `None` if those of the watchers are no secret, or the players'.
+fn secrets_of(secret: &[u8; 32], watchers: &[u8]) -> Option<Secrets>
+    ensures { MatchOption result
+        ((secrets : Secrets) → AreSecrets secret.now watchers.now secrets → ⊥)
+        (λ secrets. AreSecrets secret.now watchers.now secrets) }
+{
+    let players = Secret::of(secret);
+    if watchers.is_empty() {
+        return Some(Secrets {
+            players: Some(players),
+            watchers: None,
+        });
+    }
+    if watchers.len() != 32 {
+        return None;
+    }
+    let mut bytes = [0; 32];
+    bytes.copy_from_slice(watchers);
+    match Secrets::of_both(players, Secret::of(&bytes)) {
+        Ok(secrets) => Some(secrets),
+        Err(_) => None,
+    }
+}
+
+/// Returns the player whose sealed packet the last delivery took, and writes whether it is the newest of that player; 0 if
+/// it took none.
+#[unsafe(no_mangle)]
+pub extern "C" fn c8_sender(handle: &mut Handle, newest: &mut bool) -> u8
+    ensures same { handle.new.value ≡ handle.old.value }
+{
+    if !handle.is_open() {
+        return 0;
+    }
+    match handle.session().sender() {
+        Some((player, is_newest)) => {
+            *newest = is_newest;
+            player.number
+        }
+        None => 0,
     }
 }

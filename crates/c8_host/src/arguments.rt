@@ -20,8 +20,14 @@ const PORT: Argument = Argument {
 
 const JOURNAL: Argument = Argument {
     name: "journal",
-    help: "The path of the own journal, created if it is missing [default: none]",
+    help: "The path of the own journal, created if it is missing [default: beside the secret]",
     ..Argument::FILE
+};
+
+const NO_JOURNAL: Argument = Argument {
+    name: "no-journal",
+    help: "Keeps no journal: a player whose program ends cannot come back",
+    ..Argument::FLAG
 };
 
 /// The command `host`.
@@ -47,6 +53,7 @@ pub static HOST: Outline = Outline {
             ..Argument::FILE
         },
         JOURNAL,
+        NO_JOURNAL,
         HOLD,
         MUTE,
         Argument::EXPLAIN,
@@ -78,6 +85,7 @@ pub static JOIN: Outline = Outline {
             ..Argument::FILE
         },
         JOURNAL,
+        NO_JOURNAL,
         HOLD,
         MUTE,
         Argument::EXPLAIN,

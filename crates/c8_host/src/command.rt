@@ -1,14 +1,15 @@
 //! Runs `host` and `join`: each is a command line of `play` with its words filled in.
 
 use crate::addresses::{LIST, own_addresses};
-use crate::digits::{digits_in, is_secret, keep};
+use crate::digits::{digits_in, is_secret};
 use crate::inviting::{invitation, note};
+use crate::journals::journal_for;
 use c8_command::{Part, Refusal, Site, Status};
 use c8_front::{Terminals, command_of, is_explained, tell, word_of};
 use c8_game::Player;
 use c8_net::{Asked, asked_for, game_at, number_of, perform_given, refuse};
 use c8_play::{Live, PLAY, Pace, Terminal};
-use c8_secret::{make_secret, random_bytes};
+use c8_secret::{make_secret, random_bytes, write_secret};
 use clap::ArgMatches;
 use std::alloc::{AllocError, Global};
 use std::fs::File;
@@ -22,7 +23,7 @@ use std::{fs, io};
 const RATE: u8 = 60;
 
 /// The word for no journal, and for an address that is learnt.
-const NONE: &str = "-";
+pub(crate) const NONE: &str = "-";
 
 /// The refusal of digits that are no secret.
 const BAD: Refusal = Refusal {
@@ -33,13 +34,13 @@ const BAD: Refusal = Refusal {
 
 /// What a match takes beside what both commands ask for.
 #[derive(Drop)]
-struct Match {
-    player: Player,
+pub(crate) struct Match {
+    pub(crate) player: Player,
     local: String,
     remote: String,
-    room: u64,
+    pub(crate) room: u64,
     /// The path of the secret.
-    secret: String,
+    pub(crate) secret: String,
 }
 
 /// Runs `host` as the command line asks: makes the secret if it is missing, shows the invitation, and plays as player 1.
@@ -219,7 +220,7 @@ where
         let site = is_told.then_some(Site::File("standard input"));
         return Ok(Some(BAD.tell_at(site, &"not 64 hexadecimal digits", refused)?));
     }
-    match keep(rt, secret, &digits) {
+    match write_secret(rt, secret, &digits) {
         Ok(()) => Ok(None),
         Err(error) => {
             let site = is_told.then_some(Site::File(secret));
@@ -242,7 +243,8 @@ where
     W: Write,
     E: Write,
 {
-    let words = words_of(rt.alloc(), given, wanted)?;
+    let journal = journal_for(rt, given, wanted, refused)?;
+    let words = words_of(rt.alloc(), given, wanted, journal.as_str())?;
     let matches = match matches_in(rt.alloc(), words.as_slice()) {
         Ok(Ok(matches)) => matches,
         Ok(Err(error)) => return tell(&error, out, refused),
@@ -295,9 +297,10 @@ fn words_of(
     alloc: Global,
     given: &ArgMatches<'_>,
     wanted: &Match,
+    journal: &str,
 ) -> Result<Vec<String>, AllocError> {
     let mut words = Vec::new(alloc);
-    add_words(alloc, given, wanted, &mut words)?;
+    add_words(alloc, given, wanted, journal, &mut words)?;
     Ok(words)
 }
 
@@ -305,6 +308,7 @@ fn add_words(
     alloc: Global,
     given: &ArgMatches<'_>,
     wanted: &Match,
+    journal: &str,
     words: &mut Vec<String>,
 ) -> Result<(), AllocError> {
     let Match {
@@ -314,7 +318,6 @@ fn add_words(
         room,
         secret,
     } = wanted;
-    let journal = given.get_str("journal").unwrap_or(NONE);
     words.push(format!(in alloc; "play")?)?;
     words.push(format!(in alloc; "--room={room}")?)?;
     words.push(format!(in alloc; "--secret={secret}")?)?;
@@ -363,7 +366,7 @@ where
 }
 
 /// Makes the secret's file if it is missing, and draws a room of 32 bits.
-fn made<R: Files<File = File>>(rt: &R, secret: &str) -> io::Result<u64> {
+fn made<R: Files<File = File> + AllocGlobal>(rt: &R, secret: &str) -> io::Result<u64> {
     make_secret(rt, secret)?;
     let [one, two, three, four, ..] = random_bytes(rt)?;
     Ok(u64::from(u32::from_be_bytes([one, two, three, four])))

@@ -11,7 +11,10 @@ matches of this game. The room is new each time.
 The match begins once the friend is there; until then the row below the picture says for whom it waits.
 A friend in another network needs your router's address, and the router forwards the UDP port to this
 machine. Keys, screen and the rest are as in the command play; both players have 60 frames a second.
-With --journal a player whose program ends comes back with the same --journal and --room.
+
+Each player keeps a journal beside the secret, as rally.game.3735928559.1.journal: a player whose program ends
+comes back with the same line, the one who hosts with --room ROOM. If the disk is too slow for that, the
+program says so and plays without one, as with --no-journal.
 
 Refusals and exit statuses are those of the command peer; a secret that cannot be made is disk 1 Failed.";
 
@@ -23,6 +26,7 @@ digits from standard input, unseen, and keeps them in that file:
   ./c8play join games/rally.game 192.0.2.7:4001 3735928559 --secret rally.game.secret
   ./c8play join games/rally.game 192.0.2.7:4001 3735928559
 
-Keys, screen and the rest are as in the command play; both players have 60 frames a second.
+Keys, screen and the rest are as in the command play; both players have 60 frames a second. After a crash the
+same line goes on where the match was: a journal stands beside the secret, unless --no-journal.
 
 Refusals and exit statuses are those of the command peer.";

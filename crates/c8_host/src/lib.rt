@@ -1,4 +1,4 @@
-//! The commands `host` and `join`: two friends play at their keyboards, with a secret and without a journal.
+//! The commands `host` and `join`: two friends play at their keyboards, with a secret and a journal each.
 //!
 //! Both are the command `play` (c8_play) with its options filled in: `host` is player 1 and learns the friend's address,
 //! `join` is player 2. [`own_addresses`] finds the addresses that the friend may type, and [`invitation`] writes the line.
@@ -10,6 +10,7 @@ mod command;
 mod digits;
 mod help;
 mod inviting;
+mod journals;
 
 pub use addresses::own_addresses;
 pub use arguments::{HOST, JOIN};

@@ -1,7 +1,7 @@
 //! The disk of a match's journal ([`Journal`]): a file, or memory with room for a whole game.
 //!
-//! `medium` keeps the system's error if the file fails ([`Trouble`]); `syncs` measures whether a file is quick enough for a
-//! match ([`warn_of_a_slow_disk`]).
+//! `medium` keeps the system's error if the file fails ([`Trouble`]); `syncs` measures whether a disk is quick enough for a
+//! match ([`warn_of_a_slow_disk`], [`slow_record`]).
 #![tactic(auto)]
 
 mod journal;
@@ -10,4 +10,4 @@ mod syncs;
 
 pub use journal::Journal;
 pub use medium::{Medium, Trouble};
-pub use syncs::{slow_frame, warn_of_a_slow_disk};
+pub use syncs::{slow_frame, slow_record, warn_of_a_slow_disk};

@@ -1,5 +1,6 @@
 //! How long a file takes to reach the disk.
 
+use c8_log::SLOT_LENGTH;
 use std::fs::File;
 use std::io::Write;
 use std::rt::Files;
@@ -8,6 +9,12 @@ use std::{fs, io};
 
 /// How many syncs are timed.
 const TIMED: u32 = 3;
+
+/// How many syncs a record takes.
+const SYNCS_OF_RECORD: u32 = 2;
+
+/// How many milliseconds a record may take, so that a frame with two of them is not late.
+const MOST_OF_RECORD: u64 = 8;
 
 /// The most syncs of a frame in a match of two: two for each record, and one record for each player.
 const SYNCS_OF_FRAME: u32 = 4;
@@ -31,6 +38,35 @@ where
         )?;
     }
     Ok(())
+}
+
+/// Returns how many milliseconds a record takes on the disk of a new journal, if that is too long for a match, and `None`
+/// if it is not. Three are written to a new file at this path, which is removed again. The error is the system's, if the
+/// file cannot be made or written.
+pub fn slow_record<R>(rt: &R, path: &str) -> io::Result<Option<u128>>
+where
+    R: Files<File = File> + Clock,
+{
+    let file = File::options().write(true).create_new(true).open(rt, path)?;
+    let took = records_in(rt, file);
+    fs::remove_file(rt, path)?;
+    let record = took? / TIMED;
+    if record > Duration::from_millis(MOST_OF_RECORD) {
+        Ok(Some(record.as_millis()))
+    } else {
+        Ok(None)
+    }
+}
+
+/// Measures how long `TIMED` records take in a file.
+fn records_in<R: Clock>(rt: &R, file: File) -> io::Result<Duration> {
+    let mut file = file;
+    let begun = rt.monotonic()?;
+    for _ in 0..TIMED * SYNCS_OF_RECORD {
+        file.write_all(&[0; SLOT_LENGTH])?;
+        file.sync_data()?;
+    }
+    Ok(rt.monotonic()?.saturating_sub(begun))
 }
 
 /// Measures how long `TIMED` syncs of a file take, each after a change of the file's time; `None` if that fails.

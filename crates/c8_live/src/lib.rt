@@ -22,6 +22,7 @@ mod relay;
 mod rollbacks;
 mod session;
 
+pub use c8_schedule::Life;
 pub use counters::{Counters, Standing};
 pub use error::SessionError;
 pub use game::{KeySource, game_worker, open_board};

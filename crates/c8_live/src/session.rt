@@ -90,8 +90,8 @@ impl<'g, D: Disk> Session<'g, D> {
         self.schedule.counts(life);
     }
 
-    /// Returns whether the others hold inputs of this player, from this very epoch, that its journal does not have: the
-    /// journal that they came from is gone. Such a player cannot play on, and player 1 may drop it.
+    /// Returns whether the others know more of this player than its journal does: a later epoch, or more inputs. The
+    /// journal that this came from is gone. Such a player cannot play on, and player 1 may drop it.
     pub fn is_lost(&self) -> bool
         ensures { result ≡ self.now.schedule.is_lost }
     {

@@ -25,9 +25,9 @@ static FAULTS: [Fault; 4] = [
     Fault { capacity: 145, arm: Arm::Off, fails_to_send: false, fails_to_receive: false,
         error: SessionError::Disk(DiskError::Full) },
     Fault { capacity: 100_000, arm: Arm::Off, fails_to_send: true, fails_to_receive: false,
-        error: SessionError::Wire(WireFailed) },
+        error: SessionError::Wire(WireFailed::Closed) },
     Fault { capacity: 100_000, arm: Arm::Off, fails_to_send: false, fails_to_receive: true,
-        error: SessionError::Wire(WireFailed) },
+        error: SessionError::Wire(WireFailed::Closed) },
 ];
 
 fn faults() -> &'static [Fault] {
@@ -78,7 +78,7 @@ fn says_why_a_session_ended(rt: HostRuntime) -> Result<(), Fail> {
         SessionError::Disk(DiskError::Failed),
         SessionError::Disk(DiskError::Full),
     );
-    let wire = SessionError::Wire(WireFailed);
+    let wire = SessionError::Wire(WireFailed::Closed);
     let told = format!(in rt.alloc(); "{failed}; {full}; {wire}")?;
     assert!(rt;
         told.as_str()

@@ -97,6 +97,9 @@ struct Match<'g> {
     lost: u32,
     /// How many packets were sent, by sender and addressee.
     sent: [[u32; 4]; 4],
+    /// Whether the first packet to player 1, a HELLO, comes again in each round.
+    is_repeated: bool,
+    first: Option<Letter>,
     /// Whether a turn has failed.
     has_failed: bool,
 }
@@ -113,6 +116,8 @@ impl<'g> Match<'g> {
             sides,
             lost,
             sent: [[0; 4]; 4],
+            is_repeated: false,
+            first: None,
             has_failed: false,
         }
     }
@@ -129,6 +134,9 @@ impl<'g> Match<'g> {
             if place != silent {
                 self.turn(alloc, place);
             }
+        }
+        if let (Some(one), Some(letter)) = (self.sides.get_mut(0), &self.first) {
+            let _posted = one.way.post(letter);
         }
     }
 
@@ -154,6 +162,9 @@ impl<'g> Match<'g> {
         let to = place_of(to.number);
         if self.is_lost(from, to) {
             return;
+        }
+        if self.is_repeated && to == 0 && self.first.is_none() {
+            self.first = Some(*letter);
         }
         if let Some(side) = self.sides.get_mut(to) {
             let _posted = side.way.post(letter);
@@ -265,6 +276,22 @@ fn first_wrong(alloc: Global) -> Option<usize> {
 #[test]
 fn all_end_with_the_machine_of_all_rows(rt: HostRuntime) -> Result<(), Fail> {
     none_is(first_wrong(rt.alloc()))
+}
+
+/// A HELLO that is heard again in each turn holds up nobody: DATA goes beside the WELCOME that answers it.
+fn ends_beside_a_copy(alloc: Global) -> bool {
+    let Ok(game) = Game::read(alloc, TWO.as_bytes()) else {
+        return false;
+    };
+    let mut all = Match::new(alloc, &game, 0);
+    all.is_repeated = true;
+    let (finished, _) = last_rounds(alloc, &mut all);
+    finished > 0 && all.first.is_some() && all.has_ended_well(&game)
+}
+
+#[test]
+fn a_repeated_hello_holds_up_no_match(rt: HostRuntime) {
+    assert!(rt; ends_beside_a_copy(rt.alloc()));
 }
 
 /// Whether player one has not dropped player 3.

@@ -12,8 +12,8 @@ use std::test::Fail;
 const NARROW: &str =
     "players 2\nipf 10\nframes 20\ndelay 0\nwindow 2\nseed 0\nmask1 ffff\nmask2 ffff\ncode 1200\n";
 
-/// HELLO until there is a link, WELCOME in the turn in which a HELLO came, and DATA in a turn with neither. The
-/// watchers come last.
+/// HELLO until there is a link, WELCOME in the turn in which a HELLO came, and DATA as soon as there is a link, also
+/// beside a WELCOME. The watchers come last.
 #[rattlefmt::skip]
 static GREETINGS: [Step; 22] = [
     Turn("2 HELLO, 3 HELLO"),
@@ -21,10 +21,10 @@ static GREETINGS: [Step; 22] = [
     Sends(2, HELLO, 0), Turn("2 HELLO, 2 WELCOME, 3 HELLO"),
     Turn("2 HELLO, 3 HELLO"),
     Sends(2, WELCOME, 0), Turn("2 DATA, 3 HELLO"),
-    Sends(2, HELLO, 0), Turn("2 WELCOME, 3 HELLO"),
+    Sends(2, HELLO, 0), Turn("2 WELCOME, 2 DATA, 3 HELLO"),
     Sends(2, DATA, 0), Turn("2 DATA, 3 HELLO"),
-    Sends(3, HELLO, 0), Sends(3, WELCOME, 0), Sends(2, DATA, 0), Turn("2 DATA, 3 WELCOME"),
-    Sends(2, HELLO, 0), Sends(2, HELLO, 0), Sends(3, DATA, 0), Turn("2 WELCOME, 3 DATA"),
+    Sends(3, HELLO, 0), Sends(3, WELCOME, 0), Sends(2, DATA, 0), Turn("2 DATA, 3 WELCOME, 3 DATA"),
+    Sends(2, HELLO, 0), Sends(2, HELLO, 0), Sends(3, DATA, 0), Turn("2 WELCOME, 2 DATA, 3 DATA"),
     Turn("2 DATA, 3 DATA"),
     Shows(5), Turn("2 DATA, 3 DATA, 5 SHOW"),
 ];
@@ -57,7 +57,7 @@ static DROPS: [Step; 28] = [
     Sends(2, WELCOME, 0), Sends(2, HELLO, 0),
     Sends(3, WELCOME, 0), Sends(3, HELLO, 0),
     Sends(4, WELCOME, 0), Sends(4, HELLO, 0),
-    Turn("2 WELCOME, 3 WELCOME, 4 WELCOME"),
+    Turn("2 WELCOME, 2 DATA, 3 WELCOME, 3 DATA, 4 WELCOME, 4 DATA"),
     Sends(2, DATA, 0), Sends(3, DATA, 0), Turn("2 DATA, 3 DATA, 4 DATA"),
     Sends(2, DATA, 0), Sends(3, DATA, 0), Turn("2 DATA, 3 DATA, 4 DATA"),
     Sends(2, DATA, 0), Turn("2 DATA, 3 DATA, 4 DATA"),
@@ -80,7 +80,7 @@ static GIVES_UP: [Step; 12] = [
     Turn("2 HELLO, 3 HELLO"),
     Sends(2, WELCOME, 0), Sends(2, HELLO, 0),
     Sends(3, WELCOME, 0), Sends(3, HELLO, 0),
-    Turn("2 WELCOME, 3 WELCOME"),
+    Turn("2 WELCOME, 2 DATA, 3 WELCOME, 3 DATA"),
     GivesUp(3),
     Sends(3, DATA, 0), Turn("2 DATA, 2 FREEZE 3, 3 DATA"),
     Sends(2, FROZEN, 3), Turn("2 DATA, 2 CUT 3, 3 DATA, 3 CUT 3"),
@@ -92,7 +92,7 @@ static GIVES_UP_NOBODY: [Step; 8] = [
     Turn("1 HELLO, 3 HELLO"),
     Sends(1, WELCOME, 0), Sends(1, HELLO, 0),
     Sends(3, WELCOME, 0), Sends(3, HELLO, 0),
-    Turn("1 WELCOME, 3 WELCOME"),
+    Turn("1 WELCOME, 1 DATA, 3 WELCOME, 3 DATA"),
     GivesUp(3), Turn("1 DATA, 3 DATA"),
 ];
 
@@ -109,12 +109,12 @@ static STAYS: [Step; 25] = [
     Sends(1, WELCOME, 0), Sends(1, HELLO, 0),
     Sends(3, WELCOME, 0), Sends(3, HELLO, 0),
     Sends(4, WELCOME, 0), Sends(4, HELLO, 0),
-    Turn("1 WELCOME, 3 WELCOME, 4 WELCOME"),
+    Turn("1 WELCOME, 1 DATA, 3 WELCOME, 3 DATA, 4 WELCOME, 4 DATA"),
     Turn("1 DATA, 3 DATA, 4 DATA"),
     Sends(1, FREEZE, 3), Turn("1 DATA, 1 FROZEN 3, 3 DATA, 4 DATA"),
     Sends(3, DATA, 0), Turn("1 DATA, 1 FROZEN 3, 3 DATA, 4 DATA"),
     Sends(1, FREEZE, 4), Turn("1 DATA, 1 FROZEN 3, 1 FROZEN 4, 3 DATA, 4 DATA"),
-    Sends(1, HELLO, 0), Turn("1 WELCOME, 1 FROZEN 3, 1 FROZEN 4, 3 DATA, 4 DATA"),
+    Sends(1, HELLO, 0), Turn("1 WELCOME, 1 DATA, 1 FROZEN 3, 1 FROZEN 4, 3 DATA, 4 DATA"),
     Sends(1, CUT, 3), Turn("1 DATA, 1 FROZEN 4, 3 DATA, 4 DATA"),
     Sends(1, CUT, 4), Turn("1 DATA, 3 DATA, 4 DATA"),
     Turn("1 DATA, 3 DATA, 4 DATA"),
@@ -156,7 +156,7 @@ static REFUSED: [Step; 21] = [
     Repeats(4), Turn("2 DATA"),
     Repeats(2), Turn("2 DATA"),
     Repeats(0), Turn("2 DATA"),
-    Repeats(WHOLE), Turn("2 WELCOME"),
+    Repeats(WHOLE), Turn("2 WELCOME, 2 DATA"),
 ];
 
 #[test]
@@ -164,28 +164,27 @@ fn answers_no_hello_that_is_refused(rt: HostRuntime) -> Result<(), Fail> {
     follows(rt.alloc(), TWO, 1, None, &[], &REFUSED)
 }
 
-/// A silence ends with a datagram that the link admits, whatever comes after that, and with no other. It is checked
-/// after the packets of a turn are heard, and before anything is sent. Byte 26 is in the acknowledgement, 43 in the
-/// start, 4 in the session, 19 in the sender's epoch, and 2 is the version.
+/// A silence ends with a datagram that an open link takes, and with no other, HELLO neither. It is checked after the
+/// packets of a turn are heard, and before anything is sent. Byte 26 is in the acknowledgement, 43 in the start, 4 in
+/// the session, 19 in the sender's epoch, and 2 is the version.
 #[rattlefmt::skip]
-static SILENCES: [Step; 45] = [
+static SILENCES: [Step; 42] = [
     Turn("2 HELLO, 3 HELLO"),
     Sends(2, WELCOME, 0), Sends(2, HELLO, 0),
     Sends(3, WELCOME, 0), Sends(3, HELLO, 0),
-    Turn("2 WELCOME, 3 WELCOME"),
+    Turn("2 WELCOME, 2 DATA, 3 WELCOME, 3 DATA"),
     Enters(3, 0x20), Keeps(3, DATA),
     Sends(2, DATA, 0), Turn("2 DATA, 3 DATA"), Silent(3, 1),
     Sends(2, DATA, 0), Turn("2 DATA, 3 DATA"), Silent(3, 2),
-    // these two are admitted: one acknowledges too much, one leaves a gap
-    Sends(2, DATA, 0), Repeats(26), Turn("2 DATA, 3 DATA"), Silent(3, 0),
-    Sends(2, DATA, 0), Turn("2 DATA, 3 DATA"), Silent(3, 1),
-    Sends(2, DATA, 0), Turn("2 DATA, 3 DATA"), Silent(3, 2),
-    Sends(2, DATA, 0), Repeats(43), Turn("2 DATA, 3 DATA"), Silent(3, 0),
-    // these are not: from another match, from an earlier epoch, no datagram, in the other version
+    Sends(2, DATA, 0), Repeats(WHOLE), Turn("2 DATA, 3 DATA"), Silent(3, 0),
+    // acknowledges too much, leaves a gap, from another match, from an earlier epoch
+    Sends(2, DATA, 0), Repeats(26), Turn("2 DATA, 3 DATA"), Silent(3, 1),
+    Sends(2, DATA, 0), Repeats(43), Turn("2 DATA, 3 DATA"), Silent(3, 2),
+    Sends(3, DATA, 0), Turn("2 DATA, 3 DATA"), Silent(3, 0),
     Sends(2, DATA, 0), Repeats(4), Turn("2 DATA, 3 DATA"), Silent(3, 1),
     Sends(2, DATA, 0), Repeats(19), Turn("2 DATA, 3 DATA"), Silent(3, 2),
-    Sends(2, DATA, 0), Repeats(0), Turn("2 DATA, 2 FREEZE 3, 3 DATA"), Silent(3, 3),
-    Keeps(3, HELLO), Sends(2, DATA, 0), Repeats(2), Turn("2 DATA, 2 FREEZE 3, 3 DATA"), Silent(3, 4),
+    Keeps(3, HELLO),
+    Sends(2, DATA, 0), Repeats(WHOLE), Turn("2 DATA, 2 FREEZE 3, 3 WELCOME, 3 DATA"), Silent(3, 3),
 ];
 
 #[test]
@@ -199,7 +198,7 @@ fn what_is_admitted_ends_a_silence(rt: HostRuntime) -> Result<(), Fail> {
 static GIVEN: [Step; 16] = [
     Plays(None, false, "2 HELLO"), Stands(0, 0, 0),
     Sends(2, WELCOME, 0), Sends(2, HELLO, 0), Listens(""), Silent(2, 0),
-    Plays(Some(5), true, "2 WELCOME"), Stands(1, 0, 5),
+    Plays(Some(5), true, "2 WELCOME, 2 DATA"), Stands(1, 0, 5),
     Plays(None, false, "2 DATA"), Stands(1, 0, 5),
     Plays(Some(6), true, "2 DATA"), Stands(2, 0, 6),
     Plays(Some(7), false, "2 DATA"), Stands(2, 0, 6),
@@ -235,7 +234,7 @@ fn enters_a_refused_key_set_again(rt: HostRuntime) -> Result<(), Fail> {
 static PRINTED: [Step; 33] = [
     Turn("2 HELLO"),
     Sends(2, WELCOME, 0), Sends(2, HELLO, 0),
-    Turn("2 WELCOME"),
+    Turn("2 WELCOME, 2 DATA"),
     // both frames were run without the key
     Enters(2, 0x20), Sends(2, DATA, 0), Turn("2 DATA"), Prints(""),
     Turn("2 DATA"), Prints(""),

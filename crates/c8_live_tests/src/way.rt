@@ -43,17 +43,17 @@ impl Wire for Way {
 
     fn send(&mut self, to: Seat, datagram: &[u8]) -> Result<(), WireFailed> {
         if self.fails_to_send {
-            return Err(WireFailed);
+            return Err(WireFailed::Closed);
         }
         match self.sent.push((to, letter_of(datagram))) {
             Ok(()) => Ok(()),
-            Err(_) => Err(WireFailed),
+            Err(_) => Err(WireFailed::Closed),
         }
     }
 
     fn receive(&mut self, packet: &mut [u8]) -> Result<Option<usize>, WireFailed> {
         if self.fails_to_receive {
-            return Err(WireFailed);
+            return Err(WireFailed::Closed);
         }
         let Some(letter) = self.waiting.get(self.taken) else {
             return Ok(None);

@@ -12,10 +12,11 @@ use Rattle.c8_peer.specs.Opened.{bodies_found, IsOpened, IsRefusedOpening}
 use Rattle.c8_peer.specs.Peer.{PeerValue, known_by, begun_by, IsSound}
 use Rattle.c8_peer.specs.Runs.{TellsTruly}
 use Rattle.c8_peer.specs.TrueChecks.{HasTrueChecks, HasTrueLast}
-use Rattle.c8_net.specs.declared.error.PeerError.TheVariants.{Open}
+use Rattle.c8_net.specs.declared.error.PeerError.TheVariants.{Open, Lost}
 use Rattle.c8_keys.specs.declared.lines.Played.{Played}
 use Rattle.c8_live.specs.declared.error.SessionError.{SessionError}
 use Rattle.c8_live.specs.declared.error.SessionError.TheVariants as sessions
+use Rattle.c8_transport.specs.declared.error.WireFailed.TheVariants as failures
 use Rattle.c8_live.specs.Runs.{HasRunOn, IsEnd}
 use Rattle.c8_net.specs.Errors.{error_of_session, error_of_unopened}
 use Rattle.c8_net.specs.declared.error.Unopened.{Unopened}
@@ -23,15 +24,19 @@ use Rattle.c8_net.specs.declared.error.Unopened.TheVariants as unopened
 use Rattle.c8_net.specs.Match.{HasEnded, HasPlayed, HasFailed}
 
 module _ {D : Type 0} (g : Ghosts D) (disk : D) (rules : Rules) (room me : ℕ) where
-  -- the session's peer is the one that was opened
-  pub session_failed : (peer first last : PeerValue D) (error : SessionError) → IsOpened g disk rules room me peer → first ≡ peer → IsEnd g first last error → HasFailed g disk rules room me (error_of_session error)
-  session_failed peer first last (sessions.Disk why) opened same end = (first, last, subst (IsOpened g disk rules room me) (sym same) opened, end)
-  session_failed peer first last (sessions.Wire failed) opened same end = tt
+  -- a session that ended before its last turn has failed; its peer is the one that was opened
+  pub session_failed : (peer first last : PeerValue D) (error : SessionError) → IsOpened g disk rules room me peer → first ≡ peer → HasRunOn g first last → IsEnd g first last error → HasFailed g disk rules room me (error_of_session error)
+  session_failed peer first last (sessions.Disk why) opened same ran end = (first, last, subst (IsOpened g disk rules room me) (sym same) opened, end)
+  session_failed peer first last (sessions.Wire failures.Closed) opened same ran end = (first, last, subst (IsOpened g disk rules room me) (sym same) opened, ran)
+  session_failed peer first last (sessions.Wire failures.Spent) opened same ran end = (first, last, subst (IsOpened g disk rules room me) (sym same) opened, ran)
 
-  -- a session that ended before its last turn has failed
   pub ended_failed : (peer first last : PeerValue D) (turns : Result ℕ SessionError) (error : SessionError) → IsOpened g disk rules room me peer → first ≡ peer → HasEnded g first last turns → turns ≡ Err error → HasFailed g disk rules room me (error_of_session error)
   ended_failed peer first last turns error opened same ended is =
-      session_failed peer first last error opened same (subst (λ (t : Result ℕ SessionError). IfErr t (IsEnd g first last)) is ended.end)
+      session_failed peer first last error opened same ended.ran (subst (λ (t : Result ℕ SessionError). IfErr t (IsEnd g first last)) is ended.end)
+
+  -- a session whose journal was lost
+  pub lost_failed : (peer first last : PeerValue D) (turns : Result ℕ SessionError) → IsOpened g disk rules room me peer → first ≡ peer → HasEnded g first last turns → HasFailed g disk rules room me Lost
+  lost_failed peer first last turns opened same ended = (first, last, subst (IsOpened g disk rules room me) (sym same) opened, ended.ran)
 
   -- an opening that is refused
   pub not_opened : (error : OpenError) (left : D) → IsRefusedOpening g disk rules room me error left → HasFailed g disk rules room me (Open error)
@@ -42,10 +47,10 @@ module _ {D : Type 0} (g : Ghosts D) (disk : D) (rules : Rules) (room me : ℕ) 
   opened_still peer now same opened = subst (IsOpened g disk rules room me) (sym same) opened
 
   -- after the opening, memory, the socket or a thread is missing
-  pub unopened_failed : (peer : PeerValue D) (error : Unopened) → IsOpened g disk rules room me peer → HasFailed g disk rules room me (error_of_unopened error)
-  unopened_failed peer unopened.Memory opened = inr (refl, peer, opened)
-  unopened_failed peer (unopened.Socket why) opened = tt
-  unopened_failed peer unopened.Thread opened = (peer, opened)
+  pub unopened_failed : ((p : PeerValue D) → HasRunOn g p p) → (peer : PeerValue D) (error : Unopened) → IsOpened g disk rules room me peer → HasFailed g disk rules room me (error_of_unopened error)
+  unopened_failed still peer unopened.Memory opened = inr (refl, peer, opened)
+  unopened_failed still peer (unopened.Socket why) opened = (peer, peer, opened, still peer)
+  unopened_failed still peer unopened.Thread opened = (peer, opened)
 
   -- c8_live's laws: a machine still begins where it did; true checkpoints stay true, and show the serial run
   abbrev pub BeginsThere : Type 0

@@ -10,11 +10,10 @@ use Rattle.c8_refusals.specs.declared.error.OpenError.TheVariants as openings
 use Rattle.c8_live.specs.declared.error.SessionError.{SessionError}
 use Rattle.c8_live.specs.declared.error.SessionError.TheVariants as sessions
 use Rattle.c8_net.specs.declared.error.PeerError.{PeerError}
-use Rattle.c8_net.specs.declared.error.PeerError.TheVariants.{Game, Secret, Keys, Open, Disk, Socket}
+use Rattle.c8_net.specs.declared.error.PeerError.TheVariants.{Game, Secret, Keys, Open, Disk, Socket, Lost}
 use Rattle.c8_sealed.specs.Errors.{secret_error_number}
-use Rattle.c8_udp.specs.Errors.{socket_error_number}
+use Rattle.c8_udp.specs.Errors.{socket_error_number, fault_of_wire}
 use Rattle.c8_udp.specs.declared.error.SocketError.TheVariants as sockets
-use Rattle.c8_udp.specs.declared.error.SocketFault.TheVariants as faults
 use Rattle.c8_net.specs.declared.error.Unopened.{Unopened}
 use Rattle.c8_net.specs.declared.error.Unopened.TheVariants as unopened
 
@@ -43,6 +42,7 @@ peer_part (Keys error) = parts.Keys
 peer_part (Open error) = opening_part error
 peer_part (Disk error) = parts.Disk
 peer_part (Socket error) = parts.Socket
+peer_part Lost = parts.Open
 
 abbrev pub peer_error_number : PeerError → ℕ
 peer_error_number (Game error) = games.number_of error
@@ -51,11 +51,12 @@ peer_error_number (Keys error) = keys_error_number error
 peer_error_number (Open error) = opening_number error
 peer_error_number (Disk error) = disks.disk_number_of error
 peer_error_number (Socket error) = socket_error_number error
+peer_error_number Lost = 7
 
 -- the error of a session that the disk or the wire ended
 abbrev pub error_of_session : SessionError → PeerError
 error_of_session (sessions.Disk error) = Disk error
-error_of_session (sessions.Wire failed) = Socket (sockets.Failed faults.Closed)
+error_of_session (sessions.Wire failed) = Socket (sockets.Failed (fault_of_wire failed))
 
 -- the error of a session for which memory, the socket or a thread is missing
 abbrev pub error_of_unopened : Unopened → PeerError

@@ -21,7 +21,7 @@ use Rattle.c8_spectator.specs.Watching.{WatchValue, first_watch}
 use Rattle.c8_transport.specs.declared.wire.Wire.{Ghosts as WireGhosts}
 use Rattle.c8_watch.specs.Turns.{AreTurns}
 use Rattle.c8_net.specs.declared.error.PeerError.{PeerError}
-use Rattle.c8_net.specs.declared.error.PeerError.TheVariants.{Game, Secret, Keys, Open, Disk, Socket}
+use Rattle.c8_net.specs.declared.error.PeerError.TheVariants.{Game, Secret, Keys, Open, Disk, Socket, Lost}
 use Rattle.c8_udp.specs.declared.error.SocketError.TheVariants as sockets
 
 -- ---- before the journal is opened
@@ -34,6 +34,7 @@ IsNoKeys input (Keys error) = IfSome input (λ text. IsFaultOfSets text error)
 IsNoKeys input (Open error) = ⊥
 IsNoKeys input (Disk why) = why ≡ disks.Failed
 IsNoKeys input (Socket error) = ⊥
+IsNoKeys input Lost = ⊥
 
 -- Why a match of this many players cannot begin, in this order: a wrong number of addresses of other players; a refused
 -- address, which is not named; a fault of standard input.
@@ -47,6 +48,7 @@ IsNoMatch players input remotes (Socket sockets.Address) = remotes + 1 ≡ playe
 IsNoMatch players input remotes (Keys error) = (remotes + 1 ≡ players) × IsNoKeys input (Keys error)
 IsNoMatch players input remotes (Disk why) = (remotes + 1 ≡ players) × IsNoKeys input (Disk why)
 IsNoMatch players input remotes (Open error) = ⊥
+IsNoMatch players input remotes Lost = ⊥
 
 -- ---- in threads
 
@@ -75,19 +77,24 @@ module _ {D : Type 0} (g : Ghosts D) (disk : D) (rules : Rules) (room me : ℕ) 
   abbrev pub IsWithoutRoom : OpenError → Type 0
   IsWithoutRoom error = (error ≡ opens.Memory) × (first : PeerValue D) × IsOpened g disk rules room me first
 
+  -- the journal was opened, and the peer ran on
+  abbrev pub HasRunFirst : Type 0
+  HasRunFirst = (first : PeerValue D) × (last : PeerValue D) × IsOpened g disk rules room me first × HasRunOn g first last
+
   -- Why a match ended early: the journal's opening was refused; or memory for the rest ran out; or the peer ran on
-  -- until its disk failed and refused a record; or the system started no thread, so that only the journal was opened.
-  -- Nothing is claimed for a socket that failed.
+  -- until its disk failed and refused a record; or the system started no thread, so that only the journal was opened; or
+  -- the peer ran on until the socket failed, or until the journal turned out to lack what the others hold.
   abbrev pub HasFailed : PeerError → Type 0
   HasFailed (Game error) = ⊥
   HasFailed (Secret error) = ⊥
   HasFailed (Keys error) = ⊥
   HasFailed (Open error) = ((left : D) × IsRefusedOpening g disk rules room me error left) ⊎ IsWithoutRoom error
   HasFailed (Disk why) = (first : PeerValue D) × (last : PeerValue D) × IsOpened g disk rules room me first × IsStopped g first last why
-  HasFailed (Socket (sockets.Failed why)) = Unit {0}
+  HasFailed (Socket (sockets.Failed why)) = HasRunFirst
   HasFailed (Socket sockets.Thread) = (first : PeerValue D) × IsOpened g disk rules room me first
   HasFailed (Socket sockets.Remotes) = ⊥
   HasFailed (Socket sockets.Address) = ⊥
+  HasFailed Lost = HasRunFirst
 
 -- ---- watching
 

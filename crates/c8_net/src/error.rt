@@ -35,7 +35,13 @@ pub enum PeerError {
     /// The addresses have a fault, the socket failed, or the system starts no thread.
     #[error("{0}")]
     Socket(SocketError),
+    /// The others know more of this player than its journal does: the journal that this came from is gone.
+    #[error("the others hold inputs that this journal does not have")]
+    Lost,
 }
+
+/// The number and the name of `Lost`, among the refusals of an opening.
+const LOST: (u8, &str) = (7, "Lost");
 
 /// Why a match cannot be played once its journal is open.
 #[derive(Clone, Copy, Debug, PartialEq, Eq)]
@@ -68,7 +74,9 @@ impl From<SessionError> for PeerError {
     fn from(error: SessionError) -> PeerError {
         match error {
             SessionError::Disk(error) => PeerError::Disk(error),
-            SessionError::Wire(_) => PeerError::Socket(SocketError::Failed(SocketFault::Closed)),
+            SessionError::Wire(failed) => PeerError::Socket(SocketError::Failed(SocketFault::from(
+                failed,
+            ))),
         }
     }
 }
@@ -86,6 +94,7 @@ impl From<PeerError> for Refusal {
             }
             PeerError::Open(error) => (Part::Open, error.number(), error.name()),
             PeerError::Socket(error) => (Part::Socket, error.number(), error.name()),
+            PeerError::Lost => (Part::Open, LOST.0, LOST.1),
         };
         Refusal { part, number, name }
     }

@@ -141,8 +141,11 @@ impl<'a> Fault<'a> {
             PeerError::Keys(KeysError::Line) => key_sets_site(text),
             PeerError::Socket(SocketError::Address) => address_site(no_address),
             PeerError::Socket(_) | PeerError::Open(OpenError::Memory) => Site::Nowhere,
-            PeerError::Keys(_) | PeerError::Secret(_) | PeerError::Open(_) | PeerError::Disk(_) =>
-                Site::File(file),
+            PeerError::Keys(_)
+            | PeerError::Secret(_)
+            | PeerError::Open(_)
+            | PeerError::Disk(_)
+            | PeerError::Lost => Site::File(file),
         }
     }
 }

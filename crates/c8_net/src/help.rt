@@ -18,10 +18,10 @@ match needs a --room that no match before it had; the others may have journals.
 
 Packets are taken from the addresses of the players and watchers alone; --progress counts others. Who can
 send from such an address can forge packets. With --secret FILE, the same for all players, packets are
-sealed, and what does not open is dropped and counted:
+sealed, each counts once, and what does not open or came before is dropped and counted:
   umask 077; ./c8play secret > match.secret
 FILE has 64 hexadecimal digits. Then - may stand for a REMOTE or a watcher's ADDR: the address is learnt from
-the first packet of that player. Of each two players one has to name the other. A secret and room serve one
+the newest packet of that player. Of each two players one has to name the other. A secret and room serve one
 set of journals: new journals, new --room.
 
 Player 1 shows the match to its watchers: each gets the confirmed key sets, and reports how many it
@@ -41,7 +41,7 @@ Refusals, each one line on standard error, as 'refused: game 5 Hex':
   open 5 Memory       out of memory at the start
   disk 1 Failed       a file that cannot be read or written, or a text above 16777216 bytes
   disk 2 Full         the journal is at its greatest length, 1073741824 bytes
-  socket 1 Failed     the socket cannot be opened, or was closed
+  socket 1 Failed     the socket cannot be opened, or was closed, or 4294967295 packets were sealed
   socket 2 Remotes    not one REMOTE for each other player; watchers and --secret without --watch-secret
   socket 3 Address    an address that is not written as 127.0.0.1:4001; another player's or a
                       watcher's with port 0, or of another IP version than LOCAL; - without --secret
@@ -71,7 +71,7 @@ Refusals, each one line on standard error, as 'refused: game 5 Hex':
   secret 1 Bad        a secret that is not 64 hexadecimal digits and at most one line feed
   open 5 Memory       out of memory at the start
   disk 1 Failed       a file that cannot be read, or a text above 16777216 bytes
-  socket 1 Failed     the socket cannot be opened, or was closed
+  socket 1 Failed     the socket cannot be opened, or was closed, or 4294967295 packets were sealed
   socket 3 Address    an address that is not written as 127.0.0.1:4001; or a REMOTE with port 0, or
                       of another IP version than LOCAL
   socket 4 Thread     the system starts no more threads

@@ -25,7 +25,7 @@ pub use arguments::{Asked, PEER, asked_for, number_of};
 pub use command::{peer, peer_given, perform, perform_given, refuse};
 pub use error::{PeerError, Unopened};
 pub use fault::{Fault, game_at};
-pub use line::Line;
+pub use line::{Line, sealer_of};
 pub use pace::Pace;
 pub use performance::{Ended, Performance};
 pub use play::{Prepared, Unprepared, perform_on, play_on, prepare};

@@ -1,7 +1,9 @@
 //! The wire to the other players and the watchers.
 
 use crate::error::Unopened;
-use c8_sealed::Seal;
+use c8_disk::Disk;
+use c8_live::Session;
+use c8_sealed::{Counters, Seal, Sealer};
 use c8_udp::{Addresses, Bell, PolledUdp, SocketFault, Udp};
 use std::io::ErrorKind;
 use std::net::Net;
@@ -26,7 +28,7 @@ impl Line {
     }
 
     /// Opens the socket as a wire that can wait, with its bell.
-    pub(crate) fn open_polled<R>(&self, rt: &R) -> Result<(PolledUdp, Bell), Unopened>
+    pub(crate) fn open_polled<'r, R>(&self, rt: &'r R) -> Result<(PolledUdp<'r, R>, Bell), Unopened>
     where
         R: Net + AllocGlobal,
     {
@@ -40,4 +42,9 @@ impl Line {
             Err(error) => Err(Unopened::Socket(SocketFault::of(&error))),
         }
     }
+}
+
+/// Returns the sealer of a player's packets, with the counters of the epoch that its session is in.
+pub fn sealer_of<D: Disk>(seal: Seal, session: &Session<'_, D>) -> Sealer {
+    Sealer::new(seal, Counters::of_epoch(session.peer().epoch()))
 }

@@ -23,6 +23,11 @@ pub struct Ended<'g, D: Disk> {
 }
 
 impl<'g, D: Disk> Ended<'g, D> {
+    /// Returns whether the session ended because the others know more of this player than its journal does.
+    pub(crate) fn is_lost(&self) -> bool {
+        self.turns.is_ok() && self.session.is_lost()
+    }
+
     /// Adds the result of the net thread: if its wire failed, that ended the session.
     pub(crate) fn after(self, moved: Result<(), WireFailed>) -> Ended<'g, D>
         ensures { (first : PeerValue D) → HasEnded D.Disk first self.entry.session.peer self.entry.turns

@@ -11,15 +11,15 @@ ghost use Rattle.c8_net.specs.Match.{IsNoKeys, IsNoMatch, HasEnded, HasPlayed, H
 use crate::arguments::Asked;
 use crate::error::{PeerError, Unopened};
 use crate::key_list::KeyList;
-use crate::line::Line;
+use crate::line::{Line, sealer_of};
 use crate::performance::{Ended, Performance};
 use crate::stage::Stage;
 use c8_command::{TextError, text_of};
 use c8_disk::{Disk, DiskError};
 use c8_game::{Game, Keys, Player};
 use c8_keys::{KeysError, Played, key_sets};
-use c8_live::laws::{machines_begin_where_they_did, true_checks_show_the_serial_run};
-use c8_live::{Session, tell_end};
+use c8_live::laws::{machines_begin_where_they_did, peers_run_on, true_checks_show_the_serial_run};
+use c8_live::{Life, Session, tell_end};
 use c8_peer::{OpenError, Peer};
 use c8_sealed::{Seal, Sealed};
 use c8_udp::{Addresses, Bell, MOST_WATCHERS, PolledUdp};
@@ -132,6 +132,7 @@ where
     ensures refused { IfErr result
         (HasFailed D.Disk disk it.game asked.now.room asked.now.player.number) }
 {
+    peers_run_on::<D>();
     let Prepared { game, line, keys } = it;
     let peer = match Peer::open(rt.alloc(), disk, &game, asked.player, asked.room) {
         Ok(peer) => peer,
@@ -144,7 +145,8 @@ where
         Ok(wire) => wire,
         Err(error) => return Err(PeerError::from(error)),
     };
-    let session = session_of(peer, &game, asked);
+    let mut session = session_of(peer, &game, asked);
+    session.counts(Life::Admitted);
     let keys = KeyList::new(keys);
     match play_over(rt, asked, stage, session, keys, wire, line.seal, progress) {
         Ok(ended) => outcome_of(asked, ended, progress),
@@ -159,7 +161,7 @@ fn play_over<'g, R, D, E>(
     stage: Stage,
     session: Session<'g, D>,
     keys: KeyList,
-    wire: (PolledUdp, Bell),
+    wire: (PolledUdp<'_, R>, Bell),
     seal: Option<Seal>,
     progress: &mut E,
 ) -> Result<Ended<'g, D>, Unopened>
@@ -175,7 +177,7 @@ where
     match seal {
         None => stage.play(rt, asked, session, keys, (udp, bell), progress),
         Some(seal) => {
-            let sealed = Sealed::over(rt, udp, seal);
+            let sealed = Sealed::over(udp, sealer_of(seal, &session));
             stage.play(rt, asked, session, keys, (sealed, bell), progress)
         }
     }
@@ -200,6 +202,7 @@ where
     ensures refused { IfErr result
         (HasFailed D.Disk disk it.game asked.now.room asked.now.player.number) }
 {
+    peers_run_on::<D>();
     let Prepared { game, line, .. } = it;
     let peer = match Peer::open(rt.alloc(), disk, &game, asked.player, asked.room) {
         Ok(peer) => peer,
@@ -207,6 +210,7 @@ where
     };
     let session = session_of(peer, &game, asked);
     match performance.perform(rt, asked, line, &game, session, progress) {
+        Ok(ended) if ended.is_lost() => Err(PeerError::Lost),
         Ok(ended) => outcome_of(asked, ended, progress),
         Err(error) => Err(PeerError::from(error)),
     }

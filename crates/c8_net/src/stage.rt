@@ -12,7 +12,8 @@ use c8_disk::Disk;
 use c8_game::Game;
 use c8_inlet::{Putter, Taker, inlet};
 use c8_live::{
-    Counters, KeySource, PLACES, Progress, Relay, Session, game_worker, net_worker, open_board,
+    Counters, KeySource, PLACES, Progress, Relay, Session, Standing, game_worker, net_worker,
+    open_board,
 };
 use c8_peer::Peer;
 use c8_transport::{Wire, WireFailed, Worker};
@@ -252,7 +253,7 @@ fn move_packets<R: Clock + Wait, W: Wire + Drop>(
 }
 
 /// Runs the viewer's thread until the game thread has ended. It asks for the end once the frames of `--stop` are
-/// confirmed. With `--progress` it prints the progress.
+/// confirmed. With `--progress` it prints the progress, and a line at the end if packets were turned away, with all counts.
 fn watch<R: Clock + Wait, E: Write>(
     rt: &R,
     asked: &Asked<'_, '_>,
@@ -274,6 +275,15 @@ fn watch<R: Clock + Wait, E: Write>(
         }
         thread::sleep(rt, Duration::from_millis(VIEWER_PAUSE));
     }
+    let standing = shared.counters.take();
+    if asked.progress && has_turned_away(&standing) {
+        let _ = told.tell_last(progress, now(rt), onlooker.look(None), &standing);
+    }
+}
+
+/// Whether packets came from elsewhere, were not sealed, or had come before.
+fn has_turned_away(standing: &Standing) -> bool {
+    standing.foreign > 0 || standing.unsealed > 0 || standing.repeated > 0
 }
 
 impl<'b> Onlooker<'b> {

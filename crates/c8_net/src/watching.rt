@@ -25,7 +25,7 @@ use c8_front::Terminals;
 use c8_game::Game;
 use c8_keys::{Played, write_report};
 use c8_peer::OpenError;
-use c8_sealed::{Seal, Sealed};
+use c8_sealed::{Counters, Seal, Sealed, Sealer};
 use c8_secret::warn_of_readers;
 use c8_spectator::Spectator;
 use c8_transport::Wire;
@@ -41,7 +41,7 @@ use std::net::Net;
 use std::rt::Files;
 use std::sync::Wait;
 use std::thread::Threads;
-use std::time::Clock;
+use std::time::{Clock, SystemTime};
 
 /// Runs `watch` as the command line asks. `--screen` is refused unless standard output is a terminal. The error is a
 /// writer's.
@@ -135,9 +135,23 @@ where
     match line.open(rt) {
         Ok(wire) => match line.seal {
             None => watch_on(rt, asked, game, wire, out),
-            Some(seal) => watch_on(rt, asked, game, Sealed::over(rt, wire, seal), out),
+            Some(seal) => {
+                let sealer = Sealer::new(seal, Counters::of_time(millis(rt)));
+                watch_on(rt, asked, game, Sealed::over(wire, sealer), out)
+            }
         },
         Err(fault) => Err(PeerError::Socket(SocketError::Failed(fault))),
+    }
+}
+
+/// Returns the system's time in milliseconds since 1970; 0 if it cannot be read.
+fn millis<R: Clock>(rt: &R) -> u64 {
+    let Ok(now) = SystemTime::now(rt) else {
+        return 0;
+    };
+    match now.duration_since(SystemTime::UNIX_EPOCH) {
+        Ok(since) => u64::try_from(since.as_millis()).unwrap_or(u64::MAX),
+        Err(_) => 0,
     }
 }
 
@@ -167,8 +181,8 @@ where
     let Ok((spectator, turns)) = stage.watch(rt, asked, spectator, wire, out) else {
         return Err(PeerError::Socket(SocketError::Thread));
     };
-    if turns.is_err() {
-        return Err(PeerError::Socket(SocketError::Failed(SocketFault::Closed)));
+    if let Err(failed) = turns {
+        return Err(PeerError::Socket(SocketError::Failed(SocketFault::from(failed))));
     }
     Ok(Played {
         frames: spectator.count(),

@@ -5,4 +5,5 @@ mod errors;
 mod flood;
 mod learning;
 mod loss;
+mod notes;
 mod sockets;

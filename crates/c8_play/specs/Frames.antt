@@ -82,7 +82,9 @@ abbrev pub IsEnough : {D : Type 0} → Option ℕ → PeerValue D → Type 0
 IsEnough None p = ⊥
 IsEnough (Some enough) p = enough ≤ confirmed (known_by p)
 
--- why a match ended: all its turns are made, its session is over, enough frames are confirmed, or the person has left
+-- why a match ended: all its turns are made, its session is over, enough frames are confirmed, the person has left, or the
+-- journal was lost
 abbrev pub IsEndOfPlay : {D C : Type 0} → Asked → ℕ → Session D → Desk C → Type 0
 IsEndOfPlay asked made session desk =
     (made ≡ asked.turns) ⊎ IsOver session ⊎ IsEnough asked.stop session.peer ⊎ (desk.has_left ≡ true)
+    ⊎ (session.schedule.is_lost ≡ true)

@@ -27,8 +27,11 @@ Alone, and two players, each in a terminal of their own:
   ./c8play play games/rally.game 2 two.journal 127.0.0.1:4002 127.0.0.1:4001
 
 In each frame the journal takes at most two records for each player, and each record waits for the disk
-twice; a line before the match says if this disk is too slow for that. With - in the place of JOURNAL and a new --room nothing is written, and no frame waits for a disk;
-a player whose program ends cannot come back.
+twice; a line before the match says if this disk is too slow for that. With - in the place of JOURNAL and a
+new --room nothing is written, and no frame waits for a disk; a player whose program ends cannot come back.
+A player that starts again without its journal cannot play on: the others hold inputs that it does not have.
+The row says so, and after three seconds the command ends.
 
 A turn is a frame; --rate says how many are made a second. The other options, the refusals and the exit
-statuses are those of the command peer; standard input is not read.";
+statuses are those of the command peer, and one more refusal; standard input is not read:
+  open 7 Lost         the others hold inputs that the journal does not have";

@@ -17,7 +17,7 @@ use c8_disk::Disk;
 use c8_game::{Game, Player};
 use c8_live::laws::{hearings_join, peers_run_on};
 use c8_live::{Session, SessionError};
-use c8_net::{Asked, Ended, Line, Performance, Unopened};
+use c8_net::{Asked, Ended, Line, Performance, Unopened, sealer_of};
 use c8_peer::Peer;
 use c8_sealed::Sealed;
 use c8_transport::{Losses, Wire};
@@ -25,6 +25,9 @@ use std::io;
 use std::io::Write;
 use std::net::Net;
 use std::time::Clock;
+
+/// For how many seconds the row says that the journal was lost, before the program ends.
+const LOST_SECONDS: u16 = 3;
 
 /// How often a peer listens before a frame at most, so that a flood of packets cannot stop the game.
 const MOST_RESTS: u16 = 1000;
@@ -56,7 +59,7 @@ impl<C: Console + Drop> Performance for Live<C> {
         match line.seal {
             None => Ok(play_over(udp, desk, session, game, pace.rate, asked, progress)),
             Some(seal) => {
-                let sealed = Sealed::over(rt, udp, seal);
+                let sealed = Sealed::over(udp, sealer_of(seal, &session));
                 Ok(play_over(sealed, desk, session, game, pace.rate, asked, progress))
             }
         }
@@ -100,11 +103,12 @@ pub(crate) fn tell_lateness<E: Write>(out: &mut E, lateness: &Lateness) -> io::R
     )
 }
 
-/// Writes how many packets came from elsewhere, and how many were not sealed, if any were.
+/// Writes how many packets came from elsewhere, were not sealed, and had come before, if any did.
 fn tell_turned_away<E: Write>(out: &mut E, losses: Losses) -> io::Result<()> {
     let Losses {
         foreign,
         unsealed,
+        repeated,
         ..
     } = losses;
     if foreign > 0 {
@@ -113,13 +117,16 @@ fn tell_turned_away<E: Write>(out: &mut E, losses: Losses) -> io::Result<()> {
     if unsealed > 0 {
         writeln!(out, "{unsealed} packets not sealed")?;
     }
+    if repeated > 0 {
+        writeln!(out, "{repeated} packets seen before")?;
+    }
     Ok(())
 }
 
 /// Plays a session of this game at a desk, one turn a frame. It ends when the session is over, its turns are made,
-/// `--stop` frames are confirmed, or the person leaves. Between two frames the peer listens. A player that was ahead
-/// for a second, `rate` frames, leaves out a tick. Returns how many turns were made. The error is the disk's or the
-/// wire's.
+/// `--stop` frames are confirmed, the person leaves, or three seconds after it showed that the journal was lost. Between
+/// two frames the peer listens. A player that was ahead for a second, `rate` frames, leaves out a tick. Returns how many
+/// turns were made. The error is the disk's or the wire's.
 pub fn play_frames<D: Disk, W: Wire, C: Console>(
     session: &mut Session<'_, D>,
     wire: &mut W,
@@ -142,9 +149,16 @@ pub fn play_frames<D: Disk, W: Wire, C: Console>(
     let mut status = StatusRow::new(desk.now(), asked.player, session.peer().players());
     status.begin(Chime::new(asked.is_muted));
     let mut made: u64 = 0;
+    let mut lost: u16 = 0;
     for turn in 0..asked.turns {
         if session.is_over() || is_enough(session.peer(), asked.stop) || desk.has_left() {
             break;
+        }
+        if session.is_lost() {
+            if lost >= LOST_SECONDS * u16::from(rate) {
+                break;
+            }
+            lost += 1;
         }
         wait(session, wire, desk, &status)?;
         play_frame(session, wire, desk, &mut lead, &mut status)?;
@@ -261,6 +275,9 @@ fn show<D: Disk, C: Console>(
     ensures peer { session.new.peer ≡ session.old.peer }
 {
     let waits = waited_for(session, entry);
+    if session.is_lost() {
+        status.lose();
+    }
     if desk.take_spoilt() {
         status.forget();
     }

@@ -56,6 +56,8 @@ pub struct StatusRow {
     gauge: Gauge,
     /// How many packets were not sealed with the key of the match.
     unsealed: u64,
+    /// Whether the journal lacks inputs that the others hold.
+    is_lost: bool,
     numbers: Numbers,
     /// The player that one more control-D drops.
     asked: Option<Player>,
@@ -77,6 +79,7 @@ impl StatusRow {
             counters: Counters::new(),
             gauge: Gauge::new(now, now),
             unsealed: 0,
+            is_lost: false,
             numbers: Numbers::default(),
             asked: None,
             chime: Chime::new(true),
@@ -99,6 +102,11 @@ impl StatusRow {
     /// Notes what the wire has turned away so far.
     pub fn turn_away(&mut self, losses: Losses) {
         self.unsealed = losses.unsealed;
+    }
+
+    /// Says from now on that the journal lacks inputs that the others hold.
+    pub fn lose(&mut self) {
+        self.is_lost = true;
     }
 
     /// Notes the last turn of a session, or what it has just heard.
@@ -134,6 +142,7 @@ impl StatusRow {
     /// `423/421  waits for 2  2: 16 ms  back 3, longest 5`. Its parts, in this order:
     ///
     /// - how many frames are ticked and confirmed;
+    /// - `your journal lacks inputs that the others hold`, and then nothing else, if that is so;
     /// - `the machines differ`, while the alarm stands;
     /// - the player for whom the match waits, with whole seconds of its silence, as `waits for 2: 12 s`; this part
     ///   changes at once, and tells player 1 how to drop the player. If no datagram of that player ever came, it says
@@ -194,6 +203,9 @@ impl StatusRow {
             is_alarmed,
         } = self.numbers;
         write!(out, "{ticked}/{confirmed}")?;
+        if self.is_lost {
+            return write!(out, "  your journal lacks inputs that the others hold");
+        }
         if is_alarmed {
             write!(out, "  the machines differ")?;
         }

@@ -96,6 +96,7 @@ fn tells(status: &mut StatusRow, look: &Look, wanted: &[u8]) -> bool {
         lost: 0,
         foreign: 0,
         unsealed: 0,
+        repeated: 0,
     };
     let now = Duration::from_millis(look.millis);
     let waits = look.waits.and_then(Player::new);
@@ -185,9 +186,8 @@ fn are_first_words() -> bool {
     let mut last: &[u8] = &[];
     for (millis, heard, unsealed, wanted) in &FIRST_WORDS {
         status.turn_away(Losses {
-            lost: 0,
-            foreign: 0,
             unsealed: *unsealed,
+            ..Losses::default()
         });
         let standing = Standing {
             ticked: 0,
@@ -198,6 +198,7 @@ fn are_first_words() -> bool {
             lost: 0,
             foreign: 0,
             unsealed: 0,
+            repeated: 0,
         };
         let row = status.row_of(Duration::from_millis(*millis), 0, &standing, Player::new(2));
         if row != if *wanted == last { &[] } else { *wanted } {

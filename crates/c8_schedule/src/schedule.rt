@@ -94,13 +94,11 @@ impl Schedule {
         if is_hello && answer.is_ok() {
             self.greeters[sender.place()] = true;
         }
-        self.is_lost |= is_of_match(answer)
-            && header.addressee_epoch() == peer.epoch()
-            && acknowledged(datagram) > peer.count(peer.me());
+        self.is_lost |= is_of_match(answer) && shows_a_loss(peer, datagram);
     }
 
-    /// Whether the others hold inputs of this player, from this very epoch, that its journal does not have: the journal
-    /// that they came from is gone.
+    /// Whether the others know more of this player than its journal does: a later epoch, or more inputs. So the journal
+    /// that this came from is gone.
     pub fn is_lost(&self) -> bool
         ensures { result ≡ self.now.is_lost }
     {
@@ -207,6 +205,13 @@ fn round<D: Disk>(peer: &Peer<'_, D>, to: Player, leaver: Player) -> Option<Kind
     } else {
         None
     }
+}
+
+/// Whether a datagram to a peer names a later epoch of it than its own, or acknowledges more inputs in this one than it
+/// has. Both are recorded before anything of them is sent.
+fn shows_a_loss<D: Disk>(peer: &Peer<'_, D>, datagram: &Datagram<'_>) -> bool {
+    let (named, own) = (datagram.header().addressee_epoch(), peer.epoch());
+    named > own || (named == own && acknowledged(datagram) > peer.count(peer.me()))
 }
 
 /// How many inputs of its addressee a datagram acknowledges.

@@ -1,13 +1,13 @@
 -- What is before the seal of a packet, and that what is sealed opens.
-use Rattle.std.proofs.Common.{inl, inr, ◌≡◌, ◌≢◌, ◌≤◌, ◌<◌, ◌^◌, ℕ, ◌+◌, ◌-◌, Bool, true, false, List, [], ◌∷◌, ◌++◌, length, take, drop, flat_map, bytes_eq, Option, None, Some, if◌then◌else◌, refl, sym, ap, ◌∙◌, subst, append_assoc, arith}
-use Rattle.std.proofs.lemmas.List.{append-nil, length-append}
+use Rattle.std.proofs.Common.{inl, inr, ◌≡◌, ◌≢◌, ◌≤◌, ◌<◌, ◌^◌, ℕ, ◌+◌, ◌-◌, Bool, true, List, [], ◌∷◌, ◌++◌, length, take, drop, bytes_eq, Option, Some, if◌then◌else◌, sym, ap, ◌∙◌, append_assoc, arith}
+use Rattle.std.proofs.lemmas.List.{append-nil}
 use Rattle.std.proofs.lemmas.List.Concat.{flat_map-append}
 use Rattle.std.proofs.lemmas.Nat.{from_be_bytes-to_be_bytes_8}
 use Rattle.std.proofs.lemmas.Slice.Eq.{bytes_eq-Decides}
 use Rattle.std.proofs.Math.Seq.{take-append_seam, drop-append_seam}
 use Rattle.std.specs.Int.{w64, to_be_bytes, from_be_bytes}
 use Rattle.c8_seal.specs.Seal.{counted, tag, sealed}
-use Rattle.c8_seal.proofs.SealLemmas.{sealed_length, one_datagram, one_counter}
+use Rattle.c8_seal.proofs.SealLemmas.{sealed_length}
 use Rattle.c8_transport.specs.Wire.{MayTake}
 use Rattle.c8_sealed.specs.declared.keys.SealKeys.{SealKeys}
 use Rattle.c8_sealed.specs.Opened.{key_for, IsSealing, datagram_in, counter_in, opened_by, datagram_of, opened}

@@ -1,8 +1,8 @@
 -- What becomes of a sealer when it takes a packet.
-use Rattle.std.proofs.Common.{inl, inr, ◌≡◌, ◌≢◌, ◌≤◌, ◌<◌, ℕ, zero, suc, ◌+◌, ◌-◌, ◌==◌, ◌⊎◌, Bool, true, false, List, [], ◌∷◌, ◌++◌, length, slice_index_or, slice_set, Result, Ok, Err, if◌then◌else◌, refl, sym, ap, ◌∙◌, subst, append_assoc, arith}
-use Rattle.std.proofs.lemmas.Bool.Decides.{Decides-eqb, nat_tests}
+use Rattle.std.proofs.Common.{inl, inr, ◌≡◌, ◌≢◌, ◌≤◌, ◌<◌, ℕ, zero, suc, ◌+◌, ◌-◌, ◌==◌, ◌⊎◌, Bool, true, false, List, [], ◌∷◌, ◌++◌, length, slice_index_or, slice_set, Result, Ok, Err, if◌then◌else◌, refl, sym, ap, ◌∙◌, subst, arith}
+use Rattle.std.proofs.lemmas.Bool.Decides.{Decides-eqb}
 use Rattle.std.proofs.lemmas.List.{append-nil, get_or-set_same, get_or-set_other, get_or_default, set-get_or}
-use Rattle.std.proofs.lemmas.List.Elements.{Contains-append_left, Contains-push, Contains-push_cases}
+use Rattle.std.proofs.lemmas.List.Elements.{Contains-push_cases}
 use Rattle.std.specs.List.{Contains}
 use Rattle.c8_sealed.specs.Counters.{IsNew, AreOnce}
 use Rattle.c8_sealed.specs.Given.{GivenValue, counters_of}
@@ -49,14 +49,14 @@ pub seen_more : (seen : List (List ℕ)) (taken : List GivenValue) (given : Give
 seen_more seen taken given size some few are seat from_one to_six =
     by_seat (given.from == seat) given.from seat _ refl
     (λ same.
-      ap (λ (n : ℕ). slice_index_or (slice_set seen (given.from - 1) (slice_index_or seen (given.from - 1) [] ++ given.counter ∷ [])) (n - 1) []) (sym same)
-      ∙ get_or-set_same seen (given.from - 1) (slice_index_or seen (given.from - 1) [] ++ given.counter ∷ []) [] (omega (arith, size, some, few))
-      ∙ ap (λ (counters : List ℕ). counters ++ given.counter ∷ []) (are given.from some few ∙ ap (λ (n : ℕ). counters_of n taken) same)
-      ∙ sym (of_seat seat taken given same))
+    ap (λ (n : ℕ). slice_index_or (slice_set seen (given.from - 1) (slice_index_or seen (given.from - 1) [] ++ given.counter ∷ [])) (n - 1) []) (sym same)
+    ∙ get_or-set_same seen (given.from - 1) (slice_index_or seen (given.from - 1) [] ++ given.counter ∷ []) [] (omega (arith, size, some, few))
+    ∙ ap (λ (counters : List ℕ). counters ++ given.counter ∷ []) (are given.from some few ∙ ap (λ (n : ℕ). counters_of n taken) same)
+    ∙ sym (of_seat seat taken given same))
     (λ other.
-      get_or-set_other seen (given.from - 1) (seat - 1) (slice_index_or seen (given.from - 1) [] ++ given.counter ∷ []) [] (λ same. other (omega (arith, same, some, from_one)))
-      ∙ are seat from_one to_six
-      ∙ sym (of_other seat taken given other))
+    get_or-set_other seen (given.from - 1) (seat - 1) (slice_index_or seen (given.from - 1) [] ++ given.counter ∷ []) [] (λ same. other (omega (arith, same, some, from_one)))
+    ∙ are seat from_one to_six
+    ∙ sym (of_other seat taken given other))
 
 -- six seats from which nothing was taken
 pub six_empty : (a b c d e f : List ℕ) → a ≡ [] → b ≡ [] → c ≡ [] → d ≡ [] → e ≡ [] → f ≡ [] → (place : ℕ) → slice_index_or (a ∷ b ∷ c ∷ d ∷ e ∷ f ∷ []) place [] ≡ []
@@ -84,7 +84,7 @@ once_more : (xs : List ℕ) (counter : ℕ) → AreOnce xs → ((c : ℕ) → Co
 once_more [] counter once new = ((λ has. let none = has.1 in omega (arith, none)), tt)
 once_more (x ∷ xs) counter once new = (
   λ has. elim (Contains-push_cases xs counter x has) [ inl old ↦ once.0 old | inr same ↦ new x (head_in xs x) (sym same) ],
-  once_more xs counter once.1 (λ c has. new c (tail_in xs x c has))
+  once_more xs counter once.1 (λ c has. new c (tail_in xs x c has)),
 )
 
 module _ (seat : ℕ) where
@@ -93,9 +93,9 @@ module _ (seat : ℕ) where
       let P : SealerValue → Type 0 = λ (s : SealerValue). AreOnce (counters_of seat s.taken) in
       subst P (sym is.2)
       (by_seat (given.from == seat) given.from seat (AreOnce (counters_of seat (old.taken ++ given ∷ []))) refl
-        (λ same. subst AreOnce (sym (of_seat seat old.taken given same))
-          (once_more (counters_of seat old.taken) given.counter once (λ c has. (is.1 c (subst (λ (n : ℕ). Contains (counters_of n old.taken) c) (sym same) has)).0)))
-        (λ other. subst AreOnce (sym (of_other seat old.taken given other)) once))
+      (λ same. subst AreOnce (sym (of_seat seat old.taken given same))
+      (once_more (counters_of seat old.taken) given.counter once (λ c has. (is.1 c (subst (λ (n : ℕ). Contains (counters_of n old.taken) c) (sym same) has)).0)))
+      (λ other. subst AreOnce (sym (of_other seat old.taken given other)) once))
   once_step old packet (Err NotSealed) new once is = let P : SealerValue → Type 0 = λ (s : SealerValue). AreOnce (counters_of seat s.taken) in subst P (sym is.1) once
   once_step old packet (Err SeenBefore) new once is = let P : SealerValue → Type 0 = λ (s : SealerValue). AreOnce (counters_of seat s.taken) in subst P (sym is.1) once
 
@@ -122,11 +122,12 @@ module _ (given : GivenValue) where
   pub sealed_over : (came : List (List ℕ)) (old new : SealerValue) → AreTakings came old new → Contains new.taken given → Contains old.taken given ⊎ ((packet : List ℕ) × Contains came packet × IsFor old.seal packet given)
   sealed_over [] old new are has = inl (subst (λ (s : SealerValue). Contains s.taken given) are has)
   sealed_over (packet ∷ came) old new are has = elim (sealed_over came are.1 new are.3 has) [
-      inl before ↦ elim (sealed_step old packet are.0 are.1 are.2 before) [ inl older ↦ inl older | inr is ↦ inr (packet, (0, omega arith, refl), is) ]
+    | inl before ↦ elim (sealed_step old packet are.0 are.1 are.2 before) [ inl older ↦ inl older | inr is ↦ inr (packet, (0, omega arith, refl), is) ]
     | inr later ↦ inr (
-        later.0, tail_in came packet later.0 later.1,
-        subst (λ s. IsFor s later.0 given) (seal_stays old packet are.0 are.1 are.2) later.2
-      )
+      later.0,
+      tail_in came packet later.0 later.1,
+      subst (λ s. IsFor s later.0 given) (seal_stays old packet are.0 are.1 are.2) later.2,
+    )
   ]
 
 pub unless_none : (given : GivenValue) (taken : List GivenValue) → taken ≡ [] → Contains taken given → ⊥

@@ -1,11 +1,11 @@
 -- What becomes of the marks of a window when a counter is taken.
-use Rattle.std.proofs.Common.{◌≡◌, ◌≢◌, ◌+◌, ◌<◌, ◌≤◌, ◌%◌, ◌⊎◌, inl, inr, ℕ, Bool, true, false, List, [], ◌∷◌, ◌++◌, length, slice_index_or, slice_set, replicate, sym, ap, ◌∙◌, subst, refl, arith}
+use Rattle.std.proofs.Common.{◌≡◌, ◌≢◌, ◌+◌, ◌<◌, ◌≤◌, ◌%◌, inl, inr, ℕ, Bool, true, false, List, [], ◌∷◌, ◌++◌, length, slice_index_or, slice_set, replicate, sym, ap, ◌∙◌, subst, refl, arith}
 use Rattle.std.proofs.lemmas.Bool.{cases_lt}
 use Rattle.std.proofs.lemmas.List.{get_or-set_same, get_or-set_other, get_or-replicate}
 use Rattle.std.proofs.lemmas.List.Elements.{Contains-append_left, Contains-push, Contains-push_cases}
 use Rattle.std.proofs.Math.Nat.{eq-or-lt_of_le}
 use Rattle.std.specs.List.{Contains}
-use Rattle.c8_sealed.specs.Counters.{IsNew, window}
+use Rattle.c8_sealed.specs.Counters.{IsNew}
 use Rattle.c8_sealed.specs.SeenBits.{mark_of, AreMarked}
 
 -- counters within a window have places of their own
@@ -38,9 +38,9 @@ module _ (taken : List ℕ) (counter c : ℕ) (marks : List Bool) (size : length
   pub stays : c ≢ counter → c % 1024 ≢ counter % 1024 → ((mark_of marks c ≡ true → Contains taken c) × (Contains taken c → mark_of marks c ≡ true))
       → (mark_of (slice_set marks (counter % 1024) true) c ≡ true → Contains (taken ++ counter ∷ []) c) × (Contains (taken ++ counter ∷ []) c → mark_of (slice_set marks (counter % 1024) true) c ≡ true)
   stays other place says = (
-      λ set. Contains-append_left taken (counter ∷ []) c (says.0 (sym (marked_other marks counter size c place) ∙ set)),
-      λ has. elim (Contains-push_cases taken counter c has) [ inl old ↦ marked_other marks counter size c place ∙ says.1 old | inr same ↦ absurd (other (sym same)) ]
-    )
+    λ set. Contains-append_left taken (counter ∷ []) c (says.0 (sym (marked_other marks counter size c place) ∙ set)),
+    λ has. elim (Contains-push_cases taken counter c has) [ inl old ↦ marked_other marks counter size c place ∙ says.1 old | inr same ↦ absurd (other (sym same)) ],
+  )
 
   pub itself : c ≡ counter → (mark_of (slice_set marks (counter % 1024) true) c ≡ true → Contains (taken ++ counter ∷ []) c) × (Contains (taken ++ counter ∷ []) c → mark_of (slice_set marks (counter % 1024) true) c ≡ true)
   itself same =
@@ -52,9 +52,9 @@ module _ (taken : List ℕ) (counter c : ℕ) (marks : List Bool) (size : length
 module _ (greatest counter : ℕ) (marks : List Bool) (taken : List ℕ) (seen : AreMarked greatest marks taken) (below : counter ≤ greatest) (near : greatest < counter + 1024) where
   pub is_new : mark_of marks counter ≡ false → IsNew taken counter
   is_new unset c has = (
-      λ same. not_false (mark_of marks counter) ((seen.marked counter below near).1 (subst (Contains taken) same has)) unset,
-      let most = seen.upper c has in omega (arith, most, near)
-    )
+    λ same. not_false (mark_of marks counter) ((seen.marked counter below near).1 (subst (Contains taken) same has)) unset,
+    let most = seen.upper c has in omega (arith, most, near),
+  )
 
   pub was_taken : mark_of marks counter ≡ true → IsNew taken counter → ⊥
   was_taken set new = (new counter ((seen.marked counter below near).0 set)).0 refl
@@ -64,11 +64,11 @@ module _ (greatest counter : ℕ) (marks : List Bool) (taken : List ℕ) (seen :
     reached = Contains-append_left taken (counter ∷ []) greatest seen.reached;
     upper = λ c has. elim (Contains-push_cases taken counter c has) [ inl old ↦ seen.upper c old | inr same ↦ omega (arith, same, below) ];
     marked = λ c few close. elim (cases_lt c counter) [
-        inl less ↦ stays taken counter c marks size (λ same. omega (arith, same, less)) (other_place c counter less (omega (arith, below, close))) (seen.marked c few close)
+      | inl less ↦ stays taken counter c marks size (λ same. omega (arith, same, less)) (other_place c counter less (omega (arith, below, close))) (seen.marked c few close)
       | inr most ↦ elim (eq-or-lt_of_le most) [
-            inl same ↦ itself taken counter c marks size (sym same)
-          | inr less ↦ stays taken counter c marks size (λ same. omega (arith, same, less)) (other_place_back counter c less (omega (arith, few, near))) (seen.marked c few close)
-        ]
+        | inl same ↦ itself taken counter c marks size (sym same)
+        | inr less ↦ stays taken counter c marks size (λ same. omega (arith, same, less)) (other_place_back counter c less (omega (arith, few, near))) (seen.marked c few close)
+      ]
     ];
   }
 
@@ -88,11 +88,11 @@ module _ (greatest counter : ℕ) (marks after : List Bool) (taken : List ℕ) (
     reached = Contains-push taken counter;
     upper = λ c has. elim (Contains-push_cases taken counter c has) [ inl old ↦ (let most = seen.upper c old in omega (arith, most, above)) | inr same ↦ omega (arith, same) ];
     marked = λ c few close. elim (eq-or-lt_of_le few) [
-        inl same ↦ itself taken counter c after size same
+      | inl same ↦ itself taken counter c after size same
       | inr less ↦ stays taken counter c after size (λ same. omega (arith, same, less)) (other_place c counter less close) (elim (cases_lt greatest c) [
-            inl passed ↦ (λ set. absurd (not_false (mark_of after c) set (cleared c passed few close)), λ has. absurd (let most = seen.upper c has in omega (arith, most, passed)))
-          | inr within ↦ (λ set. (seen.marked c within (omega (arith, above, close))).0 (sym (kept c within close) ∙ set), λ has. kept c within close ∙ (seen.marked c within (omega (arith, above, close))).1 has)
-        ])
+        | inl passed ↦ (λ set. absurd (not_false (mark_of after c) set (cleared c passed few close)), λ has. absurd (let most = seen.upper c has in omega (arith, most, passed)))
+        | inr within ↦ (λ set. (seen.marked c within (omega (arith, above, close))).0 (sym (kept c within close) ∙ set), λ has. kept c within close ∙ (seen.marked c within (omega (arith, above, close))).1 has)
+      ])
     ];
   }
 
@@ -106,7 +106,7 @@ first counter marks size unset = record {
   reached = Contains-push [] counter;
   upper = λ c has. elim (Contains-push_cases [] counter c has) [ inl old ↦ absurd (let few = old.1 in omega (arith, few)) | inr same ↦ omega (arith, same) ];
   marked = λ c few close. elim (eq-or-lt_of_le few) [
-      inl same ↦ itself [] counter c marks size same
+    | inl same ↦ itself [] counter c marks size same
     | inr less ↦ stays [] counter c marks size (λ same. omega (arith, same, less)) (other_place c counter less close) (λ set. absurd (not_false (mark_of marks c) set (unset c)), λ has. absurd (let none = has.1 in omega (arith, none)))
   ];
 }

@@ -1,15 +1,12 @@
 -- What a wire that seals gives and takes.
-use Rattle.std.proofs.Common.{inl, inr, ◌≡◌, ◌<◌, ◌^◌, ℕ, List, [], ◌∷◌, ◌++◌, take, Result, Ok, Err, Option, None, Some, refl, sym, ap, ◌∙◌, subst, append_assoc}
+use Rattle.std.proofs.Common.{◌≡◌, ℕ, List, [], ◌∷◌, ◌++◌, take, Result, Ok, Option, Some, refl, sym, ap, ◌∙◌, subst, append_assoc}
 use Rattle.std.proofs.lemmas.List.{append-nil}
 use Rattle.c8_transport.specs.declared.wire.Wire.{Ghosts}
-use Rattle.c8_transport.specs.declared.error.WireFailed.{WireFailed}
 use Rattle.c8_transport.specs.Wire.{MayTake, Gives}
-use Rattle.c8_sealed.specs.declared.keys.SealKeys.{SealKeys}
 use Rattle.c8_sealed.specs.declared.error.NotTaken.{NotTaken}
-use Rattle.c8_sealed.specs.declared.error.Unsealable.{Unsealable}
-use Rattle.c8_sealed.specs.Given.{GivenValue, datagrams_of}
+use Rattle.c8_sealed.specs.Given.{GivenValue}
 use Rattle.c8_sealed.specs.Opened.{opened}
-use Rattle.c8_sealed.specs.Sealer.{SealerValue, HasSealed, IsTaking, AreTakings}
+use Rattle.c8_sealed.specs.Sealer.{SealerValue, HasSealed, IsTaking}
 use Rattle.c8_sealed.specs.Wires.{HasOpened, HasPassed}
 use Rattle.c8_sealed.proofs.SealedLemmas.{may_take}
 use Rattle.c8_sealed.proofs.SealerLemmas.{takings_more}

@@ -1,6 +1,6 @@
 -- What a sealer seals and takes. It has the keys of a match, the own seat, the counter of its next packet, how many counters are
 -- left, and what it has taken so far, oldest first.
-use Rattle.std.specs.Prelude.{◌≡◌, ℕ, ◌+◌, ◌-◌, ◌<◌, ◌≤◌, ◌^◌, List, [], ◌∷◌, ◌++◌, length, take, slice_index_or, Option, None, Some, Result, Ok, Err}
+use Rattle.std.specs.Prelude.{◌≡◌, ℕ, ◌+◌, ◌-◌, ◌<◌, ◌≤◌, ◌^◌, List, [], ◌∷◌, ◌++◌, length, take, slice_index_or, None, Some, Result, Ok, Err}
 use Rattle.c8_seal.specs.Seal.{sealed}
 use Rattle.c8_wire.specs.Packet.{Packet}
 use Rattle.c8_wire.specs.checked.Read.{read}

@@ -1,7 +1,6 @@
 -- The text of a secret.
-use Rattle.std.specs.Prelude.{◌≡◌, ◌≢◌, ℕ, ◌-◌, ◌==◌, List, length, take, slice_index_or, if◌then◌else◌, Result, Ok}
+use Rattle.std.specs.Prelude.{◌≡◌, ℕ, ◌-◌, ◌==◌, List, length, take, slice_index_or, if◌then◌else◌, Ok}
 use Rattle.hex.specs.Hex.{decode_sized}
-use Rattle.hex.specs.declared.error.FromHexError.{FromHexError}
 use Rattle.c8_sealed.specs.declared.error.SecretError.{SecretError}
 use Rattle.c8_sealed.specs.declared.error.SecretError.TheVariants.{Bad}
 

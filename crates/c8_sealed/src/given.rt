@@ -20,9 +20,9 @@ impl Model for Given {
     ghost Value = { GivenValue };
 
     ghost view = { λ given. record {
-        from = given.from.number;
-        counter = given.counter;
-        datagram = given.datagram.items;
+      from = given.from.number;
+      counter = given.counter;
+      datagram = given.datagram.items;
     } };
 }
 

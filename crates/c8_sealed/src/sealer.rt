@@ -46,10 +46,10 @@ impl Model for Sealer {
     ghost Value = { SealerValue };
 
     ghost view = { λ s. record {
-        seal = s.seal;
-        next = s.counters.next;
-        left = s.counters.left;
-        taken = s.taken.items;
+      seal = s.seal;
+      next = s.counters.next;
+      left = s.counters.left;
+      taken = s.taken.items;
     } };
 
     ghost invariant = { λ s. IsSealer s.counters.next s.counters.left s.seen s.taken.items };
@@ -99,9 +99,9 @@ impl Sealer {
     pub fn open<'a>(&mut self, packet: &'a [u8]) -> Result<Taken<'a>, NotTaken>
         ensures taken { MatchResult result
             (λ taken. IsTaking self.old packet.now (Ok (record {
-                from = taken.from.number;
-                counter = taken.counter;
-                datagram = taken.datagram.now;
+              from = taken.from.number;
+              counter = taken.counter;
+              datagram = taken.datagram.now;
             })) self.new)
             (λ why. IsTaking self.old packet.now (Err why) self.new) }
         ensures newest { IfOk result (λ taken. IsTrue taken.is_newest
@@ -174,9 +174,9 @@ fn take_from(seen: &mut [Seen; SEATS], from: Seat, counter: u64) -> Option<bool>
     ensures taken { MatchOption result
         ((IsNew (slice_index_or seen.old (from.number - 1) []) counter → ⊥) × (seen.new ≡ seen.old))
         (λ newest. IsNew (slice_index_or seen.old (from.number - 1) []) counter
-            × (IsTrue newest ↔ IsNewest (slice_index_or seen.old (from.number - 1) []) counter)
-            × (seen.new ≡ slice_set seen.old (from.number - 1)
-                (slice_index_or seen.old (from.number - 1) [] ++ counter ∷ []))) }
+        × (IsTrue newest ↔ IsNewest (slice_index_or seen.old (from.number - 1) []) counter)
+        × (seen.new ≡ slice_set seen.old (from.number - 1)
+        (slice_index_or seen.old (from.number - 1) [] ++ counter ∷ []))) }
 {
     let of_sender = &mut seen[place_of(from)];
     let is_newest = of_sender.is_newest(counter);

@@ -40,6 +40,13 @@ impl Secret {
         }
     }
 
+    /// The secret of these bytes.
+    pub fn of(bytes: &[u8; SECRET_LENGTH]) -> Secret
+        ensures { result ≡ bytes.now }
+    {
+        Secret { bytes: *bytes }
+    }
+
     /// The text of a secret of these bytes: 64 lower-case hexadecimal digits, without a LF.
     pub fn text(bytes: &[u8; SECRET_LENGTH]) -> [u8; DIGITS]
         ensures { result ≡ encode_lower bytes.now }

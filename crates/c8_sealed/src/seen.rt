@@ -74,15 +74,11 @@ impl Seen {
 }
 
 /// Makes room for the mark of a counter, and returns what the greatest is with it. `None` if the counter is not new.
-fn room_for(
-    counter: u64,
-    greatest: Option<u64>,
-    marks: &mut [bool; MARKS],
-) -> Option<u64>
+fn room_for(counter: u64, greatest: Option<u64>, marks: &mut [bool; MARKS]) -> Option<u64>
     ensures room { (taken : List ℕ) → HasSeen greatest marks.old taken → MatchOption result
         (IsNew taken counter → ⊥)
         (λ g. IsNew taken counter
-            × AreMarked g (slice_set marks.new (counter % 1024) true) (taken ++ counter ∷ [])) }
+        × AreMarked g (slice_set marks.new (counter % 1024) true) (taken ++ counter ∷ [])) }
     ensures kept { IfNone result (marks.new ≡ marks.old) }
 {
     let Some(greatest) = greatest else {

@@ -9,8 +9,10 @@ use std::os::unix::fs::{OpenOptionsExt, PermissionsExt};
 use std::rt::Files;
 use std::{fs, io};
 
-/// The permissions by which others than the owner may read a file.
+/// The permissions by which others than the owner may read a file, and by which they may write it.
 const OTHERS_READ: u32 = 0o044;
+
+const OTHERS_WRITE: u32 = 0o022;
 
 /// The permissions of a new secret's file.
 const OWNER_ONLY: u32 = 0o600;
@@ -39,33 +41,69 @@ where
 /// Makes a file with a new secret that only its owner may read. A file that is there already stays as it is.
 pub fn make_secret<R>(rt: &R, path: &str) -> io::Result<()>
 where
-    R: Files<File = File>,
+    R: Files<File = File> + AllocGlobal,
 {
-    let bytes = random_bytes(rt)?;
-    let made = File::options()
+    if fs::metadata(rt, path).is_ok() {
+        return Ok(());
+    }
+    write_secret(rt, path, &Secret::text(&random_bytes(rt)?))
+}
+
+/// Makes the file of a secret from its digits. It is written beside, and renamed once it is whole, so a writing that fails
+/// leaves no short secret.
+pub fn write_secret<R>(rt: &R, path: &str, digits: &[u8]) -> io::Result<()>
+where
+    R: Files<File = File> + AllocGlobal,
+{
+    let beside = format!(in rt.alloc(); "{path}.new")?;
+    let _ = fs::remove_file(rt, beside.as_str());
+    match write_new(rt, beside.as_str(), digits) {
+        Ok(()) => fs::rename(rt, beside.as_str(), path),
+        Err(error) => {
+            let _ = fs::remove_file(rt, beside.as_str());
+            Err(error)
+        }
+    }
+}
+
+/// Writes digits and a LF to a new file that only its owner may read.
+fn write_new<R: Files<File = File>>(rt: &R, path: &str, digits: &[u8]) -> io::Result<()> {
+    let mut file = File::options()
         .write(true)
         .create_new(true)
         .mode(OWNER_ONLY)
-        .open(rt, path);
-    let mut file = match made {
-        Ok(file) => file,
-        Err(error) if error.kind() == io::ErrorKind::AlreadyExists => return Ok(()),
-        Err(error) => return Err(error),
-    };
-    file.write_all(&Secret::text(&bytes))?;
-    file.write_all(b"\n")
+        .open(rt, path)?;
+    file.write_all(digits)?;
+    file.write_all(b"\n")?;
+    file.sync_all()
 }
 
-/// Writes a line to `refused` if others than the owner may read a secret's file. The error is the writer's.
+/// Writes a line to `refused` if others than the owner may read or write a secret's file. Only a regular file is looked
+/// at. The error is the writer's.
 pub fn warn_of_readers<R, E>(rt: &R, path: &str, refused: &mut E) -> io::Result<()>
 where
     R: Files<File = File>,
     E: Write,
 {
-    match fs::metadata(rt, path) {
-        Ok(about) if about.permissions().mode() & OTHERS_READ != 0 => {
-            writeln!(refused, "warning: others may read {path}; chmod 600 {path}")
+    let Ok(about) = fs::metadata(rt, path) else {
+        return Ok(());
+    };
+    if !about.is_file() {
+        return Ok(());
+    }
+    let mode = about.permissions().mode();
+    match (mode & OTHERS_READ != 0, mode & OTHERS_WRITE != 0) {
+        (false, false) => Ok(()),
+        (true, false) => writeln!(refused, "warning: others may read {path}; chmod 600 {path}"),
+        (false, true) => writeln!(
+            refused,
+            "warning: others may write {path}; chmod 600 {path}"
+        ),
+        (true, true) => {
+            writeln!(
+                refused,
+                "warning: others may read and write {path}; chmod 600 {path}"
+            )
         }
-        _ => Ok(()),
     }
 }

@@ -1,6 +1,6 @@
 -- Where packets for a player or watcher go. An address that is not named is learnt: it is that of the packet with the greatest
 -- counter.
-use Rattle.std.specs.Prelude.{◌≡◌, ◌≤◌, ℕ, List, [], ◌∷◌, nat_lt, Option, None, Some, if◌then◌else◌}
+use Rattle.std.specs.Prelude.{◌≡◌, ◌≤◌, List, [], ◌∷◌, nat_lt, Option, None, Some, if◌then◌else◌}
 use Rattle.std.specs.List.{Contains}
 use Rattle.std.specs.declared.net.socket_addr.SocketAddr.{SocketAddr}
 use Rattle.c8_udp.specs.declared.contacts.Contact.{Contact}

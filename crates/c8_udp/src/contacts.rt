@@ -41,7 +41,11 @@ impl Contact {
         match self {
             Contact::Learnt(None) => Contact::Learnt(Some(place)),
             Contact::Learnt(Some(known)) => {
-                let newest = if known.counter < place.counter { place } else { known };
+                let newest = if known.counter < place.counter {
+                    place
+                } else {
+                    known
+                };
                 Contact::Learnt(Some(newest))
             }
             Contact::Nobody | Contact::Named(_) => self,

@@ -5,10 +5,9 @@ use c8_transport::{Losses, Wire, WireFailed};
 use c8_wire::Seat;
 use mio::event::Source;
 use mio::{Events, Interest, Poll, Token, Waker};
-use std::io;
 use std::net::Net;
-use std::thread;
 use std::time::{Clock, Duration};
+use std::{io, thread};
 
 /// The sources that a poll reports.
 const PACKETS: Token = Token(0);

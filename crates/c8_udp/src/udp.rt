@@ -203,7 +203,7 @@ impl<S: Socket> Wire for Udp<S> {
         ensures sent { self.new.traffic.sent.items ≡ self.old.traffic.sent.items }
         ensures learnt { IfSome self.old.from (λ address. self.new.contacts ≡ slice_set self.old.contacts (sender.number - 1)
             (after (record { address = address; counter = counter })
-                (slice_index_or self.old.contacts (sender.number - 1) Nobody))) }
+            (slice_index_or self.old.contacts (sender.number - 1) Nobody))) }
     {
         let place = place_of_seat(sender);
         if let Some(address) = self.from {

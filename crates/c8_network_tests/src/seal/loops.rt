@@ -1,7 +1,7 @@
 //! A wire in memory that gives what was sent over it, and notes the senders that a wire above names.
 
 use arrayvec::ArrayVec;
-use c8_sealed::{Seal, SealKeys, Secret, Secrets};
+use c8_sealed::{Counters, Seal, SealKeys, Sealer, Secret, Secrets};
 use c8_transport::{LONGEST_READ, Traffic, Wire, WireFailed};
 use c8_wire::Seat;
 use std::time::Duration;
@@ -34,8 +34,8 @@ pub(crate) struct Loop {
     pub(crate) waiting: ArrayVec<Letter, PLACES>,
     /// How many of those that wait it has given.
     given: usize,
-    /// The sender that the wire above named last, and how often it named one.
-    pub(crate) sender: Option<Seat>,
+    /// The sender and the counter that the wire above named last, and how often it named one.
+    pub(crate) sender: Option<(Seat, u64)>,
     pub(crate) told: u8,
     /// How long it was asked to wait, in all.
     pub(crate) waited: Duration,
@@ -75,7 +75,7 @@ impl Wire for Loop {
                 self.traffic.took(packet);
                 Ok(())
             }
-            Err(_) => Err(WireFailed),
+            Err(_) => Err(WireFailed::Closed),
         }
     }
 
@@ -101,8 +101,8 @@ impl Wire for Loop {
         self.waited = self.waited.saturating_add(most);
     }
 
-    fn tell_sender(&mut self, sender: Seat) {
-        self.sender = Some(sender);
+    fn tell_sender(&mut self, sender: Seat, counter: u64) {
+        self.sender = Some((sender, counter));
         self.told = self.told.saturating_add(1);
     }
 }
@@ -144,11 +144,12 @@ fn secrets_of(has: Has) -> Option<Secrets> {
     }
 }
 
-/// What seals the packets of a seat in a session.
-pub(crate) fn seal_of(has: Has, seat: Seat, session: u64) -> Option<Seal> {
-    Some(Seal {
+/// What seals the packets of a seat in a session, from the first counter of epoch 1 on.
+pub(crate) fn sealer_of(has: Has, seat: Seat, session: u64) -> Option<Sealer> {
+    let seal = Seal {
         keys: SealKeys::of(&secrets_of(has)?, session),
         seat,
         session,
-    })
+    };
+    Some(Sealer::new(seal, Counters::of_epoch(1)))
 }

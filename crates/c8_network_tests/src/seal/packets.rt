@@ -13,11 +13,18 @@ fn secret() -> [u8; 32] {
     secret
 }
 
-/// Whether the sealed packet of `datagram` has a tag, in lower-case hexadecimal digits.
+/// The counter of the first packet of epoch 1.
+const COUNTER: u64 = 1 << 32;
+
+/// Whether the sealed packet of `datagram` has its counter and a tag, in lower-case hexadecimal digits.
 fn has_tag(key: &Key, tag: &[u8; 32]) -> bool {
     let (mut packet, mut text) = ([0; LONGEST_SEALED], [0; 32]);
-    let size = key.seal(b"datagram", &mut packet);
-    size == 24 && hex::encode_to_slice(&packet[8..24], &mut text).is_ok() && text == *tag
+    let size = key.seal(COUNTER, b"datagram", &mut packet);
+    let counter = COUNTER.to_be_bytes();
+    size == 32
+        && packet[8..16] == counter[..]
+        && hex::encode_to_slice(&packet[16..32], &mut text).is_ok()
+        && text == *tag
 }
 
 #[test]
@@ -26,6 +33,6 @@ fn tags_as_another_implementation_does(rt: HostRuntime) {
         Key::of_match(&secret(), SESSION),
         Key::of_watchers(&secret(), SESSION),
     );
-    assert!(rt; has_tag(&of_match, b"d2b87273edf78767be828afc2ceaa58f"));
-    assert!(rt; has_tag(&of_watchers, b"a76613b1f812e1a39e21a5c6c3b004da"));
+    assert!(rt; has_tag(&of_match, b"fc94b67c128e324ff6157100daeaac29"));
+    assert!(rt; has_tag(&of_watchers, b"d60cbcafbd58b90b393125ce93a53897"));
 }

@@ -1,6 +1,6 @@
 //! The texts of secrets.
 
-use crate::seal::loops::{Has, Loop, ONE, PLAYERS, SESSION, TWO, WATCHERS, seal_of};
+use crate::seal::loops::{Has, Loop, ONE, PLAYERS, SESSION, TWO, WATCHERS, sealer_of};
 use c8_sealed::{Sealed, Secret, SecretError, Secrets};
 use c8_transport::Wire;
 
@@ -29,14 +29,14 @@ fn bad() -> &'static [&'static [u8]] {
 }
 
 /// Whether the secret of the bytes 0 to 31 is read as these: the tag of a datagram is that of another implementation.
-fn is_known(rt: &HostRuntime) -> Option<bool> {
-    let mut wire = Sealed::over(rt, Loop::new(), seal_of(Has::Players, ONE, SESSION)?);
+fn is_known() -> Option<bool> {
+    let mut wire = Sealed::over(Loop::new(), sealer_of(Has::Players, ONE, SESSION)?);
     wire.send(TWO, b"datagram").ok()?;
     let below = wire.into_below();
     let letter = below.waiting.get(0)?;
     let mut tag = [0; 32];
-    hex::encode_to_slice(&letter.bytes[8..24], &mut tag).ok()?;
-    Some(letter.size == 24 && tag == *b"d2b87273edf78767be828afc2ceaa58f")
+    hex::encode_to_slice(&letter.bytes[16..32], &mut tag).ok()?;
+    Some(letter.size == 32 && tag == *b"fc94b67c128e324ff6157100daeaac29")
 }
 
 /// Whether two equal secrets are refused, and two others not.
@@ -52,7 +52,7 @@ fn secrets_are_read(rt: HostRuntime) {
     for (place, text) in bad().iter().enumerate() {
         assert!(rt; !is_read(text), "text {place}");
     }
-    assert!(rt; is_known(&rt) == Some(true));
+    assert!(rt; is_known() == Some(true));
     assert!(rt; are_told_apart() == Some(true));
     assert!(rt;
         Secret::text(&[0xa5; 32])

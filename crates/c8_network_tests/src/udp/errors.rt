@@ -1,9 +1,11 @@
 //! Errors of the network, by a socket whose first call fails.
+ghost use Rattle.std.specs.Prelude.{◌≡◌};
+
+use crate::udp::notes::Notes;
 use c8_game::Player;
 use c8_transport::{LONGEST_PACKET, Losses, Wire, WireFailed};
 use c8_udp::{Addresses, Remote, Socket, Udp};
 use c8_wire::Seat;
-use std::cell::Cell;
 use std::io;
 use std::net::{Ipv4Addr, SocketAddr};
 
@@ -13,27 +15,33 @@ const TWO: Player = Player { number: 2 };
 #[derive(Drop)]
 struct Mapped {
     from: SocketAddr,
+    notes: Notes,
 }
 
 impl Socket for Mapped {
-    fn send_to(&self, datagram: &[u8], _to: SocketAddr) -> io::Result<usize> {
+    ghost took = { λ it. it.notes.took.items };
+
+    ghost gave = { λ it. it.notes.gave.items };
+
+    fn send_to(&mut self, datagram: &[u8], to: SocketAddr) -> io::Result<usize> {
+        self.notes.take(to, datagram);
         Ok(datagram.len())
     }
 
-    fn recv_from(&self, packet: &mut [u8]) -> io::Result<(usize, SocketAddr)> {
-        match packet.first_mut() {
-            Some(first) => {
-                *first = 7;
-                Ok((1, self.from))
-            }
-            None => Ok((0, self.from)),
-        }
+    fn recv_from(&mut self, packet: &mut [u8]) -> io::Result<(usize, SocketAddr)> {
+        Ok((self.notes.give_seven(self.from, packet), self.from))
     }
 }
 
 /// Whether player 1, who knows player 2 by an IPv4 address, hears a packet from an address.
 fn hears(from: SocketAddr) -> bool {
-    let mut wire = Udp::over(Mapped { from }, &addresses());
+    let mut wire = Udp::over(
+        Mapped {
+            from,
+            notes: Notes::new(),
+        },
+        &addresses(),
+    );
     let mut packet = [0; LONGEST_PACKET];
     wire.receive(&mut packet) == Ok(Some(1))
 }
@@ -52,21 +60,25 @@ fn a_mapped_address_counts_as_ipv4(rt: HostRuntime) {
 #[derive(Drop)]
 struct Failing {
     number: i32,
-    calls: Cell<u8>,
+    calls: u8,
+    notes: Notes,
 }
 
 impl Failing {
     fn new(number: i32) -> Failing {
         Failing {
             number,
-            calls: Cell::new(0),
+            calls: 0,
+            notes: Notes::new(),
         }
     }
 
     /// Counts a call, and returns how many came before it.
-    fn before(&self) -> u8 {
-        let before = self.calls.get();
-        self.calls.set(before.saturating_add(1));
+    fn before(&mut self) -> u8
+        ensures { self.new.notes ≡ self.old.notes }
+    {
+        let before = self.calls;
+        self.calls = before.saturating_add(1);
         before
     }
 }
@@ -76,23 +88,25 @@ fn two() -> SocketAddr {
 }
 
 impl Socket for Failing {
-    fn send_to(&self, datagram: &[u8], _to: SocketAddr) -> io::Result<usize> {
-        match self.before() {
-            0 => Err(io::Error::from_raw_os_error(self.number)),
-            _ => Ok(datagram.len()),
+    ghost took = { λ it. it.notes.took.items };
+
+    ghost gave = { λ it. it.notes.gave.items };
+
+    fn send_to(&mut self, datagram: &[u8], to: SocketAddr) -> io::Result<usize> {
+        if self.before() == 0 {
+            return Err(io::Error::from_raw_os_error(self.number));
         }
+        self.notes.take(to, datagram);
+        Ok(datagram.len())
     }
 
-    fn recv_from(&self, packet: &mut [u8]) -> io::Result<(usize, SocketAddr)> {
+    fn recv_from(&mut self, packet: &mut [u8]) -> io::Result<(usize, SocketAddr)> {
         match self.before() {
             0 => Err(io::Error::from_raw_os_error(self.number)),
-            1 => match packet.first_mut() {
-                Some(first) => {
-                    *first = 7;
-                    Ok((1, two()))
-                }
-                None => Ok((0, two())),
-            },
+            1 => {
+                let from = two();
+                Ok((self.notes.give_seven(from, packet), from))
+            }
             _ => Err(io::Error::from_raw_os_error(libc::EAGAIN)),
         }
     }
@@ -130,6 +144,7 @@ const LOST: Losses = Losses {
     lost: 1,
     foreign: 0,
     unsealed: 0,
+    repeated: 0,
 };
 
 /// Whether the error is a lost datagram when sending, and the next datagram goes.
@@ -155,8 +170,8 @@ fn passes_receiving(number: i32) -> bool {
 /// Whether the error ends sending and receiving.
 fn ends(number: i32) -> bool {
     let mut packet = [0; LONGEST_PACKET];
-    wire_with(number).send(Seat::from(TWO), b"datagram") == Err(WireFailed)
-        && wire_with(number).receive(&mut packet) == Err(WireFailed)
+    wire_with(number).send(Seat::from(TWO), b"datagram") == Err(WireFailed::Closed)
+        && wire_with(number).receive(&mut packet) == Err(WireFailed::Closed)
 }
 
 #[test]

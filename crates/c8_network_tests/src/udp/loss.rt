@@ -1,7 +1,7 @@
 //! A lost datagram that the system reports.
 use crate::udp::sockets::{TWO, any};
 use c8_transport::{LONGEST_PACKET, Wire};
-use c8_udp::{Addresses, Remote, Udp};
+use c8_udp::{Addresses, Remote, SystemSocket, Udp};
 use c8_wire::Seat;
 use mio::net::UdpSocket as OwnSocket;
 use std::net::UdpSocket;
@@ -20,7 +20,7 @@ fn connected(rt: &HostRuntime) -> Result<Udp, Fail> {
         others: [None, Some(Remote::At(address)), None, None],
         watchers: [None, None],
     };
-    Ok(Udp::over(socket, &addresses))
+    Ok(Udp::over(SystemSocket::over(socket), &addresses))
 }
 
 /// Whether the packet that waits comes after the report of a loss, and datagrams can be sent before and after it.

@@ -86,7 +86,11 @@ fn long() -> Duration {
 }
 
 /// How long a wire waits.
-fn waited(rt: &HostRuntime, wire: &mut PolledUdp, most: Duration) -> io::Result<Duration> {
+fn waited(
+    rt: &HostRuntime,
+    wire: &mut PolledUdp<'_, HostRuntime>,
+    most: Duration,
+) -> io::Result<Duration> {
     let begun = Instant::now(rt)?;
     wire.wait(most);
     begun.elapsed(rt)

@@ -47,7 +47,7 @@ fn sent_with(way: &Way<'_>, to: Seat, datagram: &[u8]) -> Option<usize> {
 /// Serves one more call, or fails if none is left.
 fn served(calls: &mut u32) -> Result<(), WireFailed> {
     if *calls == 0 {
-        return Err(WireFailed);
+        return Err(WireFailed::Closed);
     }
     *calls -= 1;
     Ok(())
@@ -178,9 +178,9 @@ static ROWS: [Row; 11] = [
     Row { a_turn: 1, calls: ALL, turns: 100, gate: 3, enough: 100, made: Ok(3), rows: 3, seen: &[1, 2, 3] },
     Row { a_turn: 1, calls: ALL, turns: 100, gate: 100, enough: 4, made: Ok(4), rows: 4, seen: &[1, 2, 3, 4] },
     // when the wire fails: at its first call, after a packet of the second turn, and when that turn sends a SEEN
-    Row { a_turn: 1, calls: 0, turns: 100, gate: 100, enough: 100, made: Err(WireFailed), rows: 0, seen: &[] },
-    Row { a_turn: 1, calls: 4, turns: 100, gate: 100, enough: 100, made: Err(WireFailed), rows: 2, seen: &[1] },
-    Row { a_turn: 1, calls: 5, turns: 100, gate: 100, enough: 100, made: Err(WireFailed), rows: 2, seen: &[1] },
+    Row { a_turn: 1, calls: 0, turns: 100, gate: 100, enough: 100, made: Err(WireFailed::Closed), rows: 0, seen: &[] },
+    Row { a_turn: 1, calls: 4, turns: 100, gate: 100, enough: 100, made: Err(WireFailed::Closed), rows: 2, seen: &[1] },
+    Row { a_turn: 1, calls: 5, turns: 100, gate: 100, enough: 100, made: Err(WireFailed::Closed), rows: 2, seen: &[1] },
 ];
 
 /// A match of 300 frames: the first turn leaves a packet for the second, which takes the last 44 rows.

@@ -1,4 +1,4 @@
-use Rattle.std.proofs.Common.{◌≡◌, ℕ, Some, subst}
+use Rattle.std.proofs.Common.{◌≡◌, ℕ, Some, subst, refl}
 use Rattle.c8_peer.specs.Peer.{IsAnswered}
 use Rattle.c8_peer.specs.State.{Decide, Decided}
 use Rattle.c8_embed.specs.Journal.{disk}
@@ -8,12 +8,16 @@ pub returns-clause-decided : goal.returns-clause-decided
 returns-clause-decided c = λ from to.
     let here : c.args.handle.now.value ≡ Some c.session.result.now = search in
     let same : c.in-Some.leaver.number ≡ c.args.leaver = c.in-Some.ensures.some in
-    rw here (record {
-      reply = c.decide.result;
-      called = record {
-        answered = subst (λ (n : ℕ). IsAnswered disk c.session.result.now.engine.peer (Decide n) (Decided c.decide.result) c.decide.new.self.peer) same c.decide.ensures.answered;
-        steps = c.decide.ensures.steps;
-        depth = c.decide.ensures.depth;
-      };
-      code_is = c.decide_code.ensures;
-    })
+    rw here (
+      (record {
+        reply = c.decide.result;
+        called = record {
+          answered = subst (λ (n : ℕ). IsAnswered disk c.session.result.now.engine.peer (Decide n) (Decided c.decide.result) c.decide.new.self.peer) same c.decide.ensures.answered;
+          steps = c.decide.ensures.steps;
+          depth = c.decide.ensures.depth;
+        };
+        code_is = c.decide_code.ensures;
+      }),
+      refl,
+      refl,
+    )

@@ -1,4 +1,4 @@
-use Rattle.std.proofs.Common.{◌≡◌, ℕ, Some, subst}
+use Rattle.std.proofs.Common.{◌≡◌, ℕ, Some, subst, refl}
 use Rattle.c8_peer.specs.Peer.{IsAnswered}
 use Rattle.c8_peer.specs.State.{Leave, Left}
 use Rattle.c8_embed.specs.Journal.{disk}
@@ -8,12 +8,16 @@ pub returns-clause-left : goal.returns-clause-left
 returns-clause-left c = λ from to.
     let here : c.args.handle.now.value ≡ Some c.session.result.now = search in
     let same : c.in-Some.leaver.number ≡ c.args.leaver = c.in-Some.ensures.some in
-    rw here (record {
-      reply = c.leave.result;
-      called = record {
-        answered = subst (λ (n : ℕ). IsAnswered disk c.session.result.now.engine.peer (Leave n) (Left c.leave.result) c.leave.new.self.peer) same c.leave.ensures.answered;
-        steps = c.leave.ensures.steps;
-        depth = c.leave.ensures.depth;
-      };
-      code_is = c.leave_code.ensures;
-    })
+    rw here (
+      (record {
+        reply = c.leave.result;
+        called = record {
+          answered = subst (λ (n : ℕ). IsAnswered disk c.session.result.now.engine.peer (Leave n) (Left c.leave.result) c.leave.new.self.peer) same c.leave.ensures.answered;
+          steps = c.leave.ensures.steps;
+          depth = c.leave.ensures.depth;
+        };
+        code_is = c.leave_code.ensures;
+      }),
+      refl,
+      refl,
+    )

@@ -1,17 +1,22 @@
-use Rattle.std.proofs.Common.{◌≡◌, ◌∙◌, Some, ap}
+use Rattle.std.proofs.Common.{◌≡◌, ◌∙◌, Some, ap, sym, subst}
+use Rattle.c8_embed.specs.Session.{EngineOf}
 use Rattle.c8_embed.specs.declared.session.Session.{Session}
+use Rattle.c8_embed.specs.Journal.{disk}
+use Rattle.c8_peer.specs.Opened.{IsOpened}
 use Rattle.c8_engine.proofs.opening.open_on.Goals as goal
 
 pub returns-in-Ok-new-clause-opened : goal.returns-in-Ok-new-clause-opened
 returns-in-Ok-new-clause-opened c = λ done text spells.
     let opened = c.in-Ok.ensures.opened in
-    let held : c.in-Ok-new.session.value ≡ record { engine = c.in-Ok.engine } = c.in-Ok-new.ensures.ok in
-    let session : c.of.result.value ≡ Some (record { engine = c.in-Ok.engine }) = c.of.ensures ∙ ap (λ (s : Session). Some s) held in
+    let engine : c.new.result.engine ≡ c.in-Ok.engine = c.new.ensures.engine in
+    let session : c.of.result.value ≡ Some c.new.result = c.of.ensures ∙ ap (λ (s : Session). Some s) c.in-Ok-new.ensures.ok in
     rw session (record {
       rules = c.args.game.now;
       game = spells;
       kept = c.args.disk;
-      opened = opened.0;
-      given = opened.1;
-      depth = opened.2;
+      opened = subst (λ (e : EngineOf). IsOpened disk c.args.disk c.args.game.now c.args.room c.args.me.number e.peer) (sym engine) opened.0;
+      given = ap (λ (e : EngineOf). e.steps.given) engine ∙ opened.1;
+      depth = ap (λ (e : EngineOf). e.depth) engine ∙ opened.2;
+      number = c.new.ensures.number ∙ c.session-number.ensures;
+      sealer = c.new.ensures.sealer;
     })

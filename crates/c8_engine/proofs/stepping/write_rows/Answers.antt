@@ -1,4 +1,4 @@
-use Rattle.std.proofs.Common.{◌≡◌, ◌+◌, ◌*◌, ◌-◌, length, take, arith, ◌∙◌}
+use Rattle.std.proofs.Common.{◌≡◌, ◌+◌, ◌*◌, ◌-◌, arith, ◌∙◌}
 use Rattle.c8_engine.proofs.WordLemmas.{written, long_next}
 use Rattle.c8_engine.proofs.stepping.write_rows.Goals as goal
 

@@ -1,4 +1,4 @@
-use Rattle.std.proofs.Common.{ap, subst, sym, List, ℕ, inl, inr}
+use Rattle.std.proofs.Common.{subst, sym, List, inl, inr}
 use Rattle.c8_sealed.specs.Counters.{AreOnce}
 use Rattle.c8_sealed.specs.Given.{GivenValue, counters_of}
 use Rattle.c8_sealed.proofs.SealerLemmas.{once_over, sealed_over, unless_none}

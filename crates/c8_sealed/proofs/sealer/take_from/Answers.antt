@@ -1,4 +1,4 @@
-use Rattle.std.proofs.Common.{ℕ, List, [], ◌∷◌, ◌++◌, ◌≡◌, ◌-◌, ◌<◌, ◌∙◌, length, slice_index_or, slice_set, sym, ap, subst, arith}
+use Rattle.std.proofs.Common.{ℕ, List, [], ◌∷◌, ◌++◌, ◌≡◌, ◌-◌, ◌∙◌, length, slice_set, sym, ap, subst, arith}
 use Rattle.c8_sealed.specs.Counters.{IsNew, IsNewest}
 use Rattle.std.specs.Bool.{IsTrue}
 use Rattle.std.specs.Prelude.{◌↔◌}
@@ -14,7 +14,7 @@ returns-then-take-clause-taken c =
       subst (λ (taken : List ℕ). IsNew taken c.args.counter) (sym is) c.if-take.ensures.0,
       subst (λ (taken : List ℕ). IsTrue c.is_newest-is_newest.result ↔ IsNewest taken c.args.counter) (sym is) c.is_newest-is_newest.ensures,
       ap (λ (place : ℕ). slice_set c.args.seen.now place c.take.new.self) c.place_of.ensures.is
-      ∙ ap (slice_set c.args.seen.now (c.args.from.number - 1)) (c.if-take.ensures.1 ∙ ap (λ (taken : List ℕ). taken ++ c.args.counter ∷ []) (sym is))
+          ∙ ap (slice_set c.args.seen.now (c.args.from.number - 1)) (c.if-take.ensures.1 ∙ ap (λ (taken : List ℕ). taken ++ c.args.counter ∷ []) (sym is)),
     )
 
 pub returns-else-take-clause-taken : goal.returns-else-take-clause-taken
@@ -25,6 +25,6 @@ returns-else-take-clause-taken c =
     let is = element c.args.seen.now (c.args.from.number - 1) c.place_of.result c.index-seen-place_of.result c.place_of.ensures.is (omega (arith, few, some, size)) in (
       λ new. c.if-take.ensures.0 (subst (λ (taken : List ℕ). IsNew taken c.args.counter) is new),
       ap (λ (place : ℕ). slice_set c.args.seen.now place c.take.new.self) c.place_of.ensures.is
-      ∙ ap (slice_set c.args.seen.now (c.args.from.number - 1)) c.if-take.ensures.1
-      ∙ put_back c.args.seen.now (c.args.from.number - 1) _ (omega (arith, few, some, size)) is
+          ∙ ap (slice_set c.args.seen.now (c.args.from.number - 1)) c.if-take.ensures.1
+          ∙ put_back c.args.seen.now (c.args.from.number - 1) _ (omega (arith, few, some, size)) is,
     )

@@ -1,4 +1,4 @@
-use Rattle.std.proofs.Common.{◌≡◌, ◌+◌, ◌-◌, ◌<◌, ◌≤◌, ℕ, false}
+use Rattle.std.proofs.Common.{◌≡◌, ◌+◌, ◌<◌, ◌≤◌, ℕ, false}
 use Rattle.c8_sealed.specs.SeenBits.{mark_of}
 use Rattle.c8_sealed.proofs.seen.clear.Given as goal
 

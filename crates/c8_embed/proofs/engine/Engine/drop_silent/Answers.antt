@@ -1,4 +1,4 @@
-use Rattle.std.proofs.Common.{refl, inl, inr, ◌∙◌}
+use Rattle.std.proofs.Common.{refl, inl, ◌∙◌}
 use Rattle.c8_peer.specs.State.{Leave, Left}
 use Rattle.c8_embed.proofs.TurnLemmas.{turned_still, turned_once, turned_then}
 use Rattle.c8_embed.proofs.engine.Engine.drop_silent.Goals as goal

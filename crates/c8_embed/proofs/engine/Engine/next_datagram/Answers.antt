@@ -1,4 +1,4 @@
-use Rattle.std.proofs.Common.{ap, subst, sym, ◌∙◌, take}
+use Rattle.std.proofs.Common.{subst, ◌∙◌, take}
 use Rattle.c8_peer.specs.State.{Say}
 use Rattle.c8_peer.specs.Asked.{saying_of}
 use Rattle.c8_peer.specs.Peer.{IsSaid}

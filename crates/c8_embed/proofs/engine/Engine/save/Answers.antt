@@ -1,6 +1,5 @@
-use Rattle.std.proofs.Common.{refl, inr, sym, ap, subst}
+use Rattle.std.proofs.Common.{refl, inr, sym, subst}
 use Rattle.c8_peer.specs.State.{Checkpoint, Checked}
-use Rattle.c8_peer.specs.Peer.{PeerValue}
 use Rattle.c8_embed.specs.Engine.{EngineValue, HasTurned}
 use Rattle.c8_embed.proofs.TurnLemmas.{turned_once}
 use Rattle.c8_embed.proofs.engine.Engine.save.Goals as goal

@@ -1,4 +1,4 @@
-use Rattle.std.proofs.Common.{ap, sym, subst}
+use Rattle.std.proofs.Common.{sym, subst}
 use Rattle.c8_embed.specs.Engine.{EngineValue, HasTurned}
 use Rattle.c8_embed.proofs.TurnLemmas.{turned_then}
 use Rattle.c8_embed.proofs.engine.Engine.turn.Goals as goal

@@ -1,9 +1,9 @@
-use Rattle.std.proofs.Common.{◌≡◌, ◌≤◌, ◌<◌, ◌+◌, ℕ, get_or, length, take, true, false, sym, ap, subst, ◌∙◌, arith}
+use Rattle.std.proofs.Common.{◌≡◌, ◌+◌, ℕ, get_or, length, take, sym, ap, subst, ◌∙◌, arith}
 use Rattle.std.proofs.lemmas.Bool.{true≢false}
 use Rattle.std.proofs.lemmas.Option.{get_or_from_slice_get}
 use Rattle.c8_known.specs.Confirmed.{best_row, best_rows_below}
 use Rattle.c8_peer.specs.Peer.{known_by}
-use Rattle.c8_embed.specs.Steps.{StepsValue, IsTrueTo, IsFirstChange}
+use Rattle.c8_embed.specs.Steps.{StepsValue, IsTrueTo}
 use Rattle.c8_embed.proofs.StepsLemmas.{same_next, settled_ticked, ticked}
 use Rattle.c8_embed.proofs.steps.Steps.first_change.Goals as goal
 

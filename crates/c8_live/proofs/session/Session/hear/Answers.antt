@@ -1,7 +1,5 @@
 use Rattle.std.proofs.lemmas.Result.{err_from_is_err_and}
-use Rattle.std.proofs.Common.{ℕ, ◌+◌, take, Option, Ok, refl, sym, subst, arith}
-use Rattle.c8_peer.specs.Peer.{PeerValue}
-use Rattle.c8_live.specs.Turns.{HasHeard}
+use Rattle.std.proofs.Common.{ℕ, ◌+◌, take, Option, Ok, refl, subst, arith}
 use Rattle.c8_transport.specs.Wire.{Gives, most_packets}
 use Rattle.c8_live.proofs.TurnLemmas.{heard_up_to}
 use Rattle.c8_live.proofs.session.Session.hear.Goals as goal

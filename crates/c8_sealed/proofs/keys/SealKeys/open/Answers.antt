@@ -1,4 +1,4 @@
-use Rattle.std.proofs.Common.{ap, sym, ◌∙◌, ◌≡◌, Option, List, ℕ, None, Some, arith}
+use Rattle.std.proofs.Common.{ap, ◌∙◌, ◌≡◌, None, Some, arith}
 use Rattle.c8_sealed.specs.Opened.{key_for}
 use Rattle.c8_sealed.proofs.SealedLemmas.{packet_size, has_key, found, not_found}
 use Rattle.c8_sealed.proofs.keys.SealKeys.open.Goals as goal

@@ -18,5 +18,5 @@ loop-preserved g c = record {
   opened =
       subst (λ (new : SealerValue). HasOpened g.W.Wire c.args.self.now.sealer new c.args.self.now.below c.turn_away.new.self.below) (sym c.turn_away.ensures.sealer)
       (next_opened g.W.Wire c.args.self.now.sealer c.loop.self.sealer c.open.new.self c.args.self.now.below c.loop.self.below c.receive.new.self c.turn_away.new.self.below c.receive.new.packet c.in-Some.size c.in_ok-size.field-0 (Err c.in-Err.why)
-        c.loop.invariant.opened c.in-Some.is c.in_ok-size.ensures.received c.receive.ensures.sent (ap g.W.Wire.received c.turn_away.ensures.below) (ap g.W.Wire.sent c.turn_away.ensures.below) c.in-Err.ensures.taken);
+      c.loop.invariant.opened c.in-Some.is c.in_ok-size.ensures.received c.receive.ensures.sent (ap g.W.Wire.received c.turn_away.ensures.below) (ap g.W.Wire.sent c.turn_away.ensures.below) c.in-Err.ensures.taken);
 }

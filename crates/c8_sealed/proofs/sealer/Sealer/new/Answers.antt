@@ -1,5 +1,5 @@
-use Rattle.std.proofs.Common.{sym, ap, ◌∙◌, ◌-◌, List}
-use Rattle.c8_sealed.specs.Given.{GivenValue, counters_of}
+use Rattle.std.proofs.Common.{sym, ap, ◌∙◌, ◌-◌}
+use Rattle.c8_sealed.specs.Given.{counters_of}
 use Rattle.c8_sealed.proofs.sealer.Sealer.new.Goals as goal
 
 pub invariant_of-result : goal.invariant_of-result

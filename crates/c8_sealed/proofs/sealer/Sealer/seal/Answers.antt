@@ -1,4 +1,4 @@
-use Rattle.std.proofs.Common.{ℕ, ◌≡◌, ◌+◌, ◌-◌, sym, ap, ◌∙◌, subst, arith}
+use Rattle.std.proofs.Common.{subst, arith}
 use Rattle.c8_sealed.specs.Sealer.{SealerValue, HasSealed}
 use Rattle.c8_sealed.specs.contracts.sealer.Sealer.{the_view}
 use Rattle.c8_sealed.proofs.SealerLemmas.{has_used}

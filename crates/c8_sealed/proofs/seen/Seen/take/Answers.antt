@@ -1,4 +1,4 @@
-use Rattle.std.proofs.Common.{ap, sym, ◌∙◌, ◌++◌, ◌∷◌, [], List, ℕ, ◌≡◌, subst}
+use Rattle.std.proofs.Common.{ap, ◌∙◌, ◌++◌, ◌∷◌, [], List, ℕ, subst}
 use Rattle.c8_sealed.specs.Counters.{IsNew}
 use Rattle.c8_sealed.proofs.seen.Seen.take.Goals as goal
 
@@ -9,5 +9,5 @@ returns-in_default c =
 pub returns : goal.returns
 returns c = (
   subst (λ (taken : List ℕ). IsNew taken c.args.counter) c.self.view_is (c.in-Some.ensures.room c.self.inside.taken.items c.self.invariant).0,
-  c.and-self-inside.ensures ∙ ap (λ (taken : List ℕ). taken ++ c.args.counter ∷ []) c.self.view_is
+  c.and-self-inside.ensures ∙ ap (λ (taken : List ℕ). taken ++ c.args.counter ∷ []) c.self.view_is,
 )
