@@ -168,21 +168,23 @@ fn answers_no_hello_that_is_refused(rt: HostRuntime) -> Result<(), Fail> {
 /// packets of a turn are heard, and before anything is sent. Byte 26 is in the acknowledgement, 43 in the start, 4 in
 /// the session, 19 in the sender's epoch, and 2 is the version.
 #[rattlefmt::skip]
-static SILENCES: [Step; 42] = [
+static SILENCES: [Step; 43] = [
     Turn("2 HELLO, 3 HELLO"),
     Sends(2, WELCOME, 0), Sends(2, HELLO, 0),
     Sends(3, WELCOME, 0), Sends(3, HELLO, 0),
     Turn("2 WELCOME, 2 DATA, 3 WELCOME, 3 DATA"),
     Enters(3, 0x20), Keeps(3, DATA),
     Sends(2, DATA, 0), Turn("2 DATA, 3 DATA"), Silent(3, 1),
-    Sends(2, DATA, 0), Turn("2 DATA, 3 DATA"), Silent(3, 2),
-    Sends(2, DATA, 0), Repeats(WHOLE), Turn("2 DATA, 3 DATA"), Silent(3, 0),
-    // acknowledges too much, leaves a gap, from another match, from an earlier epoch
-    Sends(2, DATA, 0), Repeats(26), Turn("2 DATA, 3 DATA"), Silent(3, 1),
+    // leaves a gap
     Sends(2, DATA, 0), Repeats(43), Turn("2 DATA, 3 DATA"), Silent(3, 2),
+    Sends(2, DATA, 0), Repeats(WHOLE), Turn("2 DATA, 3 DATA"), Silent(3, 0),
+    // acknowledges too much, from another match
+    Sends(2, DATA, 0), Repeats(26), Turn("2 DATA, 3 DATA"), Silent(3, 1),
+    Sends(2, DATA, 0), Repeats(4), Turn("2 DATA, 3 DATA"), Silent(3, 2),
     Sends(3, DATA, 0), Turn("2 DATA, 3 DATA"), Silent(3, 0),
-    Sends(2, DATA, 0), Repeats(4), Turn("2 DATA, 3 DATA"), Silent(3, 1),
-    Sends(2, DATA, 0), Repeats(19), Turn("2 DATA, 3 DATA"), Silent(3, 2),
+    // from an earlier epoch, no datagram
+    Sends(2, DATA, 0), Repeats(19), Turn("2 DATA, 3 DATA"), Silent(3, 1),
+    Sends(2, DATA, 0), Repeats(0), Turn("2 DATA, 3 DATA"), Silent(3, 2),
     Keeps(3, HELLO),
     Sends(2, DATA, 0), Repeats(WHOLE), Turn("2 DATA, 2 FREEZE 3, 3 WELCOME, 3 DATA"), Silent(3, 3),
 ];
@@ -250,7 +252,7 @@ static PRINTED: [Step; 33] = [
     Keeps(2, DATA), Repeats(32), Turn("2 DATA"), Prints(""),
     Turn("2 DATA"), Prints(""),
     Turn("2 DATA"),
-    Prints("ticked 11, confirmed 5, rollbacks 0, longest 0, player 2 silent for 800 ms, the machines differ\n"),
+    Prints("ticked 11, confirmed 5, rollbacks 0, longest 0, player 2 silent for 1600 ms, the machines differ\n"),
 ];
 
 #[test]
