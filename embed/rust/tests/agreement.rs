@@ -179,8 +179,8 @@ fn a_journal_is_lost_that_others_acknowledge() {
     two.deliver(&one.say(2, Kind::Data).unwrap()).unwrap();
     assert!(!one.is_lost() && !two.is_lost());
     let mut again = Session::open(rules(2), 1, 3, 0).unwrap();
-    greet(&mut again, &mut two);
-    let _ = again.deliver(&two.say(1, Kind::Data).unwrap());
+    two.deliver(&again.say(2, Kind::Hello).unwrap()).unwrap();
+    assert_eq!(again.deliver(&two.say(1, Kind::Welcome).unwrap()), Err(Refusal::BadAck));
     assert!(again.is_lost() && !two.is_lost());
 }
 
