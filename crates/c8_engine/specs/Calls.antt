@@ -1,5 +1,5 @@
 -- What the calls of a handle do to its session.
-use Rattle.std.specs.Prelude.{ℕ, ◌≡◌, ◌≢◌, ◌⊎◌, ◌<◌, ◌/◌, min, true, false, List, [], ◌∷◌, ◌++◌, length, map, Option, None, Some, Result, Err}
+use Rattle.std.specs.Prelude.{ℕ, ◌≡◌, ◌≢◌, ◌⊎◌, ◌/◌, min, true, false, List, [], ◌∷◌, ◌++◌, length, map, Option, None, Some, Result, Err}
 use Rattle.c8_disk.specs.declared.error.DiskError.{DiskError}
 use Rattle.c8_disk.specs.declared.file.FileDisk.{FileDisk}
 use Rattle.c8_game.specs.Rules.{Rules, session_of}
@@ -82,9 +82,9 @@ pub record HasMadeTurn (old new : EngineOf) (code : ℕ) : Type 0 where
   pub depth : new.depth ≡ old.depth
   pub code_is : code ≡ turn_code reply
 
--- the first `size` bytes, if there are any, are the packet of a datagram that the peer says to this player
+-- the first `size` bytes are the packet of a datagram that the peer says to this player; or there are none, and nothing changed
 abbrev pub HasSaid : Session → ℕ → ℕ → List ℕ → Session → Type 0
-HasSaid e to size out f = 0 < size → (what : Saying) × HasSent e f to what size out
+HasSaid e to size out f = ((what : Saying) × HasSent e f to what size out) ⊎ ((size ≡ 0) × IsAsBefore e f)
 
 -- the saying that a kind's number asks for, about this leaver if it is about one
 abbrev pub IsKind : ℕ → ℕ → Saying → Type 0

@@ -1,7 +1,8 @@
 //! The packets of a session.
-ghost use Rattle.std.specs.Prelude.{◌≡◌, ◌≤◌, ◌<◌, None, IfSome};
+ghost use Rattle.std.specs.Prelude.{◌≡◌, ◌≢◌, ◌≤◌, ◌<◌, None, IfSome};
 ghost use Rattle.c8_peer.specs.Asked.{saying_of};
 ghost use Rattle.c8_engine.specs.Codes.{closed_code, nobody_code};
+ghost use Rattle.c8_embed.specs.Session.{IsAsBefore};
 ghost use Rattle.c8_engine.specs.Calls.{IfSession, IsKind, HasSaid, HasSaidKind, HasRefusedToSay};
 
 use crate::codes::{closed_code, nobody_code, say_code};
@@ -45,6 +46,7 @@ pub extern "C" fn c8_say(
         result ≡ 0 → HasSaidKind e to kind leaver length.new out.new f) }
     ensures refused { IfSession handle.old.value handle.new.value (λ e f.
         nobody_code < result → HasRefusedToSay e to kind leaver result f) }
+    ensures kept { IfSession handle.old.value handle.new.value (λ e f. result ≢ 0 → IsAsBefore e f) }
     ensures fits { result ≡ 0 → length.new ≤ 198 }
 {
     if !handle.is_open() {
