@@ -1,6 +1,6 @@
 //! The wire to the other players and the watchers over one UDP socket.
 
-ghost use Rattle.std.specs.Prelude.{◌≡◌, ◌≤◌, ◌<◌, ◌-◌, ℕ, List, length, take, IfOk, IfSome, MatchResult, slice_index_or, slice_set};
+ghost use Rattle.std.specs.Prelude.{◌≡◌, ◌≤◌, ◌<◌, ◌-◌, ℕ, List, length, take, IfOk, IfSome, MatchResult, None, slice_index_or, slice_set};
 ghost use Rattle.c8_transport.specs.Wire.{MayTake, Gives};
 ghost use Rattle.c8_udp.specs.Contacts.{address_of, after};
 ghost use Rattle.c8_udp.specs.Letters.{IsPosted, HasCome};
@@ -99,6 +99,7 @@ impl<S> Udp<S> {
     fn lose(&mut self)
         ensures traffic { self.new.traffic ≡ self.old.traffic }
         ensures socket { self.new.socket ≡ self.old.socket }
+        ensures contacts { self.new.contacts ≡ self.old.contacts }
     {
         self.losses.lost = self.losses.lost.saturating_add(1);
     }
@@ -107,6 +108,7 @@ impl<S> Udp<S> {
     fn turn_away(&mut self)
         ensures traffic { self.new.traffic ≡ self.old.traffic }
         ensures socket { self.new.socket ≡ self.old.socket }
+        ensures contacts { self.new.contacts ≡ self.old.contacts }
     {
         self.losses.foreign = self.losses.foreign.saturating_add(1);
     }
@@ -159,6 +161,7 @@ impl<S: Socket> Wire for Udp<S> {
         ensures posted { IsPosted (address_of (slice_index_or self.old.contacts (to.number - 1) Nobody)) datagram.now
             (S.took self.old.socket) (S.took self.new.socket)
             self.old.traffic.sent.items self.new.traffic.sent.items }
+        ensures contacts { self.new.contacts ≡ self.old.contacts }
     {
         let Some(address) = self.address_of(to) else {
             return Ok(());
@@ -179,6 +182,7 @@ impl<S: Socket> Wire for Udp<S> {
         ensures sent { self.new.traffic.sent.items ≡ self.old.traffic.sent.items }
         ensures come { IfOk result (λ next. IfSome next (λ size. HasCome
             (S.gave self.old.socket) (S.gave self.new.socket) (take size packet.new) self.new.from)) }
+        ensures contacts { self.new.contacts ≡ self.old.contacts }
     {
         let most = packet.len().min(LONGEST_READ);
         for _ in 0..MOST_SKIPPED {
@@ -201,6 +205,7 @@ impl<S: Socket> Wire for Udp<S> {
     fn tell_sender(&mut self, sender: Seat, counter: u64)
         ensures received { self.new.traffic.received.items ≡ self.old.traffic.received.items }
         ensures sent { self.new.traffic.sent.items ≡ self.old.traffic.sent.items }
+        ensures unknown { self.old.from ≡ None → self.new.contacts ≡ self.old.contacts }
         ensures learnt { IfSome self.old.from (λ address. self.new.contacts ≡ slice_set self.old.contacts (sender.number - 1)
             (after (record { address = address; counter = counter })
             (slice_index_or self.old.contacts (sender.number - 1) Nobody))) }

@@ -6,5 +6,6 @@ abbrev pub invariant-loop : goal.invariant-loop
 invariant-loop g l = record {
   sent : l.self.traffic.sent.items ≡ l.initial.self.traffic.sent.items;
   received : l.self.traffic.received.items ≡ l.initial.self.traffic.received.items;
+  contacts : l.self.contacts ≡ l.initial.self.contacts;
   gave : (skipped : List LetterValue) × (g.S.Socket.gave l.self.socket ≡ g.S.Socket.gave l.fn.self.socket ++ skipped);
 }
