@@ -46,6 +46,8 @@ class Network(threading.Thread, ABC):
         self.selector = selectors.DefaultSelector()
         self.due: list[tuple[float, int, Callable[[], None]]] = []
         self.asked, self.ended = 0, False
+        # whether more packets wait than were read in the last turn
+        self.lags = False
         self.fault: BaseException | None = None
 
     def opened(self) -> socket.socket:
@@ -69,17 +71,18 @@ class Network(threading.Thread, ABC):
     def came(self, by: socket.socket, packet: bytes, sender: Address) -> None:
         """A packet came to a socket."""
 
-    def read(self, by: socket.socket) -> None:
-        # a few at a time, so that what is due is not late
+    def read(self, by: socket.socket) -> bool:
+        """Reads a few packets, so that what is due is not late. Returns whether more may wait."""
         for _ in range(16):
-            try:
-                packet, sender = by.recvfrom(LARGE)
-            except BlockingIOError:
-                return
-            except ConnectionError:
-                continue
             with self.lock:
+                try:
+                    packet, sender = by.recvfrom(LARGE)
+                except BlockingIOError:
+                    return False
+                except ConnectionError:
+                    continue
                 self.came(by, packet, sender)
+        return True
 
     def run(self) -> None:
         try:
@@ -94,9 +97,11 @@ class Network(threading.Thread, ABC):
             while self.due and self.due[0][0] <= time.monotonic():
                 heapq.heappop(self.due)[2]()
             wait = min(max(self.due[0][0] - time.monotonic(), 0), 0.05) if self.due else 0.05
+        lags = False
         for key, _ in self.selector.select(wait):
             assert isinstance(key.fileobj, socket.socket)
-            self.read(key.fileobj)
+            lags |= self.read(key.fileobj)
+        self.lags = lags
 
     def end(self) -> None:
         self.ended = True
@@ -107,6 +112,16 @@ class Network(threading.Thread, ABC):
         self.selector.close()
         if self.fault:
             raise self.fault
+
+
+def loses_one(opened: socket.socket) -> bool:
+    """Whether a packet waited at a socket. It is lost."""
+    try:
+        return bool(opened.recv(LARGE))
+    except ConnectionError:
+        return True
+    except BlockingIOError:
+        return False
 
 
 def counter_of(packet: bytes) -> int:
@@ -146,7 +161,7 @@ class Player:
 class Replayer(Network):
     """A network between players 1 and 2. Each finds the other at a door. With each packet go copies of it: at once, a second
     later, and both from a stranger's address too; one that is forged, and one back to its sender. Every 16th packet is
-    overtaken by others and comes from the stranger. A model of each player with a secret counts the packets that it has to
+    overtaken by others and comes from the stranger. While packets wait to be read, nothing is repeated. A model of each player with a secret counts the packets that it has to
     refuse, and says from which address it has the newest one.
     """
 
@@ -233,7 +248,8 @@ class Replayer(Network):
         """Carries a packet of a player to the other one, with its copies."""
         door, to = self.doors[number], 3 - number
         self.carried += 1
-        if not self.repeats:
+        # on a slow machine copies would hold up the match: then the network only carries, until it has caught up
+        if not self.repeats or self.lags:
             self.give(to, packet, door)
             return
         if self.carried % 16:
@@ -300,8 +316,11 @@ class Gateway(Network):
             self.every(0.001, lambda: self.forward(self.hello))
 
     def close(self) -> None:
-        """The player was killed: its next opening has taken nothing yet, and knows no learnt address."""
+        """The player was killed: its next opening has taken nothing yet, and knows no learnt address. What waits is lost."""
         with self.lock:
+            for it in (self.near, self.far):
+                while loses_one(it):
+                    pass
             if self.sealer:
                 self.sealer = Sealer(self.secret, self.sealer.session, self.sealer.seat, self.sealer.epoch + 1)
             self.hello = b""
