@@ -5,7 +5,8 @@ use Rattle.std.specs.Io.KnownBytes.{Appends}
 use Rattle.std.proofs.KnownBytes.{Appends-nil, Appends-trans}
 use Rattle.c8_game.specs.declared.row.Player.{Player}
 use Rattle.c8_audit.specs.declared.verdict.Verdicts.{Verdicts}
-use Rattle.c8_audit_command.specs.Printed.{checks_text, verdicts_text, Grows, Tells}
+use Rattle.c8_keys.specs.Report.{Grows}
+use Rattle.c8_audit_command.specs.Printed.{checks_text, verdicts_text, Tells}
 
 pub true_checks : {T E : Type 0} (before after : Option (List ℕ)) (untrue : Option Player) (told : Result T E) → untrue ≡ None → OnOk told (Appends before after (codes "checks yes\n"))
     → OnOk told ((check : ℕ) × Appends before after (checks_text untrue check))

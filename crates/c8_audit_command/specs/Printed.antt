@@ -27,10 +27,6 @@ agree_text None count = line (codes "agree yes " ∷ decimal count ∷ [])
 abbrev pub verdicts_text : Verdicts → ℕ → List ℕ
 verdicts_text verdicts check = entered_text verdicts.unentered ++ (checks_text verdicts.untrue check ++ agree_text verdicts.difference verdicts.count)
 
--- some text is added
-abbrev pub Grows : Option (List ℕ) → Option (List ℕ) → Type 0
-Grows old new = (text : List ℕ) × Appends old new text
-
 -- the lines of these verdicts are added, others before them, and perhaps one after them
 abbrev pub Tells : Option (List ℕ) → Option (List ℕ) → Verdicts → Type 0
 Tells old new verdicts = (before : List ℕ) × (check : ℕ) × (after : List ℕ) × Appends old new (before ++ (verdicts_text verdicts check ++ after))

@@ -9,7 +9,8 @@ ghost use Rattle.c8_audit.specs.Judged.{AreVerdicts};
 ghost use Rattle.c8_audit.specs.Verdicts.{IsLeastCount};
 ghost use Rattle.c8_audit.specs.declared.verdict.Verdicts.{Verdicts};
 ghost use Rattle.c8_audit_command.specs.Audit.{fault_in};
-ghost use Rattle.c8_audit_command.specs.Printed.{entered_text, checks_text, agree_text, verdicts_text, Grows, Tells};
+ghost use Rattle.c8_keys.specs.Report.{Grows};
+ghost use Rattle.c8_audit_command.specs.Printed.{entered_text, checks_text, agree_text, verdicts_text, Tells};
 
 use crate::error::AuditFault;
 use c8_audit::{

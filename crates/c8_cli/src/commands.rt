@@ -9,7 +9,7 @@ use c8_front::{
 };
 use c8_host::{HOST, JOIN, host_given, join_given};
 use c8_keys::run_files;
-use c8_net::{PEER, WATCH, peer_given, watch_given};
+use c8_net::{PEER, peer_given};
 use c8_play::{PLAY, play_given};
 use c8_program::{GAME, game_given};
 use c8_replay::{REPLAY, replay_given};
@@ -17,6 +17,7 @@ use c8_script::sim_files;
 use c8_secret::{SECRET, secret_given};
 use c8_show::show;
 use c8_threads::{RIG, rig_given};
+use c8_watch_command::{WATCH, watch_given};
 use clap::{ArgMatches, Command};
 use std::alloc::{AllocError, Global};
 use std::env::Args;
@@ -66,7 +67,7 @@ where
     let command = command(rt.alloc())?;
     match command.try_get_matches_from(words.as_slice()) {
         Ok(matches) => carry_out(rt, &matches, input, out, terminals, refused),
-        Err(error) => tell(&error, out, refused),
+        Err(error) => tell(rt.alloc(), &error, out, refused),
     }
 }
 

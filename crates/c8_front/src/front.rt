@@ -93,6 +93,7 @@ pub fn words_in<E: Write>(
 /// Writes the parser's message: help and version to `out`, a mistake to `refused`. The error is a writer's, or that
 /// memory ran out.
 pub fn tell<W: Write, E: Write>(
+    alloc: Global,
     error: &clap::Error,
     out: &mut W,
     refused: &mut E,
@@ -107,10 +108,30 @@ pub fn tell<W: Write, E: Write>(
     if error.kind() == ErrorKind::OutOfMemory {
         Err(io::ErrorKind::OutOfMemory.into())
     } else if error.use_stderr() {
-        write!(refused, "{error}")?;
+        let text = format!(in alloc; "{error}")?;
+        write_mistake(text.as_str(), refused)?;
         Ok(Status::CommandLine)
     } else {
         write!(out, "{error}")?;
         Ok(Status::Done)
+    }
+}
+
+/// How the parser's advice to pass an option as a value begins. No command takes such a value.
+const ADVICE: &str = "\n  tip: to pass ";
+
+/// Writes the parser's message about a mistake, without that advice.
+fn write_mistake<E: Write>(text: &str, refused: &mut E) -> io::Result<()> {
+    let Some((before, advice)) = text.split_once(ADVICE) else {
+        return refused.write_all(text.as_bytes());
+    };
+    let before = before.strip_suffix("\n").unwrap_or(before);
+    refused.write_all(before.as_bytes())?;
+    match advice.split_once("\n") {
+        Some((_, rest)) => {
+            refused.write_all(b"\n")?;
+            refused.write_all(rest.as_bytes())
+        }
+        None => Ok(()),
     }
 }

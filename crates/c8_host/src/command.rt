@@ -1,11 +1,15 @@
 //! Runs `host` and `join`: each is a command line of `play` with its words filled in.
 
+ghost use Rattle.std.specs.Prelude.{◌≡◌, ◌≢◌, IfOk, IfErr, IfSome};
+ghost use Rattle.c8_command.specs.declared.status.Status.TheVariants as statuses;
+ghost use Rattle.c8_net.specs.Answers.{EndsMatch};
+
 use crate::addresses::{LIST, own_addresses};
 use crate::digits::{digits_in, is_secret};
 use crate::inviting::{invitation, note};
 use crate::journals::journal_for;
 use c8_command::{Part, Refusal, Site, Status};
-use c8_front::{Terminals, command_of, is_explained, tell, word_of};
+use c8_front::{Terminals, command_of, is_explained, word_of};
 use c8_game::Player;
 use c8_net::{Asked, asked_for, game_at, number_of, perform_given, refuse};
 use c8_play::{Live, PLAY, Pace, Terminal};
@@ -55,6 +59,7 @@ where
     R: Files<File = File> + Net + Clock + AllocGlobal,
     W: Write,
     E: Write,
+    ensures { IfOk result (EndsMatch (W.contents out.old) (W.contents out.new)) }
 {
     if let Some(status) = refuse_game(rt, given, "host", refused)? {
         return Ok(status);
@@ -83,6 +88,7 @@ fn invited<R, E>(
 where
     R: Files<File = File> + AllocGlobal,
     E: Write,
+    ensures { IfOk result (λ invited. IfErr invited (λ status. status ≢ statuses.Done)) }
 {
     let secret = secret_path(rt.alloc(), given)?;
     let room = match made(rt, secret.as_str()) {
@@ -142,6 +148,7 @@ where
     I: Read + Drop,
     W: Write,
     E: Write,
+    ensures { IfOk result (EndsMatch (W.contents out.old) (W.contents out.new)) }
 {
     if let Some(status) = refuse_game(rt, given, "join", refused)? {
         return Ok(status);
@@ -169,6 +176,7 @@ where
     R: Files<File = File> + AllocGlobal,
     I: Read + Drop,
     E: Write,
+    ensures { IfOk result (λ joined. IfErr joined (λ status. status ≢ statuses.Done)) }
 {
     let secret = secret_path(rt.alloc(), given)?;
     if let Some(status) = ask(rt, given, secret.as_str(), input, terminals, refused)? {
@@ -203,6 +211,7 @@ where
     R: Files<File = File> + AllocGlobal,
     I: Read + Drop,
     E: Write,
+    ensures { IfOk result (λ asked. IfSome asked (λ status. status ≢ statuses.Done)) }
 {
     if fs::metadata(rt, secret).is_ok() {
         return Ok(None);
@@ -242,12 +251,16 @@ where
     R: Files<File = File> + Net + Clock + AllocGlobal,
     W: Write,
     E: Write,
+    ensures { IfOk result (EndsMatch (W.contents out.old) (W.contents out.new)) }
 {
     let journal = journal_for(rt, given, wanted, refused)?;
     let words = words_of(rt.alloc(), given, wanted, journal.as_str())?;
     let matches = match matches_in(rt.alloc(), words.as_slice()) {
         Ok(Ok(matches)) => matches,
-        Ok(Err(error)) => return tell(&error, out, refused),
+        Ok(Err(error)) => {
+            write!(refused, "{error}")?;
+            return Ok(Status::CommandLine);
+        }
         Err(error) => return Err(error.into()),
     };
     let asked = Asked {
@@ -280,6 +293,7 @@ where
     R: Files<File = File> + Net + Clock + AllocGlobal,
     W: Write,
     E: Write,
+    ensures { IfOk result (EndsMatch (W.contents out.old) (W.contents out.new)) }
 {
     let status = perform_given(rt, asked, live, out, refused)?;
     if status == Status::Done && !asked.has_no_journal() {
@@ -347,6 +361,7 @@ fn refuse_game<R, E>(
 where
     R: Files<File = File> + AllocGlobal,
     E: Write,
+    ensures { IfOk result (λ told. IfSome told (λ status. status ≢ statuses.Done)) }
 {
     match game_at(rt, word_of(given, "GAME")) {
         Ok(game) if game.players() == 2 => Ok(None),

@@ -1,1 +1,2 @@
 pub mod KeyLineLemmas
+pub mod ReportLemmas

@@ -1,8 +1,8 @@
 //! `c8play run`: plays a game alone, from a file of keys.
 
-ghost use Rattle.std.specs.Prelude.{◌≡◌, IfOk, Result};
-ghost use Rattle.c8_command.specs.Status.{status_of_outcome};
+ghost use Rattle.std.specs.Prelude.{IfOk, Result};
 ghost use Rattle.c8_keys.specs.Errors.{run_part};
+ghost use Rattle.c8_keys.specs.Report.{IsTold};
 ghost use Rattle.c8_keys.specs.Run.{IsPlayOfRead, IsOutcomeOfRun};
 ghost use Rattle.c8_keys.specs.declared.error.RunError.{RunError};
 ghost use Rattle.c8_keys.specs.declared.lines.Played.{Played};
@@ -68,7 +68,7 @@ pub fn run<W: Write, E: Write>(
 ) -> io::Result<Status>
     ensures { IfOk result (λ status. (outcome : Result Played RunError)
         × IsOutcomeOfRun game.entry.bytes.now keys.entry.bytes.now outcome
-        × (status ≡ status_of_outcome run_part outcome)) }
+        × IsTold run_part (W.contents out.old) (W.contents out.new) outcome status) }
 {
     let outcome = played_from(Game::read(alloc, game.bytes), keys.bytes);
     let site = match outcome {
@@ -95,11 +95,12 @@ fn tell<W: Write, E: Write>(
     out: &mut W,
     refused: &mut E,
 ) -> io::Result<Status>
-    ensures { IfOk result (λ status. status ≡ status_of_outcome run_part outcome) }
+    ensures { IfOk result
+        (IsTold run_part (W.contents out.old) (W.contents out.new) outcome) }
 {
     match outcome {
-        Ok(Played { frames, machine }) => {
-            write_report(out, frames, &machine)?;
+        Ok(played) => {
+            write_report(out, &played)?;
             Ok(Status::Done)
         }
         Err(error) => Refusal::from(error).tell_at(site, &error, refused),

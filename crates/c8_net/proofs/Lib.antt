@@ -1,3 +1,2 @@
 pub mod PlayLemmas
-pub mod WatchingLemmas
 pub mod OutcomeLemmas

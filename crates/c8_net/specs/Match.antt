@@ -1,5 +1,5 @@
 -- How `peer` ends: by a game, the addresses and standard input, and then on a journal.
-use Rattle.std.specs.Prelude.{◌≡◌, ◌≢◌, ◌≤◌, ◌⊎◌, ℕ, ◌+◌, List, length, Option, IfSome, Result, IfErr}
+use Rattle.std.specs.Prelude.{◌≡◌, ◌≢◌, ◌⊎◌, ℕ, ◌+◌, List, Option, IfSome, Result, IfErr}
 use Rattle.c8_game.specs.Rules.{Rules}
 use Rattle.c8_machine.specs.State.{state}
 use Rattle.c8_machine.specs.Serial.{serial}
@@ -17,9 +17,6 @@ use Rattle.c8_keys.specs.KeySets.{IsFaultOfSets}
 use Rattle.c8_keys.specs.declared.lines.Played.{Played}
 use Rattle.c8_live.specs.declared.error.SessionError.{SessionError}
 use Rattle.c8_live.specs.Runs.{HasRunOn, IsStopped, IsEnd}
-use Rattle.c8_spectator.specs.Watching.{WatchValue, first_watch}
-use Rattle.c8_transport.specs.declared.wire.Wire.{Ghosts as WireGhosts}
-use Rattle.c8_watch.specs.Turns.{AreTurns}
 use Rattle.c8_net.specs.declared.error.PeerError.{PeerError}
 use Rattle.c8_net.specs.declared.error.PeerError.TheVariants.{Game, Secret, Keys, Open, Disk, Socket, Lost}
 use Rattle.c8_udp.specs.declared.error.SocketError.TheVariants as sockets
@@ -95,16 +92,3 @@ module _ {D : Type 0} (g : Ghosts D) (disk : D) (rules : Rules) (room me : ℕ) 
   HasFailed (Socket sockets.Remotes) = ⊥
   HasFailed (Socket sockets.Address) = ⊥
   HasFailed Lost = HasRunFirst
-
--- ---- watching
-
--- A match was watched from a seat: at most `most` turns over this wire, starting without rows. These are the frames
--- that were taken, and the machine is the serial run of their rows.
-pub record HasWatched {W : Type 0} (wire : WireGhosts W) (rules : Rules) (room seat most : ℕ) (first : W) (played : Played) : Type 0 where
-  pub last : W
-  pub turns : ℕ
-  pub few : turns ≤ most
-  pub watch : WatchValue
-  pub watched : AreTurns wire turns (first_watch rules room seat) watch first last
-  pub frames : played.frames ≡ length watch.rows
-  pub machine : state played.machine ≡ serial rules watch.rows

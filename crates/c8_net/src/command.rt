@@ -2,11 +2,13 @@
 //!
 //! c8_live makes the turns, and `play` runs the match. This file opens the files, and writes the report.
 
-ghost use Rattle.std.specs.Prelude.{◌≡◌, IfOk, Result};
-ghost use Rattle.c8_command.specs.Status.{status_of, status_of_outcome};
-ghost use Rattle.c8_keys.specs.declared.lines.Played.{Played};
+ghost use Rattle.std.specs.Prelude.{◌≡◌, ◌≢◌, ◌≤◌, ◌⊎◌, MatchResult, IfOk, IfErr, Result};
+ghost use Rattle.c8_command.specs.Status.{status_of};
+ghost use Rattle.c8_command.specs.declared.status.Status.TheVariants as statuses;
+ghost use Rattle.c8_game.specs.Rules.{Rules};
+ghost use Rattle.c8_keys.specs.Report.{IsTold};
+ghost use Rattle.c8_net.specs.Answers.{IsUnbegun, IsMatchOn, HasAnswered, EndsMatch};
 ghost use Rattle.c8_net.specs.Errors.{peer_part};
-ghost use Rattle.c8_net.specs.declared.error.PeerError.{PeerError};
 
 use crate::arguments::{Asked, asked_of};
 use crate::error::PeerError;
@@ -21,7 +23,7 @@ use c8_game::Game;
 use c8_journal::{Journal, Trouble, warn_of_a_slow_disk};
 use c8_keys::{Played, write_report};
 use c8_peer::OpenError;
-use c8_udp::refused_address;
+use c8_udp::{SocketError, refused_address};
 use clap::ArgMatches;
 use std::alloc::Global;
 use std::fs::File;
@@ -48,6 +50,7 @@ where
     I: Read + Drop,
     W: Write,
     E: Write + Send,
+    ensures { IfOk result (EndsMatch (W.contents out.old) (W.contents out.new)) }
 {
     match asked_of(given) {
         Some(asked) => match mistake_in(&asked) {
@@ -80,6 +83,7 @@ where
     P: Performance + Drop,
     W: Write,
     E: Write,
+    ensures { IfOk result (EndsMatch (W.contents out.old) (W.contents out.new)) }
 {
     match mistake_in(asked) {
         Some(mistake) => refuse_line(mistake, refused),
@@ -88,7 +92,9 @@ where
 }
 
 /// Refuses a command line.
-fn refuse_line<E: Write>(mistake: &str, refused: &mut E) -> io::Result<Status> {
+fn refuse_line<E: Write>(mistake: &str, refused: &mut E) -> io::Result<Status>
+    ensures { IfOk result (λ status. status ≡ statuses.CommandLine) }
+{
     writeln!(refused, "error: {mistake}")?;
     Ok(Status::CommandLine)
 }
@@ -124,22 +130,17 @@ where
     I: Read + Drop,
     W: Write,
     E: Write + Send,
-    ensures { IfOk result (λ status. (outcome : Result Played PeerError)
-        × (status ≡ status_of_outcome peer_part outcome)) }
+    ensures { IfOk result (HasAnswered asked.now.room asked.now.player.number
+        (W.contents out.old) (W.contents out.new)) }
 {
     warn_of_secrets(rt, asked, refused)?;
     let trouble = Trouble::none();
-    let outcome = match begun(rt, asked, input, &trouble) {
-        Ok((it, journal)) => {
-            let played = match journal {
-                Journal::File(disk) => play_on(rt, asked, it, disk, refused),
-                Journal::Memory(disk) => play_on(rt, asked, it, disk, refused),
-            };
-            played.map_err(|error| Fault::of_journal(rt.alloc(), error, asked.journal, &trouble))
-        }
-        Err(fault) => Err(fault),
+    let (it, journal) = match begun(rt, asked, input, &trouble) {
+        Ok(it) => it,
+        Err(fault) => return tell_fault(rt.alloc(), asked, fault, refused),
     };
-    tell_outcome(rt.alloc(), asked, outcome, out, refused)
+    let played = play_in(rt, asked, it, journal, refused);
+    tell_outcome(rt.alloc(), asked, played, &trouble, out, refused)
 }
 
 /// Plays a game with others by a performance, in the caller's thread; the performance has its own key sets.
@@ -155,50 +156,100 @@ where
     P: Performance + Drop,
     W: Write,
     E: Write,
-    ensures { IfOk result (λ status. (outcome : Result Played PeerError)
-        × (status ≡ status_of_outcome peer_part outcome)) }
+    ensures { IfOk result (HasAnswered asked.now.room asked.now.player.number
+        (W.contents out.old) (W.contents out.new)) }
 {
     warn_of_secrets(rt, asked, refused)?;
     let trouble = Trouble::none();
-    let outcome = match begun(rt, asked, io::empty(), &trouble) {
-        Ok((it, journal)) => {
-            if !asked.has_no_journal() {
-                warn_of_a_slow_disk(rt, asked.journal, refused)?;
-            }
-            let played = match journal {
-                Journal::File(disk) => perform_on(rt, asked, it, disk, performance, refused),
-                Journal::Memory(disk) => perform_on(rt, asked, it, disk, performance, refused),
-            };
-            played.map_err(|error| Fault::of_journal(rt.alloc(), error, asked.journal, &trouble))
-        }
-        Err(fault) => Err(fault),
+    let (it, journal) = match begun(rt, asked, io::empty(), &trouble) {
+        Ok(it) => it,
+        Err(fault) => return tell_fault(rt.alloc(), asked, fault, refused),
     };
-    tell_outcome(rt.alloc(), asked, outcome, out, refused)
+    if !asked.has_no_journal() {
+        warn_of_a_slow_disk(rt, asked.journal, refused)?;
+    }
+    let played = perform_in(rt, asked, it, journal, performance, refused);
+    tell_outcome(rt.alloc(), asked, played, &trouble, out, refused)
+}
+
+/// Plays a match in threads, on the disk of a journal.
+fn play_in<R, E>(
+    rt: &R,
+    asked: &Asked<'_, '_>,
+    it: Prepared,
+    journal: Journal<'_>,
+    progress: &mut E,
+) -> Result<Played, PeerError>
+where
+    R: Net + Clock + Threads + Wait + Sync + AllocGlobal,
+    E: Write + Send,
+    ensures { IsMatchOn journal.entry it.game asked.now.room asked.now.player.number result }
+{
+    match journal {
+        Journal::File(disk) => play_on(rt, asked, it, disk, progress),
+        Journal::Memory(disk) => play_on(rt, asked, it, disk, progress),
+    }
+}
+
+/// Plays a match by a performance, on the disk of a journal.
+fn perform_in<R, P, E>(
+    rt: &R,
+    asked: &Asked<'_, '_>,
+    it: Prepared,
+    journal: Journal<'_>,
+    performance: P,
+    progress: &mut E,
+) -> Result<Played, PeerError>
+where
+    R: Net + Clock + AllocGlobal,
+    P: Performance + Drop,
+    E: Write,
+    ensures { IsMatchOn journal.entry it.game asked.now.room asked.now.player.number result }
+{
+    match journal {
+        Journal::File(disk) => perform_on(rt, asked, it, disk, performance, progress),
+        Journal::Memory(disk) => perform_on(rt, asked, it, disk, performance, progress),
+    }
 }
 
 /// Writes the report of what was played, or the line of a refusal.
 fn tell_outcome<W: Write, E: Write>(
     alloc: Global,
     asked: &Asked<'_, '_>,
-    outcome: Result<Played, Fault<'_>>,
+    played: Result<Played, PeerError>,
+    trouble: &Trouble,
     out: &mut W,
     refused: &mut E,
 ) -> io::Result<Status>
-    ensures { IfOk result (λ status. (outcome : Result Played PeerError)
-        × (status ≡ status_of_outcome peer_part outcome)) }
+    ensures { IfOk result
+        (IsTold peer_part (W.contents out.old) (W.contents out.new) played) }
 {
-    match outcome {
-        Ok(Played { frames, machine }) => {
-            write_report(out, frames, &machine)?;
+    match played {
+        Ok(played) => {
+            write_report(out, &played)?;
             Ok(Status::Done)
         }
-        Err(fault) => {
-            let remotes = asked.remotes.unwrap_or(&[]);
-            let may_learn = asked.secret.is_some();
-            let word = refused_address(asked.local, remotes, asked.watchers, may_learn);
-            refuse(alloc, asked.explain, word, &fault, refused)
+        Err(error) => {
+            let fault = Fault::of_journal(alloc, error, asked.journal, trouble);
+            tell_fault(alloc, asked, fault, refused)
         }
     }
+}
+
+/// Writes the line of a refusal.
+fn tell_fault<E: Write>(
+    alloc: Global,
+    asked: &Asked<'_, '_>,
+    fault: Fault<'_>,
+    refused: &mut E,
+) -> io::Result<Status>
+    ensures { IfOk result (λ status. status ≡ status_of (peer_part fault.entry.error)) }
+{
+    let remotes = asked.remotes.unwrap_or(&[]);
+    let may_learn = asked.secret.is_some();
+    let word = refused_address(asked.local, remotes, asked.watchers, may_learn);
+    let fault = fault.because_of_word(word);
+    refuse(alloc, asked.explain, word, &fault, refused)
 }
 
 /// Writes the line of a refusal, and its explanation if asked for; `no_address` is the first word that is refused as an
@@ -210,7 +261,8 @@ pub fn refuse<E: Write>(
     fault: &Fault<'_>,
     refused: &mut E,
 ) -> io::Result<Status>
-    ensures { IfOk result (λ status. status ≡ status_of (peer_part fault.now.error)) }
+    ensures status_is { IfOk result (λ status. status ≡ status_of (peer_part fault.now.error)) }
+    ensures never_done { IfOk result (λ status. status ≢ statuses.Done) }
 {
     let refusal = Refusal::from(fault.error);
     if !explain {
@@ -235,10 +287,12 @@ fn begun<'a, 't, R, I>(
 where
     R: Files<File = File> + AllocGlobal,
     I: Read + Drop,
+    ensures { IfErr result (λ fault. IsUnbegun fault.error) }
 {
     let game = game_at(rt, asked.game)?;
     let seal = seal_at(rt, asked, &game)?;
     let remotes = asked.remotes.unwrap_or(&[]);
+    let players = game.players();
     let it = match prepare(
         rt.alloc(),
         game,
@@ -250,7 +304,7 @@ where
         input,
     ) {
         Ok(it) => it,
-        Err(it) => return Err(at_start(it)),
+        Err(it) => return Err(at_start(it, players, remotes.len())),
     };
     // The opening would refuse it too, but only after it has made a journal.
     if asked.player.number > it.game.players() {
@@ -270,20 +324,33 @@ fn journal_at<'a, 't, R>(
 ) -> Result<Journal<'t>, Fault<'a>>
 where
     R: Files<File = File> + AllocGlobal,
+    ensures { IfErr result (λ fault. IsUnbegun fault.error) }
 {
     let opened = if asked.has_no_journal() {
         Journal::in_memory(rt.alloc(), game).map_err(FileError::from)
     } else {
         Journal::in_file(rt, asked.journal, trouble)
     };
-    opened.map_err(|error| Fault::of_opening(rt.alloc(), error, asked.journal, trouble))
+    match opened {
+        Ok(journal) => Ok(journal),
+        Err(error) => Err(Fault::of_opening(rt.alloc(), error, asked.journal, trouble)),
+    }
 }
 
-/// Turns the refusal of `prepare` into a fault with its file.
-fn at_start<'a>(it: Unprepared) -> Fault<'a> {
+/// Turns the refusal of `prepare` into a fault with its file, for a game of this many players and as many addresses of
+/// others.
+fn at_start<'a>(it: Unprepared, players: u8, remotes: usize) -> Fault<'a>
+    requires { 2 ≤ players }
+    ensures { result.error ≡ it.error }
+{
     let Unprepared { error, input } = it;
     let why = match error {
         PeerError::Disk(_) => Some(Why::Unread(TextError::Failed)),
+        PeerError::Socket(SocketError::Remotes) => Some(Why::Remotes {
+            players,
+            needed: players - 1,
+            found: remotes,
+        }),
         _ => None,
     };
     Fault {

@@ -1,6 +1,7 @@
 //! The fault for which nothing was played, and its place.
 
-ghost use Rattle.std.specs.Prelude.{◌≡◌};
+ghost use Rattle.std.specs.Prelude.{◌≡◌, IfErr};
+ghost use Rattle.c8_net.specs.Answers.{IsUnbegun};
 
 use crate::error::PeerError;
 use c8_command::{Site, Text, TextError, read_file};
@@ -20,10 +21,13 @@ use thiserror::Error;
 /// The name of standard input in messages.
 pub(crate) const INPUT: &str = "standard input";
 
+/// The word for an address that is learnt.
+const LEARNT: &str = "-";
+
 /// Why nothing was played, and the file at fault.
 #[derive(Drop)]
 pub struct Fault<'a> {
-    pub(crate) error: PeerError,
+    pub error: PeerError,
     pub(crate) file: &'a str,
     /// The content of the file, if a line of it may be at fault.
     pub(crate) text: Vec<u8>,
@@ -40,6 +44,19 @@ pub(crate) enum Why {
     /// The bytes of a program make no game.
     #[error("{0}")]
     Program(ProgramError),
+    /// An address is to be learnt in a match without a secret.
+    #[error("an address is learnt from sealed packets: give --secret")]
+    Learnt,
+    /// There are as many players, and as many addresses of other players.
+    #[error("{players} players: give {needed} REMOTE, found {found}")]
+    Remotes {
+        players: u8,
+        needed: u8,
+        found: usize,
+    },
+    /// Watchers of a match with a secret have none of their own.
+    #[error("--watch5 and --watch6 need --watch-secret beside --secret")]
+    Watchers,
     /// The journal is in use.
     #[error("another program has this journal open")]
     Locked,
@@ -50,7 +67,7 @@ pub(crate) enum Why {
 
 impl<'a> Fault<'a> {
     /// A fault outside the lines of a file.
-    pub(crate) fn new(alloc: Global, error: PeerError, file: &'a str) -> Self
+    pub fn new(alloc: Global, error: PeerError, file: &'a str) -> Self
         ensures { result.error ≡ error }
     {
         Fault {
@@ -84,7 +101,9 @@ impl<'a> Fault<'a> {
         error: FileError,
         journal: &'a str,
         trouble: &Trouble,
-    ) -> Self {
+    ) -> Self
+        ensures { IsUnbegun result.error }
+    {
         let error = match error {
             FileError::Memory => PeerError::Open(OpenError::Memory),
             FileError::Full => PeerError::Disk(DiskError::Full),
@@ -107,8 +126,22 @@ impl<'a> Fault<'a> {
         Fault { why, ..self }
     }
 
+    /// The same fault, with what says more if this word is no address.
+    pub(crate) fn because_of_word(self, word: Option<&str>) -> Self
+        ensures { result.error ≡ self.entry.error }
+    {
+        match (self.error, word) {
+            (PeerError::Socket(SocketError::Address), Some(LEARNT)) => {
+                self.because(Some(Why::Learnt))
+            }
+            _ => self,
+        }
+    }
+
     /// A fault in the content of a file.
-    pub(crate) fn of_text(error: PeerError, file: &'a str, text: Vec<u8>) -> Self {
+    pub(crate) fn of_text(error: PeerError, file: &'a str, text: Vec<u8>) -> Self
+        ensures { result.error ≡ error }
+    {
         Fault {
             error,
             file,
@@ -118,7 +151,9 @@ impl<'a> Fault<'a> {
     }
 
     /// A game's file was not read.
-    pub(crate) fn unread(alloc: Global, error: TextError, file: &'a str) -> Self {
+    pub(crate) fn unread(alloc: Global, error: TextError, file: &'a str) -> Self
+        ensures { IsUnbegun result.error }
+    {
         let why = match error {
             TextError::Failed => PeerError::Disk(DiskError::Failed),
             TextError::Memory => PeerError::Game(GameError::Memory),
@@ -158,18 +193,21 @@ const PROGRAM: &[u8] = b".ch8";
 pub fn game_at<'a, R>(rt: &R, path: &'a str) -> Result<Game, Fault<'a>>
 where
     R: Files<File = File> + AllocGlobal,
+    ensures { IfErr result (λ fault. IsUnbegun fault.error) }
 {
     let text = match read_file(rt, path) {
         Ok(text) => text,
         Err(error) => return Err(Fault::unread(rt.alloc(), error, path)),
     };
     if path.as_bytes().ends_with(PROGRAM) {
-        return usual_game(rt.alloc(), &text).map_err(|why| Fault {
-            error: PeerError::Game(GameError::from(why)),
-            file: path,
-            text: Vec::new(rt.alloc()),
-            why: Some(Why::Program(why)),
-        });
+        return match usual_game(rt.alloc(), &text) {
+            Ok(game) => Ok(game),
+            Err(why) => {
+                let error = PeerError::Game(GameError::from(why));
+                let fault = Fault::new(rt.alloc(), error, path);
+                Err(fault.because(Some(Why::Program(why))))
+            }
+        };
     }
     match Game::read(rt.alloc(), &text) {
         Ok(game) => Ok(game),

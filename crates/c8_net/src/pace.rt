@@ -15,7 +15,7 @@ const IDLE_PAUSE: u64 = 10_000;
 const IDLE_LOOKS: u32 = 1000;
 
 /// How many milliseconds a viewer's thread sleeps between two looks.
-pub(crate) const VIEWER_PAUSE: u64 = 5;
+pub const VIEWER_PAUSE: u64 = 5;
 
 /// The most checks of the game thread for the viewer's thread. As a rule that thread runs at once.
 const MOST_LOOKS: u16 = 5000;
@@ -108,7 +108,7 @@ impl<'r, R: Clock> Pace<'r, R> {
     }
 
     /// Returns whether the game thread has ended.
-    pub(crate) fn is_game_over(&self) -> bool {
+    pub fn is_game_over(&self) -> bool {
         self.is_game_over.load(Ordering::SeqCst)
     }
 }

@@ -1,5 +1,8 @@
 //! The seal of a match, from the secrets in its files.
 
+ghost use Rattle.std.specs.Prelude.{IfErr};
+ghost use Rattle.c8_net.specs.Answers.{IsUnbegun};
+
 use crate::arguments::Asked;
 use crate::error::PeerError;
 use crate::fault::{Fault, INPUT, Why};
@@ -45,6 +48,7 @@ pub(crate) fn seal_at<'a, R>(
 ) -> Result<Option<Seal>, Fault<'a>>
 where
     R: Files<File = File> + AllocGlobal,
+    ensures { IfErr result (λ fault. IsUnbegun fault.error) }
 {
     let Some(path) = asked.secret else {
         return Ok(None);
@@ -66,13 +70,13 @@ where
     let [five, six] = asked.watchers;
     if secrets.watchers.is_none() && (five.is_some() || six.is_some()) {
         let error = PeerError::Socket(SocketError::Remotes);
-        return Err(Fault::new(rt.alloc(), error, asked.game));
+        return Err(Fault::new(rt.alloc(), error, asked.game).because(Some(Why::Watchers)));
     }
     Ok(Some(seal_of(&secrets, Seat::from(asked.player), game.session(asked.room))))
 }
 
 /// Returns the seal of a watcher, if the match has a secret for watchers.
-pub(crate) fn watch_seal_at<'a, R>(
+pub fn watch_seal_at<'a, R>(
     rt: &R,
     path: Option<&'a str>,
     seat: Seat,
@@ -80,6 +84,7 @@ pub(crate) fn watch_seal_at<'a, R>(
 ) -> Result<Option<Seal>, Fault<'a>>
 where
     R: Files<File = File> + AllocGlobal,
+    ensures { IfErr result (λ fault. IsUnbegun fault.error) }
 {
     let Some(path) = path else {
         return Ok(None);
@@ -103,12 +108,18 @@ fn seal_of(secrets: &Secrets, seat: Seat, session: u64) -> Seal {
 fn secret_at<'a, R>(rt: &R, path: &'a str) -> Result<Secret, Fault<'a>>
 where
     R: Files<File = File> + AllocGlobal,
+    ensures { IfErr result (λ fault. IsUnbegun fault.error) }
 {
-    secret_in(rt, path).map_err(|fault| secret_fault(rt.alloc(), fault, path))
+    match secret_in(rt, path) {
+        Ok(secret) => Ok(secret),
+        Err(fault) => Err(secret_fault(rt.alloc(), fault, path)),
+    }
 }
 
 /// Returns the fault of a secret's file that was not read.
-fn secret_fault<'a>(alloc: Global, fault: SecretFault, path: &'a str) -> Fault<'a> {
+fn secret_fault<'a>(alloc: Global, fault: SecretFault, path: &'a str) -> Fault<'a>
+    ensures { IsUnbegun result.error }
+{
     match fault {
         SecretFault::Refused(error) => Fault::new(alloc, PeerError::Secret(error), path),
         SecretFault::Unread(error) => Fault {

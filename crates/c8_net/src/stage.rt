@@ -56,10 +56,10 @@ struct Post<W> {
 
 /// A viewer, and its board.
 #[derive(Drop)]
-pub(crate) struct Onlooker<'b> {
-    pub(crate) board: &'b Board,
-    pub(crate) viewer: Viewer,
-    pub(crate) ghost watches: { viewer.board ≡ board.now },
+pub struct Onlooker<'b> {
+    pub board: &'b Board,
+    pub viewer: Viewer,
+    pub ghost watches: { viewer.board ≡ board.now },
 }
 
 impl Stage {
@@ -288,7 +288,7 @@ fn has_turned_away(standing: &Standing) -> bool {
 
 impl<'b> Onlooker<'b> {
     /// Looks once, and returns how many frames are confirmed. If at least `enough` are, it asks for the end.
-    pub(crate) fn look(&mut self, enough: Option<u64>) -> u32 {
+    pub fn look(&mut self, enough: Option<u64>) -> u32 {
         let confirmed = self.board.look(&mut self.viewer).count();
         if let Some(enough) = enough
             && u64::from(confirmed) >= enough

@@ -4,3 +4,4 @@ pub mod Desk
 pub mod Frames
 pub mod Lead
 pub mod checked
+pub mod Answers

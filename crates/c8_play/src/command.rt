@@ -1,5 +1,9 @@
 //! `c8play play`: plays a game at the keyboard.
 
+ghost use Rattle.std.specs.Prelude.{◌≡◌, IfOk};
+ghost use Rattle.c8_command.specs.declared.status.Status.TheVariants as statuses;
+ghost use Rattle.c8_play.specs.Answers.{HasReportedAlone, EndsPlay};
+
 use crate::alone::play_alone;
 use crate::arguments::{Who, pace_of, who_of};
 use crate::chime::Chime;
@@ -31,6 +35,7 @@ where
     R: Files<File = File> + Net + Clock + AllocGlobal,
     W: Write,
     E: Write,
+    ensures { IfOk result (EndsPlay (W.contents out.old) (W.contents out.new)) }
 {
     let Some(who) = who_of(given) else {
         writeln!(
@@ -70,6 +75,8 @@ where
     R: Files<File = File> + Net + Clock + AllocGlobal,
     W: Write,
     E: Write,
+    ensures { IfOk result (λ status. status ≡ statuses.Done
+        → HasReportedAlone (W.contents out.old) (W.contents out.new)) }
 {
     let game = match game_at(rt, word_of(given, "GAME")) {
         Ok(game) => game,
@@ -84,6 +91,6 @@ where
     if given.get_flag("progress") {
         tell_lateness(refused, &lateness)?;
     }
-    write_report(out, played.frames, &played.machine)?;
+    write_report(out, &played)?;
     Ok(Status::Done)
 }

@@ -1,4 +1,4 @@
-//! Tests of c8_play, and of what c8_net draws of a watched match.
+//! Tests of c8_play, and of what c8_watch_command draws of a watched match.
 //!
 //! `console` has consoles with scripted keys. `alone` plays a game at one, `waits` a match without other players, and
 //! `pair` a match of two over the loopback. `rows` has the row below the screen, `drawing` the pictures of a watched

@@ -9,6 +9,7 @@ use Rattle.c8_game.specs.Rules.{Rules}
 use Rattle.c8_game.specs.declared.error.GameError.{GameError}
 use Rattle.c8_game.specs.declared.error.GameError.TheVariants as games
 use Rattle.c8_game.specs.declared.row.Row.{Row}
+use Rattle.c8_keys.specs.Report.{Reports}
 use Rattle.c8_keys.specs.declared.lines.Played.{Played}
 use Rattle.c8_known.specs.Confirmed.{confirmed, rows_below}
 use Rattle.c8_known.specs.Known.{KnownValue}
@@ -71,11 +72,11 @@ IsOutcome game image wish outcome =
     ((rules : Rules) × Spells game rules × IsOutcomeOfRead (Ok rules) image wish outcome)
     ⊎ ((error : GameError) × ((error ≡ games.Memory) ⊎ IsRefused game error) × (outcome ≡ Err (Game error)))
 
--- the command is done; if it shows key lines, it has written them
+-- the command is done, and has written the key lines or the report
 abbrev pub IsPrinted : Shown → Option (List ℕ) → Option (List ℕ) → Status → Type 0
-IsPrinted (Report played) old new status = status ≡ Done
+IsPrinted (Report played) old new status = (status ≡ Done) × Reports old new played
 IsPrinted (Keys text) old new status = (status ≡ Done) × Appends old new text.items
-IsPrinted (Page played page) old new status = status ≡ Done
+IsPrinted (Page played page) old new status = (status ≡ Done) × Reports old new played
 
 -- what is shown is printed; a refusal leaves the output as it was
 abbrev pub IsTold : Result Shown ReplayFault → Option (List ℕ) → Option (List ℕ) → Status → Type 0

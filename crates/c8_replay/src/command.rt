@@ -2,6 +2,7 @@
 
 ghost use Rattle.std.specs.Prelude.{◌≡◌, IfOk};
 ghost use Rattle.c8_command.specs.declared.status.Status.TheVariants as statuses;
+ghost use Rattle.c8_keys.specs.Report.{Reports};
 ghost use Rattle.c8_replay.specs.Replay.{HasReplayed, IsPrinted};
 
 use crate::arguments::{Asked, asked_of};
@@ -12,7 +13,7 @@ use c8_command::{Refusal, Site, Status, Text, TextsError, both, read_file};
 use c8_front::is_same_file;
 use c8_game::GameError;
 use c8_image::{JournalError, read_image};
-use c8_keys::{game_site, write_report};
+use c8_keys::{Played, game_site, write_report};
 use c8_play::Terminal;
 use clap::ArgMatches;
 use std::alloc::Global;
@@ -65,10 +66,10 @@ where
         Err(fault) => return refuse(rt.alloc(), asked, game, fault, refused),
     };
     if let Shown::Page(_, page) = &shown
-        && !is_written(rt, asked, path, page)
+        && let Some(why) = write_page(rt, asked, path, page)
     {
         let site = asked.explain.then_some(Site::File(path));
-        return Refusal::DISK.tell_at(site, &"a file that cannot be written", refused);
+        return Refusal::DISK.tell_at(site, &why, refused);
     }
     print(shown, out)
 }
@@ -97,15 +98,21 @@ where
     }
 }
 
-/// Writes a page to its file, and returns whether that succeeded. It never overwrites the game or the journal, by whatever
-/// name.
-fn is_written<R>(rt: &R, asked: &Asked<'_>, path: &str, page: &[u8]) -> bool
+/// Writes a page to its file; otherwise says why not. It never overwrites the game or the journal, by whatever name.
+fn write_page<R>(rt: &R, asked: &Asked<'_>, path: &str, page: &[u8]) -> Option<&'static str>
 where
     R: Files<File = File> + AllocGlobal,
 {
-    !is_same_file(rt, path, asked.game)
-        && !is_same_file(rt, path, asked.journal)
-        && fs::write(rt, path, page).is_ok()
+    if is_same_file(rt, path, asked.game) {
+        return Some("the game itself, which a page does not replace");
+    }
+    if is_same_file(rt, path, asked.journal) {
+        return Some("the journal itself, which a page does not replace");
+    }
+    match fs::write(rt, path, page) {
+        Ok(()) => None,
+        Err(_) => Some("a file that cannot be written"),
+    }
 }
 
 /// Writes why the two files were not read.
@@ -169,11 +176,20 @@ fn print<W: Write>(shown: Shown, out: &mut W) -> io::Result<Status>
     ensures { IfOk result (IsPrinted shown (W.contents out.old) (W.contents out.new)) }
 {
     match shown {
-        Shown::Report(played) | Shown::Page(played, _) => {
-            write_report(out, played.frames, &played.machine)?
+        Shown::Report(played) => print_report(&played, out),
+        Shown::Page(played, _) => print_report(&played, out),
+        Shown::Keys(text) => {
+            out.write_all(&text)?;
+            Ok(Status::Done)
         }
-        Shown::Keys(text) => out.write_all(&text)?,
     }
+}
+
+fn print_report<W: Write>(played: &Played, out: &mut W) -> io::Result<Status>
+    ensures { IfOk result (λ status. (status ≡ statuses.Done)
+        × Reports (W.contents out.old) (W.contents out.new) played.now) }
+{
+    write_report(out, played)?;
     Ok(Status::Done)
 }
 

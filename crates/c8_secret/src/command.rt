@@ -1,5 +1,8 @@
 //! `c8play secret`: prints a new secret.
 
+ghost use Rattle.std.specs.Prelude.{IfOk};
+ghost use Rattle.c8_secret.specs.Drawn.{HasDrawn};
+
 use c8_command::{Refusal, Status};
 use c8_front::Outline;
 use c8_seal::SECRET_LENGTH;
@@ -36,6 +39,7 @@ where
     R: Files<File = File>,
     W: Write,
     E: Write,
+    ensures { IfOk result (HasDrawn (W.contents out.old) (W.contents out.new)) }
 {
     match random_bytes(rt) {
         Ok(bytes) => {

@@ -38,7 +38,8 @@ where
     Secret::read(&text).map_err(SecretFault::Refused)
 }
 
-/// Makes a file with a new secret that only its owner may read. A file that is there already stays as it is.
+/// Makes a file with a new secret that only its owner may read. A file that is there already stays as it is, also one that
+/// is made meanwhile: two programs that start at once share it.
 pub fn make_secret<R>(rt: &R, path: &str) -> io::Result<()>
 where
     R: Files<File = File> + AllocGlobal,
@@ -46,23 +47,35 @@ where
     if fs::metadata(rt, path).is_ok() {
         return Ok(());
     }
-    write_secret(rt, path, &Secret::text(&random_bytes(rt)?))
+    match write_secret(rt, path, &Secret::text(&random_bytes(rt)?)) {
+        Err(error) if error.kind() == io::ErrorKind::AlreadyExists => Ok(()),
+        written => written,
+    }
 }
 
-/// Makes the file of a secret from its digits. It is written beside, and renamed once it is whole, so a writing that fails
-/// leaves no short secret.
+/// Makes the file of a secret from its digits. It is written beside, and gets its name once it is whole, so a writing that
+/// fails leaves no short secret. The error is `AlreadyExists` if another file has the name, which stays as it is; on a
+/// file system without links that file is replaced.
 pub fn write_secret<R>(rt: &R, path: &str, digits: &[u8]) -> io::Result<()>
 where
     R: Files<File = File> + AllocGlobal,
 {
-    let beside = format!(in rt.alloc(); "{path}.new")?;
+    let [one, two, three, four, ..] = random_bytes(rt)?;
+    let drawn = u32::from_be_bytes([one, two, three, four]);
+    let beside = format!(in rt.alloc(); "{path}.{drawn}")?;
+    let written = match write_new(rt, beside.as_str(), digits) {
+        Ok(()) => named(rt, beside.as_str(), path),
+        Err(error) => Err(error),
+    };
     let _ = fs::remove_file(rt, beside.as_str());
-    match write_new(rt, beside.as_str(), digits) {
-        Ok(()) => fs::rename(rt, beside.as_str(), path),
-        Err(error) => {
-            let _ = fs::remove_file(rt, beside.as_str());
-            Err(error)
-        }
+    written
+}
+
+/// Gives a file a name that no other file has. On a file system without links it replaces a file that has the name.
+fn named<R: Files<File = File>>(rt: &R, beside: &str, path: &str) -> io::Result<()> {
+    match fs::hard_link(rt, beside, path) {
+        Err(error) if error.kind() != io::ErrorKind::AlreadyExists => fs::rename(rt, beside, path),
+        linked => linked,
     }
 }
 

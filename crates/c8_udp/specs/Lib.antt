@@ -1,3 +1,4 @@
 pub mod Contacts
 pub mod Errors
 pub mod Letters
+pub mod Words

@@ -1,7 +1,10 @@
 //! The addresses of the players of a game, and of its watchers.
 
-ghost use Rattle.std.specs.Prelude.{◌≡◌, ◌≢◌, ◌+◌, ◌<◌, ◌≤◌, ◌⊎◌, length, IfOk, IfErr, IsErrOf, MatchResult};
+ghost use Rattle.std.specs.Prelude.{◌≡◌, ◌≢◌, ◌+◌, ◌<◌, ◌≤◌, ◌⊎◌, ℕ, List, length, false, Some, IfOk, IfErr, IsErrOf, MatchResult};
+ghost use Rattle.std.specs.Borrow.{Bor};
 ghost use Rattle.std.specs.Net.Grammar.{IsSocketText};
+ghost use Rattle.std.specs.declared.net.socket_addr.SocketAddr.{SocketAddr};
+ghost use Rattle.c8_udp.specs.Words.{IsRemote, IsNoRemote, IsNoAddress, AreNoAddresses};
 
 use crate::contacts::Contact;
 use crate::error::SocketError;
@@ -53,6 +56,8 @@ impl Addresses {
         ensures counted { IsErrOf result SocketError.Remotes → length remotes.now + 1 ≢ players }
         ensures no_other { IfErr result (λ error. (error ≡ SocketError.Remotes) ⊎ (error ≡ SocketError.Address)) }
         ensures read { IfOk result (λ _. length remotes.now + 1 ≡ players) }
+        ensures refused { IsErrOf result SocketError.Address
+            → AreNoAddresses may_learn local.now remotes.now watchers.entry }
     {
         if remotes.len() + 1 != usize::from(players) {
             return Err(SocketError::Remotes);
@@ -76,7 +81,8 @@ impl Addresses {
     /// Reads a watcher's own address, and player 1's. `Address` if one cannot be read, or if player 1's cannot be
     /// reached from the own one.
     pub fn of_player_one(local: &str, one: &str) -> Result<Addresses, SocketError>
-        ensures { IfErr result (λ error. error ≡ SocketError.Address) }
+        ensures { IfErr result (λ error. (error ≡ SocketError.Address)
+            × (IsNoAddress local.now ⊎ ((own : SocketAddr) × IsSocketText local.now own × IsNoRemote false own one.now))) }
     {
         let local = address(local)?;
         let one = remote_of(one, local, false)?;
@@ -142,7 +148,8 @@ fn watcher(
     local: SocketAddr,
     may_learn: bool,
 ) -> Result<Option<Remote>, SocketError>
-    ensures { IfErr result (λ error. error ≡ SocketError.Address) }
+    ensures { IfErr result (λ error. (error ≡ SocketError.Address)
+        × ((given : Bor (List ℕ)) × (word.entry ≡ Some given) × IsNoRemote may_learn local given.now)) }
 {
     match word {
         Some(word) => Ok(Some(remote_of(word, local, may_learn)?)),
@@ -164,7 +171,8 @@ fn place_of(place: usize, me: Player) -> usize
 
 /// Reads how another player or a watcher is reached. An address must be reachable from the own one.
 fn remote_of(word: &str, local: SocketAddr, may_learn: bool) -> Result<Remote, SocketError>
-    ensures { IfErr result (λ error. error ≡ SocketError.Address) }
+    ensures { MatchResult result (IsRemote may_learn local word.now)
+        (λ error. (error ≡ SocketError.Address) × IsNoRemote may_learn local word.now) }
 {
     if may_learn && word == NO_ADDRESS {
         return Ok(Remote::Learnt);
@@ -178,8 +186,8 @@ fn remote_of(word: &str, local: SocketAddr, may_learn: bool) -> Result<Remote, S
 
 /// Reads an address.
 fn address(word: &str) -> Result<SocketAddr, SocketError>
-    ensures { MatchResult result (λ address. IsSocketText word.now address)
-        (λ error. error ≡ SocketError.Address) }
+    ensures { MatchResult result (IsSocketText word.now)
+        (λ error. (error ≡ SocketError.Address) × IsNoAddress word.now) }
 {
     match word.parse::<SocketAddr>() {
         Ok(address) => Ok(address),

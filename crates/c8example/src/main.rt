@@ -5,7 +5,7 @@
 use c8_disk::MemDisk;
 use c8_game::{Game, Keys, Player};
 use c8_inlet::{Packet, Putter, Taker, inlet};
-use c8_keys::write_report;
+use c8_keys::{Played, write_report};
 use c8_live::Session;
 use c8_peer::Peer;
 use c8_transport::{Wire, WireFailed};
@@ -105,7 +105,8 @@ fn meet<W: Write>(one: &mut Side<'_>, two: &mut Side<'_>, out: &mut W) -> Option
 
 fn report<W: Write>(session: &Session<'_, MemDisk>, out: &mut W) -> Option<()> {
     let (frames, machine) = session.peer().base();
-    write_report(out, frames, machine).ok()
+    let machine = *machine;
+    write_report(out, &Played { frames, machine }).ok()
 }
 
 fn main(rt: HostRuntime) -> ExitCode {

@@ -5,10 +5,11 @@
 use c8_command::Status;
 use c8_front::{Terminals, Unhurried, line_of, status_at, tell, words_in};
 use c8_host::{HOST, JOIN, host_given, join_given};
-use c8_net::{PEER, WATCH, peer_given, watch_given};
+use c8_net::{PEER, peer_given};
 use c8_play::{PLAY, play_given};
 use c8_program::{GAME, game_given};
 use c8_secret::{SECRET, secret_given};
+use c8_watch_command::{WATCH, watch_given};
 use clap::ArgMatches;
 use std::env::Args;
 use std::fs::File;
@@ -53,7 +54,7 @@ where
     let commands = [&PEER, &PLAY, &HOST, &JOIN, &WATCH, &SECRET, &GAME];
     match line_of(alloc, &commands)?.try_get_matches_from(words.as_slice()) {
         Ok(matches) => carry_out(rt, &matches, input, out, terminals, refused),
-        Err(error) => tell(&error, out, refused),
+        Err(error) => tell(alloc, &error, out, refused),
     }
 }
 

@@ -29,6 +29,6 @@ fn obey<W: Write, E: Write>(rt: &HostRuntime, out: &mut W, refused: &mut E) -> i
             }
             _ => Ok(Status::CommandLine),
         },
-        Err(error) => tell(&error, out, refused),
+        Err(error) => tell(alloc, &error, out, refused),
     }
 }

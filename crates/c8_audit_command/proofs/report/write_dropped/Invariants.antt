@@ -1,4 +1,4 @@
-use Rattle.c8_audit_command.specs.Printed.{Grows}
+use Rattle.c8_keys.specs.Report.{Grows}
 use Rattle.c8_audit_command.proofs.report.write_dropped.Given as goal
 
 -- some text was added so far

@@ -15,7 +15,7 @@ const RATE: u8 = 60;
 /// have changed. Every sixtieth picture is drawn whole, because the terminal does not report a new window size. After a
 /// write has failed it draws no more.
 #[derive(Drop)]
-pub(super) struct Drawing<'r, 'w, R, W> {
+pub(crate) struct Drawing<'r, 'w, R, W> {
     rt: &'r R,
     out: &'w mut W,
     painter: Painter,
@@ -31,7 +31,7 @@ pub(super) struct Drawing<'r, 'w, R, W> {
 
 impl<'r, 'w, R: Clock, W: Write> Drawing<'r, 'w, R, W> {
     /// Prepares the terminal, if pictures are wanted; nothing is drawn yet.
-    pub(super) fn new(rt: &'r R, out: &'w mut W, is_wanted: bool) -> Drawing<'r, 'w, R, W> {
+    pub(crate) fn new(rt: &'r R, out: &'w mut W, is_wanted: bool) -> Drawing<'r, 'w, R, W> {
         let is_on = is_wanted && out.write_all(ENTER).is_ok();
         let last = rt.monotonic().unwrap_or(Duration::from_secs(0));
         Drawing {
@@ -47,7 +47,7 @@ impl<'r, 'w, R: Clock, W: Write> Drawing<'r, 'w, R, W> {
     }
 
     /// Restores the terminal, even after a write has failed.
-    pub(super) fn end(self) {
+    pub(crate) fn end(self) {
         if self.is_wanted {
             let _ = self.out.write_all(LEAVE);
             let _ = self.out.flush();

@@ -1,29 +1,16 @@
-//! `c8play watch`: watches a match over UDP, without playing.
-//!
-//! c8_watch defines a turn; `arguments` has the options, `stage` the two threads, and `drawing` the picture.
+//! `c8play watch`: opens the files and the socket, and watches.
 
-ghost use Rattle.std.specs.Prelude.{◌≡◌, IfOk, Result};
-ghost use Rattle.c8_command.specs.Status.{status_of_outcome};
-ghost use Rattle.c8_keys.specs.declared.lines.Played.{Played};
-ghost use Rattle.c8_net.specs.Errors.{peer_part};
-ghost use Rattle.c8_net.specs.Match.{HasWatched};
-ghost use Rattle.c8_net.specs.declared.error.PeerError.{PeerError};
+ghost use Rattle.std.specs.Prelude.{◌≡◌, IfOk, Ok};
+ghost use Rattle.c8_command.specs.declared.status.Status.TheVariants as statuses;
+ghost use Rattle.c8_watch_command.specs.Watched.{HasWatched, IsWatched, HasWatchedThen};
 
-mod arguments;
-mod drawing;
-mod stage;
-
-use crate::command::refuse;
-use crate::error::PeerError;
-use crate::fault::{Fault, game_at};
-use crate::line::Line;
-use crate::seals::watch_seal_at;
-use arguments::asked_of;
-pub use arguments::{WATCH, WatchAsked};
+use crate::arguments::{WatchAsked, asked_of};
+use crate::stage::Stage;
 use c8_command::Status;
 use c8_front::Terminals;
 use c8_game::Game;
 use c8_keys::{Played, write_report};
+use c8_net::{Fault, Line, PeerError, game_at, refuse, watch_seal_at};
 use c8_peer::OpenError;
 use c8_sealed::{Counters, Seal, Sealed, Sealer};
 use c8_secret::warn_of_readers;
@@ -33,7 +20,6 @@ use c8_udp::{Addresses, SocketError, SocketFault, refused_address};
 use c8_watch::laws::turns_take_nothing_back;
 use c8_wire::Seat;
 use clap::ArgMatches;
-use stage::Stage;
 use std::fs::File;
 use std::io;
 use std::io::Write;
@@ -56,6 +42,7 @@ where
     R: Files<File = File> + Net + Clock + Threads + Wait + Sync + AllocGlobal,
     W: Write,
     E: Write,
+    ensures { IfOk result (λ status. status ≡ statuses.Done → HasWatchedThen status) }
 {
     match asked_of(given) {
         Some(asked) if asked.screen && !terminals.output => {
@@ -80,15 +67,14 @@ where
     R: Files<File = File> + Net + Clock + Threads + Wait + Sync + AllocGlobal,
     W: Write,
     E: Write,
-    ensures { IfOk result (λ status. (outcome : Result Played PeerError)
-        × (status ≡ status_of_outcome peer_part outcome)) }
+    ensures { IfOk result HasWatchedThen }
 {
     if let Some(path) = asked.secret {
         warn_of_readers(rt, path, refused)?;
     }
     match watched(rt, asked, out) {
-        Ok(Played { frames, machine }) => {
-            write_report(out, frames, &machine)?;
+        Ok(played) => {
+            write_report(out, &played)?;
             Ok(Status::Done)
         }
         Err(fault) => {
@@ -104,15 +90,15 @@ fn watched<'a, R, W>(rt: &R, asked: &WatchAsked<'a>, out: &mut W) -> Result<Play
 where
     R: Files<File = File> + Net + Clock + Threads + Wait + Sync + AllocGlobal,
     W: Write,
+    ensures { IfOk result (λ played. IsWatched (Ok played)) }
 {
     let game = game_at(rt, asked.game)?;
     let session = game.session(asked.room);
     let seal = watch_seal_at(rt, asked.secret, Seat::from(asked.seat), session)?;
-    watched_at(rt, asked, &game, seal, out).map_err(|error| Fault::new(
-        rt.alloc(),
-        error,
-        asked.game,
-    ))
+    match watched_at(rt, asked, &game, seal, out) {
+        Ok(played) => Ok(played),
+        Err(error) => Err(Fault::new(rt.alloc(), error, asked.game)),
+    }
 }
 
 /// Watches a match of a game, by sealed packets if there is a seal.
@@ -126,6 +112,7 @@ fn watched_at<R, W>(
 where
     R: Net + Clock + Threads + Wait + Sync + AllocGlobal,
     W: Write,
+    ensures { IfOk result (λ played. IsWatched (Ok played)) }
 {
     let addresses = match Addresses::of_player_one(asked.local, asked.remote) {
         Ok(addresses) => addresses,

@@ -3,11 +3,10 @@ ghost use Rattle.std.specs.Prelude.{◌≡◌, ◌≤◌, ℕ, IfOk};
 ghost use Rattle.c8_watch.specs.Published.{MayShow};
 ghost use Rattle.c8_watch.specs.Turns.{AreTurns};
 
-use super::arguments::WatchAsked;
-use super::drawing::Drawing;
-use crate::pace::{Pace, VIEWER_PAUSE};
-use crate::stage::Onlooker;
+use crate::arguments::WatchAsked;
+use crate::drawing::Drawing;
 use c8_board::{Board, Pen, Viewer};
+use c8_net::{Onlooker, Pace, VIEWER_PAUSE};
 use c8_spectator::Spectator;
 use c8_transport::{Wire, WireFailed, Worker};
 use c8_watch::{open_watch_board, watch_worker};
@@ -20,7 +19,7 @@ use std::time::{Clock, Duration};
 
 /// A board that shows a spectator's rows, with its pen and one viewer.
 #[derive(Drop)]
-pub(super) struct Stage {
+pub(crate) struct Stage {
     board: Board,
     pen: Pen,
     viewer: Viewer,
@@ -30,7 +29,7 @@ pub(super) struct Stage {
 
 /// The system starts no thread.
 #[derive(Clone, Copy)]
-pub(super) struct NoThread;
+pub(crate) struct NoThread;
 
 /// What the two threads share.
 #[derive(Drop)]
@@ -41,7 +40,7 @@ struct Shared<'r, R> {
 
 impl Stage {
     /// Opens a board with one viewer. The error is that memory ran out.
-    pub(super) fn open(alloc: Global, spectator: &Spectator<'_>) -> Result<Stage, AllocError>
+    pub(crate) fn open(alloc: Global, spectator: &Spectator<'_>) -> Result<Stage, AllocError>
         ensures { IfOk result (λ stage. MayShow spectator.now stage.pen) }
     {
         let (board, pen, mut viewers) = open_watch_board(alloc, spectator, 1)?;
@@ -53,7 +52,7 @@ impl Stage {
 
     /// Watches over a wire, until it has every row, its turns are made, the viewer has asked for the end, or the wire
     /// fails. Both threads are then joined. If the system starts no thread, no turn is made.
-    pub(super) fn watch<'g, R, W, O>(
+    pub(crate) fn watch<'g, R, W, O>(
         self,
         rt: &R,
         asked: &WatchAsked<'_>,

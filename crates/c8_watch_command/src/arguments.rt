@@ -1,8 +1,8 @@
 //! The options of the command `watch`, and what they ask for.
 
-use crate::arguments::number_of;
 use crate::help::WATCH_ENDING;
 use c8_front::{Argument, Outline, is_explained, word_of};
+use c8_net::number_of;
 use c8_wire::Watcher;
 use clap::ArgMatches;
 use clap::builder::ValueParser;
@@ -88,7 +88,7 @@ pub static WATCH: Outline = Outline {
 };
 
 /// Returns what a parsed command line asks for. The parser has checked that each argument is present and in range.
-pub(super) fn asked_of<'a>(given: &ArgMatches<'a>) -> Option<WatchAsked<'a>> {
+pub(crate) fn asked_of<'a>(given: &ArgMatches<'a>) -> Option<WatchAsked<'a>> {
     let seat = Watcher::new(given.get_one::<u8>("SEAT")?)?;
     Some(WatchAsked {
         game: word_of(given, "GAME"),
