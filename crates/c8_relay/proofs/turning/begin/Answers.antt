@@ -1,0 +1,5 @@
+use Rattle.c8_relay.proofs.HonestLemmas.{fewer_seats}
+use Rattle.c8_relay.proofs.turning.begin.Goals as goal
+
+pub returns : goal.returns
+returns g c = fewer_seats c.args.now c.args.relay.now c.begin_batch.new.self _ _ c.begin_batch.ensures.key c.begin_batch.ensures.seats c.requires

@@ -1,0 +1,172 @@
+//! What a relay reads of a packet, and the bytes of its answers.
+ghost use Rattle.std.specs.Prelude.{◌≡◌, ◌≤◌, ◌<◌, ◌+◌, ◌∷◌, [], ℕ, length, slice_index, MatchOption};
+ghost use Rattle.c8_relay.specs.Reading.{IsDatagram, IsJoin, IsKind, IsRead, lane_code, spelled, status_code};
+
+use crate::address::{Lane, Place};
+use c8_seal::{LONGEST_SEALED, SEAL_LENGTH};
+
+/// How many bytes a cookie has.
+pub const COOKIE_LENGTH: usize = 16;
+
+/// How many bytes of an answer stand before its cookie.
+const HEAD_LENGTH: usize = 8;
+
+/// How many bytes a JOIN has.
+pub const JOIN_LENGTH: usize = 40;
+
+/// How many bytes an answer has.
+pub const ANSWER_LENGTH: usize = 24;
+
+/// How many bytes the header of a datagram has.
+const HEADER_LENGTH: usize = 24;
+
+/// The shortest sealed packet: a header and a seal.
+const SHORTEST: usize = HEADER_LENGTH + SEAL_LENGTH;
+
+/// The most seats of a room.
+pub const MOST_SEATS: u8 = 6;
+
+const KIND_JOIN: u8 = 1;
+
+const VERSION: u8 = 1;
+
+/// The header of a datagram, as far as a relay reads it.
+#[derive(Clone, Copy)]
+pub struct Route {
+    pub lane: Lane,
+    /// From 1 to 6, as `to`.
+    pub from: u8,
+    pub to: u8,
+}
+
+/// An address asks for a seat.
+#[derive(Clone, Copy)]
+pub struct Join {
+    pub place: Place,
+    pub cookie: [u8; COOKIE_LENGTH],
+}
+
+/// What a packet says to a relay.
+#[derive(Clone, Copy)]
+pub enum Spoken {
+    Join(Join),
+    Datagram(Route),
+    Nothing,
+}
+
+/// What a relay says to a JOIN.
+#[derive(Clone, Copy)]
+pub enum Status {
+    /// Say it again, with this cookie.
+    Prove,
+    /// The seat is yours.
+    Joined,
+    /// Another address has the seat, and was heard.
+    Busy,
+    /// The relay, or the share of the host, is full.
+    Full,
+}
+
+/// Reads a packet.
+pub fn read(packet: &[u8]) -> Spoken
+    ensures { IsRead packet.now result }
+{
+    if let Some(route) = read_datagram(packet) {
+        return Spoken::Datagram(route);
+    }
+    match read_join(packet) {
+        Some(join) => Spoken::Join(join),
+        None => Spoken::Nothing,
+    }
+}
+
+fn read_datagram(packet: &[u8]) -> Option<Route>
+    ensures { MatchOption result ((route : Route) → IsDatagram packet.now route → ⊥) (IsDatagram packet.now) }
+{
+    if packet.len() < SHORTEST || packet.len() > LONGEST_SEALED {
+        return None;
+    }
+    if packet[0] != 0x43 || packet[1] != 0x38 || packet[12] == packet[13] {
+        return None;
+    }
+    let lane = lane_of_kind(packet[3])?;
+    let from = seat_of(packet[12])?;
+    let to = seat_of(packet[13])?;
+    Some(Route { lane, from, to })
+}
+
+fn read_join(packet: &[u8]) -> Option<Join>
+    ensures { MatchOption result ((join : Join) → IsJoin packet.now join → ⊥) (IsJoin packet.now) }
+{
+    if packet.len() != JOIN_LENGTH {
+        return None;
+    }
+    if packet[0] != 0x43 || packet[1] != 0x52 || packet[2] != VERSION || packet[3] != KIND_JOIN {
+        return None;
+    }
+    let seat = seat_of(packet[4])?;
+    let lane = lane_of(packet[5])?;
+    let mut name = [0; 16];
+    name.copy_from_slice(&packet[8..24]);
+    let mut cookie = [0; COOKIE_LENGTH];
+    cookie.copy_from_slice(&packet[24..]);
+    let name = u128::from_be_bytes(name);
+    let place = Place { name, lane, seat };
+    Some(Join { place, cookie })
+}
+
+/// The lane of a datagram's kind.
+fn lane_of_kind(kind: u8) -> Option<Lane>
+    ensures { MatchOption result ((lane : Lane) → IsKind lane kind → ⊥) (λ lane. IsKind lane kind) }
+{
+    match kind {
+        1..=6 => Some(Lane::Players),
+        7 | 8 => Some(Lane::Watchers),
+        _ => None,
+    }
+}
+
+fn lane_of(code: u8) -> Option<Lane>
+    ensures { MatchOption result ((lane : Lane) → lane_code lane ≡ code → ⊥) (λ lane. lane_code lane ≡ code) }
+{
+    match code {
+        0 => Some(Lane::Players),
+        1 => Some(Lane::Watchers),
+        _ => None,
+    }
+}
+
+fn seat_of(number: u8) -> Option<u8>
+    ensures { MatchOption result (1 ≤ number → number ≤ 6 → ⊥) (λ seat. (seat ≡ number) × (1 ≤ number) × (number ≤ 6)) }
+{
+    if number == 0 || number > MOST_SEATS {
+        return None;
+    }
+    Some(number)
+}
+
+impl Status {
+    fn code(self) -> u8
+        ensures { result ≡ status_code self }
+    {
+        match self {
+            Status::Prove => 2,
+            Status::Joined => 3,
+            Status::Busy => 4,
+            Status::Full => 5,
+        }
+    }
+
+    /// The answer of this status, with a cookie.
+    pub fn answer(self, cookie: &[u8; COOKIE_LENGTH]) -> [u8; ANSWER_LENGTH]
+        ensures { result ≡ spelled self cookie.now }
+    {
+        let mut answer = [0; ANSWER_LENGTH];
+        answer[0] = 0x43;
+        answer[1] = 0x52;
+        answer[2] = VERSION;
+        answer[3] = self.code();
+        answer[HEAD_LENGTH..].copy_from_slice(cookie);
+        answer
+    }
+}

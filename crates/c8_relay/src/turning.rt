@@ -1,0 +1,57 @@
+//! One packet through a relay.
+ghost use Rattle.std.specs.Prelude.{◌≡◌, ◌<◌, ◌^◌, List, ℕ, []};
+ghost use Rattle.c8_relay.specs.Honest.{IsHonest};
+ghost use Rattle.c8_relay.specs.Standing.{Standing};
+
+use crate::ether::{Ether, LONGEST_READ};
+use crate::relay::{Fate, Relay};
+use crate::sitting::Cause;
+
+/// What came of one turn.
+#[derive(Clone, Copy)]
+pub enum Turned {
+    /// No packet had come.
+    Idle,
+    /// A datagram was sent on.
+    Carried,
+    /// A JOIN was answered.
+    Answered,
+    Dropped(Cause),
+}
+
+/// Begins a batch of at most [`crate::BATCH`] turns.
+pub fn begin<E: Ether>(relay: &mut Relay, ether: &E, now: u64)
+    requires { IsHonest relay.old (E.received ether.now) (E.sent ether.now) }
+    ensures { IsHonest relay.new (E.received ether.now) (E.sent ether.now) }
+{
+    relay.begin_batch(now);
+}
+
+/// Takes the next packet, and sends what it leads to.
+pub fn turn<E: Ether>(relay: &mut Relay, ether: &mut E, now: u64) -> Turned
+    requires now { now < 2 ^ 62 }
+    requires honest { IsHonest relay.old (E.received ether.old) (E.sent ether.old) }
+    ensures { IsHonest relay.new (E.received ether.new) (E.sent ether.new) }
+{
+    let mut packet = [0; LONGEST_READ];
+    let Some((size, from)) = ether.receive(&mut packet) else {
+        return Turned::Idle;
+    };
+    let packet = &packet[..size];
+    match relay.take(now, from, packet) {
+        Fate::Forward(to) => {
+            ether.send(to, packet);
+            Turned::Carried
+        }
+        Fate::Answer(answer) => {
+            ether.send(from, &answer);
+            Turned::Answered
+        }
+        Fate::Dropped(cause) => Turned::Dropped(cause),
+    }
+}
+
+/// A relay without seats that has done nothing is honest.
+pub fn honest_at_first()
+    ensures { (key : List ℕ) → IsHonest (record { key = key; members = [] }) [] [] }
+{}
