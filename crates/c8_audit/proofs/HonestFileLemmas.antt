@@ -63,8 +63,8 @@ head_is rules p room (Got player start words) is = absurd (is.begins refl)
 head_is rules p room (Freeze player) is = absurd (is.begins refl)
 head_is rules p room (Leave player) is = absurd (is.begins refl)
 head_is rules p room (Cut player cut start words) is = absurd (is.begins refl)
-head_is rules p room (State player frames piece words) is = absurd (is.begins refl)
-head_is rules p room (Check player frames words) is = absurd (is.begins refl)
+head_is rules p room (State player frames piece bytes) is = absurd (is.begins refl)
+head_is rules p room (Check player frames digest) is = absurd (is.begins refl)
 
 begins_with_head : (rules : Rules) (p room : ℕ) (bodies : List (List ℕ)) → AreJournalBodies rules p room bodies → 0 < length bodies → BeginsWithHead bodies p (id_of rules) room
 begins_with_head rules p room bodies are some =

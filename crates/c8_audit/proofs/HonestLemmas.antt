@@ -168,7 +168,7 @@ opening_adds_nothing rules p journal x plays opening =
     unchanged k (Leave player) is = absurd is
     unchanged k (Cut player length start words) is = absurd is
     unchanged k (StateRecord player frames piece words) is = absurd is
-    unchanged k (Check player frames words) is = absurd is
+    unchanged k (Check player frames digest) is = absurd is
 
 -- At the moment `between`, a read of the disk begins with records that make known what the first reading makes known.
 -- The second reading begins with that read.

@@ -9,7 +9,6 @@ use Rattle.c8_digest.specs.StateBytes.{state_length, state_bytes}
 use Rattle.c8_digest.specs.Reading.{state_in}
 use Rattle.c8_digest.specs.Marks.{marks_bytes, marks_in, are_marks}
 use Rattle.c8_digest.specs.Origin.{Origin, first_origin}
-use Rattle.c8_wire.specs.Spelling.{words_bytes}
 use Rattle.c8_known.specs.Journal.{Record, Head, Epoch, Own, Got, Freeze, Leave, Cut, State, Check}
 
 -- ---- the pieces of a checkpoint
@@ -94,8 +93,8 @@ with_check c (Got player start words) = c
 with_check c (Freeze player) = c
 with_check c (Leave player) = c
 with_check c (Cut player length start words) = c
-with_check c (State player frames piece words) = with_piece c frames piece (words_bytes words)
-with_check c (Check player frames words) = with_whole c
+with_check c (State player frames piece bytes) = with_piece c frames piece bytes
+with_check c (Check player frames digest) = with_whole c
 
 unfoldable pub checks_of : List Record → ChecksValue
 checks_of journal = fold with_check no_checks journal
@@ -111,8 +110,8 @@ opened_at c before (Got player start words) = before
 opened_at c before (Freeze player) = before
 opened_at c before (Leave player) = before
 opened_at c before (Cut player length start words) = before
-opened_at c before (State player frames piece words) = before
-opened_at c before (Check player frames words) = before
+opened_at c before (State player frames piece bytes) = before
+opened_at c before (Check player frames digest) = before
 
 unfoldable pub opened_since : ChecksValue → Option Origin → List Record → Option Origin
 opened_since c before [] = before

@@ -4,6 +4,11 @@ use Rattle.c8_game.specs.Rules.{Rules, session_of}
 use Rattle.c8_game.specs.declared.wire.WireVersion.{WireVersion}
 use Rattle.c8_wire.specs.declared.kinds.DatagramKind.{DatagramKind}
 use Rattle.c8_wire.specs.declared.kinds.DatagramKind.TheVariants as kinds
+use Rattle.c8_wire.specs.declared.kinds.Parties.{Parties}
+use Rattle.c8_wire.specs.declared.kinds.Parties.TheVariants as parties
+use Rattle.c8_wire.specs.declared.kinds.Wanted.{Wanted}
+use Rattle.c8_wire.specs.declared.kinds.Wanted.TheVariants as wanted
+use Rattle.c8_wire.specs.Kinds.{shape_of}
 use Rattle.c8_wire.specs.Packet.{HeadValue}
 use Rattle.c8_hand.specs.declared.error.HandError.{HandError}
 use Rattle.c8_hand.specs.declared.error.HandError.TheVariants as errors
@@ -83,15 +88,14 @@ refusal_of_others link own theirs mine =
 abbrev pub refusal_of_watching : LinkValue → ℕ → ℕ → ℕ → Option HandError
 refusal_of_watching link own theirs mine = Some errors.NotMine
 
+abbrev pub refusal_by_link : Wanted → LinkValue → ℕ → ℕ → ℕ → Option HandError
+refusal_by_link wanted.Nothing = refusal_of_hello
+refusal_by_link wanted.Known = refusal_of_welcome
+refusal_by_link wanted.Open = refusal_of_others
+refusal_by_link wanted.Never = refusal_of_watching
+
 abbrev pub refusal_by_kind : DatagramKind → LinkValue → ℕ → ℕ → ℕ → Option HandError
-refusal_by_kind kinds.Hello = refusal_of_hello
-refusal_by_kind kinds.Welcome = refusal_of_welcome
-refusal_by_kind kinds.Data = refusal_of_others
-refusal_by_kind kinds.Freeze = refusal_of_others
-refusal_by_kind kinds.Frozen = refusal_of_others
-refusal_by_kind kinds.Cut = refusal_of_others
-refusal_by_kind kinds.Show = refusal_of_watching
-refusal_by_kind kinds.Seen = refusal_of_watching
+refusal_by_kind kind = refusal_by_link (shape_of kind).link
 
 -- The datagram is from another player of the game to this one.
 abbrev pub is_mine : LinksValue → HeadValue → Bool
@@ -108,29 +112,26 @@ unfoldable pub refusal_of_seen : LinksValue → HeadValue → Option HandError
 refusal_of_seen l head = if not (head.session == l.session) then Some errors.Session else (if head.to == l.me then None else Some errors.NotMine)
 
 -- why a datagram of any kind with this header is refused; None if it is admitted
+abbrev pub refusal_among : Parties → LinksValue → HeadValue → Option HandError
+refusal_among parties.Players = refusal
+refusal_among parties.ToWatcher = refusal
+refusal_among parties.FromWatcher = refusal_of_seen
+
 abbrev pub refusal_as : DatagramKind → LinksValue → HeadValue → Option HandError
-refusal_as kinds.Hello = refusal
-refusal_as kinds.Welcome = refusal
-refusal_as kinds.Data = refusal
-refusal_as kinds.Freeze = refusal
-refusal_as kinds.Frozen = refusal
-refusal_as kinds.Cut = refusal
-refusal_as kinds.Show = refusal
-refusal_as kinds.Seen = refusal_of_seen
+refusal_as kind = refusal_among (shape_of kind).parties
 
 abbrev pub admission : LinksValue → HeadValue → Option HandError
 admission l head = refusal_as head.kind l head
 
 -- the link to the sender of an admitted datagram: a HELLO of a later epoch closes it, a WELCOME opens it
+abbrev pub link_by : Wanted → LinkValue → ℕ → LinkValue
+link_by wanted.Nothing link theirs = if nat_lt link.known theirs then record { known = theirs; is_open = false } else link
+link_by wanted.Known link theirs = record { known = theirs; is_open = true }
+link_by wanted.Open link theirs = link
+link_by wanted.Never link theirs = link
+
 abbrev pub link_after : DatagramKind → LinkValue → ℕ → LinkValue
-link_after kinds.Hello link theirs = if nat_lt link.known theirs then record { known = theirs; is_open = false } else link
-link_after kinds.Welcome link theirs = record { known = theirs; is_open = true }
-link_after kinds.Data link theirs = link
-link_after kinds.Freeze link theirs = link
-link_after kinds.Frozen link theirs = link
-link_after kinds.Cut link theirs = link
-link_after kinds.Show link theirs = link
-link_after kinds.Seen link theirs = link
+link_after kind = link_by (shape_of kind).link
 
 abbrev pub heard : LinksValue → HeadValue → LinksValue
 heard l head = with_link l head.from (link_after head.kind (link_to l head.from) head.sender_epoch)

@@ -2,7 +2,7 @@
 ghost use Rattle.std.specs.Prelude.{true, false, ◌≡◌};
 
 use crate::error::HandError;
-use c8_wire::Head;
+use c8_wire::{Head, Wanted};
 
 /// The newest known epoch of a player, 0 if none is known, and whether that player is known to know ours.
 #[derive(Clone, Copy, Debug)]
@@ -13,7 +13,7 @@ pub(crate) struct Link {
 
 impl Link {
     ghost use Rattle.c8_wire.specs.Saying.{head_value};
-    ghost use Rattle.c8_hand.specs.Links.{refusal_of_hello, refusal_of_welcome, refusal_of_others};
+    ghost use Rattle.c8_hand.specs.Links.{refusal_of_hello, refusal_of_welcome, refusal_of_others, link_by};
     ghost use Rattle.c8_hand.specs.Held.{link_value};
 
     /// Makes a closed link to a player of this epoch, 0 if none is known.
@@ -26,13 +26,17 @@ impl Link {
         }
     }
 
-    /// Makes an open link to a player of this epoch.
-    pub(crate) fn opened(known: u32) -> Link
-        ensures { result ≡ record { known = known; is_open = true } }
+    /// Returns the link after an admitted datagram of a kind that wants this of it, from an epoch.
+    pub(crate) fn after(self, wanted: Wanted, epoch: u32) -> Link
+        ensures { link_value result ≡ link_by wanted (link_value self) epoch }
     {
-        Link {
-            known,
-            is_open: true,
+        match wanted {
+            Wanted::Nothing if epoch > self.known => Link::closed(epoch),
+            Wanted::Known => Link {
+                known: epoch,
+                is_open: true,
+            },
+            Wanted::Nothing | Wanted::Open | Wanted::Never => self,
         }
     }
 

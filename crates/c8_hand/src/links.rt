@@ -9,7 +9,7 @@ ghost use Rattle.c8_hand.specs.Links.{no_links, link_to, open_epoch, with_link, 
 use crate::error::HandError;
 use crate::link::Link;
 use c8_game::{Game, MOST_PLAYERS, Player, WireVersion};
-use c8_wire::{Datagram, DatagramKind, Head, Seat};
+use c8_wire::{Datagram, DatagramKind, Head, Parties, Seat, Wanted};
 use std::marker::Model;
 
 /// The newest known epoch of each other player, and whether the link to it is open.
@@ -106,15 +106,9 @@ impl Links {
     fn refusal_as(&self, head: &Head) -> Option<HandError>
         ensures { result ≡ admission self.now (head_value head.now) }
     {
-        match head.kind {
-            DatagramKind::Seen => self.refusal_of_seen(head),
-            DatagramKind::Hello
-            | DatagramKind::Welcome
-            | DatagramKind::Data
-            | DatagramKind::Freeze
-            | DatagramKind::Frozen
-            | DatagramKind::Cut
-            | DatagramKind::Show => self.refusal(head),
+        match head.kind.shape().parties {
+            Parties::FromWatcher => self.refusal_of_seen(head),
+            Parties::Players | Parties::ToWatcher => self.refusal(head),
         }
     }
 
@@ -150,12 +144,11 @@ impl Links {
             ≡ refusal_by_kind head.now.kind (link_to self.now sender.number) self.now.epoch head.now.sender_epoch head.now.addressee_epoch }
     {
         let link = &self.links[sender.place()];
-        match head.kind {
-            DatagramKind::Hello => link.refusal_of_hello(self.epoch, head),
-            DatagramKind::Welcome => link.refusal_of_welcome(self.epoch, head),
-            DatagramKind::Data | DatagramKind::Freeze | DatagramKind::Frozen | DatagramKind::Cut =>
-                { link.refusal_of_others(self.epoch, head) }
-            DatagramKind::Show | DatagramKind::Seen => Some(HandError::NotMine),
+        match head.kind.shape().link {
+            Wanted::Nothing => link.refusal_of_hello(self.epoch, head),
+            Wanted::Known => link.refusal_of_welcome(self.epoch, head),
+            Wanted::Open => link.refusal_of_others(self.epoch, head),
+            Wanted::Never => Some(HandError::NotMine),
         }
     }
 
@@ -199,20 +192,7 @@ impl Links {
             ≡ with_link self.old sender.number (link_after kind (link_to self.old sender.number) epoch) }
     {
         let link = &mut self.links[sender.place()];
-        match kind {
-            DatagramKind::Hello => {
-                if epoch > link.known {
-                    *link = Link::closed(epoch);
-                }
-            }
-            DatagramKind::Welcome => *link = Link::opened(epoch),
-            DatagramKind::Data
-            | DatagramKind::Freeze
-            | DatagramKind::Frozen
-            | DatagramKind::Cut
-            | DatagramKind::Show
-            | DatagramKind::Seen => {}
-        }
+        *link = link.after(kind.shape().link, epoch);
     }
 
     /// Returns the header of a datagram of this kind to a player or a watcher, in the version of the

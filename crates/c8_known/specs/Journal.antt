@@ -22,9 +22,9 @@ pub data Record : Type 0 where
   -- the player's list of inputs ends at a length, and these are its last inputs
   Cut : (player : ℕ) → (length : ℕ) → (start : ℕ) → (words : List ℕ) → Record
   -- a piece of a checkpoint: bytes of the machine after a number of confirmed frames, and of its marks
-  State : (player : ℕ) → (frames : ℕ) → (piece : ℕ) → (words : List ℕ) → Record
+  State : (player : ℕ) → (frames : ℕ) → (piece : ℕ) → (bytes : List ℕ) → Record
   -- all pieces of a checkpoint are in the journal, and this is their digest
-  Check : (player : ℕ) → (frames : ℕ) → (words : List ℕ) → Record
+  Check : (player : ℕ) → (frames : ℕ) → (digest : List ℕ) → Record
 
 -- ---- what one record says
 
@@ -37,8 +37,8 @@ player_of (Got player start words) = player
 player_of (Freeze player) = player
 player_of (Leave player) = player
 player_of (Cut player length start words) = player
-player_of (State player frames piece words) = player
-player_of (Check player frames words) = player
+player_of (State player frames piece bytes) = player
+player_of (Check player frames digest) = player
 
 -- the inputs that it adds to a player's list
 abbrev pub words_of : ℕ → Record → List ℕ
@@ -49,8 +49,8 @@ words_of q (Got player start words) = if player == q then words else []
 words_of q (Freeze player) = []
 words_of q (Leave player) = []
 words_of q (Cut player length start words) = if player == q then words else []
-words_of q (State player frames piece words) = []
-words_of q (Check player frames words) = []
+words_of q (State player frames piece bytes) = []
+words_of q (Check player frames digest) = []
 
 abbrev pub is_own : Record → Bool
 is_own (Head player form id room) = false
@@ -60,8 +60,8 @@ is_own (Got player start words) = false
 is_own (Freeze player) = false
 is_own (Leave player) = false
 is_own (Cut player length start words) = false
-is_own (State player frames piece words) = false
-is_own (Check player frames words) = false
+is_own (State player frames piece bytes) = false
+is_own (Check player frames digest) = false
 
 -- the epoch that it begins; a HEAD begins epoch 1
 abbrev pub epochs_of : Record → List ℕ
@@ -72,8 +72,8 @@ epochs_of (Got player start words) = []
 epochs_of (Freeze player) = []
 epochs_of (Leave player) = []
 epochs_of (Cut player length start words) = []
-epochs_of (State player frames piece words) = []
-epochs_of (Check player frames words) = []
+epochs_of (State player frames piece bytes) = []
+epochs_of (Check player frames digest) = []
 
 abbrev pub freezes : ℕ → Record → Bool
 freezes q (Head player form id room) = false
@@ -83,8 +83,8 @@ freezes q (Got player start words) = false
 freezes q (Freeze player) = player == q
 freezes q (Leave player) = false
 freezes q (Cut player length start words) = false
-freezes q (State player frames piece words) = false
-freezes q (Check player frames words) = false
+freezes q (State player frames piece bytes) = false
+freezes q (Check player frames digest) = false
 
 abbrev pub lets_go : ℕ → Record → Bool
 lets_go q (Head player form id room) = false
@@ -94,8 +94,8 @@ lets_go q (Got player start words) = false
 lets_go q (Freeze player) = false
 lets_go q (Leave player) = player == q
 lets_go q (Cut player length start words) = false
-lets_go q (State player frames piece words) = false
-lets_go q (Check player frames words) = false
+lets_go q (State player frames piece bytes) = false
+lets_go q (Check player frames digest) = false
 
 -- the length at which it cuts a player's list, if it does
 abbrev pub cuts_of : ℕ → Record → List ℕ
@@ -106,8 +106,8 @@ cuts_of q (Got player start words) = []
 cuts_of q (Freeze player) = []
 cuts_of q (Leave player) = []
 cuts_of q (Cut player length start words) = if player == q then length ∷ [] else []
-cuts_of q (State player frames piece words) = []
-cuts_of q (Check player frames words) = []
+cuts_of q (State player frames piece bytes) = []
+cuts_of q (Check player frames digest) = []
 
 -- ---- what a journal says
 

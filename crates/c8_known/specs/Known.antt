@@ -85,8 +85,8 @@ with_record k (Got player start words) = with_player k player (with_words (playe
 with_record k (Freeze player) = with_player k player (record (player_in k player) { frozen = true })
 with_record k (Leave player) = with_player k player (record (player_in k player) { leaving = true })
 with_record k (Cut player length start words) = with_player k player (with_cut (with_words (player_in k player) words) length)
-with_record k (State player frames piece words) = k
-with_record k (Check player frames words) = k
+with_record k (State player frames piece bytes) = k
+with_record k (Check player frames digest) = k
 
 -- ---- the invariant of all that a peer can know
 

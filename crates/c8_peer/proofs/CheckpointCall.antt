@@ -12,8 +12,6 @@ use Rattle.c8_disk.specs.Asks.{Answer, Asks}
 use Rattle.c8_log.specs.Slots.{slot_length}
 use Rattle.c8_log.specs.Asked.{AppendWithin}
 use Rattle.c8_log.specs.Journal.{JournalValue, KeepsBodies}
-use Rattle.c8_wire.specs.Spelling.{words_bytes}
-use Rattle.c8_wire.specs.Reading.{words_of}
 use Rattle.c8_digest.specs.Origin.{Origin, IsOrigin}
 use Rattle.c8_known.specs.Journal.{Record, State, Check, epoch}
 use Rattle.c8_known.specs.Known.{KnownValue, player_in, known_of, with_record}
@@ -22,7 +20,7 @@ use Rattle.c8_known.specs.Growth.{IsStillKnown}
 use Rattle.c8_check.specs.declared.checks.Checks.{Checks}
 use Rattle.c8_check.specs.Checks.{Pieces, ChecksValue, before_piece, piece_in, save_bytes, digest_of, with_piece, with_whole, with_check, checks_of, frames_of, MayCheck, begun_at}
 use Rattle.c8_check.specs.Seen.{pieces_of, value_of, plan_of}
-use Rattle.c8_check.specs.checked.PieceLaws.{all_before, saved_long, piece_words, digest_words}
+use Rattle.c8_check.specs.checked.PieceLaws.{all_before, saved_long}
 use Rattle.c8_roll.specs.Roll.{RollValue, roll_since, origin_at}
 use Rattle.c8_roll.specs.Rollback.{IsOldestWrong, run_from, RunsFromOldest}
 use Rattle.c8_roll.specs.checked.RollLaws.{roll_confirmed, roll_base, roll_marks}
@@ -77,8 +75,8 @@ comes_first rules me journal m c cut none =
     let other : c.count ≢ 36 = λ all. omega (arith, none, all) in
     let said : Piece 0 ≡ next_said c = rw (ne_eqb c.count 36 other) (ap Piece (sym none)) in
     let bytes : t.saved (confirmed k) ≡ plan_of c = ap t.saved (sym first.0) ∙ sym cut.planned in
-    let new : State k.me (confirmed k) 0 (words_of (piece_in 0 (t.saved (confirmed k)))) ≡ next_record k.me c =
-    rw (ne_eqb c.count 36 other) (λ i. State k.me (sym first.0 i) (sym none i) (words_of (piece_in (sym none i) (bytes i)))) in
+    let new : State k.me (confirmed k) 0 (piece_in 0 (t.saved (confirmed k))) ≡ next_record k.me c =
+    rw (ne_eqb c.count 36 other) (λ i. State k.me (sym first.0 i) (sym none i) (piece_in (sym none i) (bytes i))) in
     ap (next_piece t k m) under ∙ rw (lt-leb (confirmed k) (frames_of t.checks.last) above) (λ i. recorded m (Checked (Ok (said i))) (new i))
 
 comes_later : (rules : Rules) (me : ℕ) (journal : List Record) (m : Memory) (c : Checks) → IsCut rules me journal c → c.count ≢ 0 → length (plan_of c) ≡ 4548
@@ -91,9 +89,9 @@ comes_later rules me journal m c cut some long =
     ap (next_piece t k m) under ∙ elim (cases_eq c.count 36) [
       | inl all ↦
           let whole : take (before_piece c.count) c.bytes ≡ c.bytes = take_all (before_piece c.count) c.bytes (omega (arith, ap before_piece all, all_before, long)) in
-          rw (eq-eqb c.count 36 all) (λ i. recorded m (Checked (Ok (Done c.frames))) (Check k.me c.frames (words_of (digest_of (whole i)))))
+          rw (eq-eqb c.count 36 all) (λ i. recorded m (Checked (Ok (Done c.frames))) (Check k.me c.frames (digest_of (whole i))))
       | inr more ↦
-          rw (ne_eqb c.count 36 more) (λ i. recorded m (Checked (Ok (Piece c.count))) (State k.me c.frames c.count (words_of (piece_in c.count (sym cut.planned i)))))
+          rw (ne_eqb c.count 36 more) (λ i. recorded m (Checked (Ok (Piece c.count))) (State k.me c.frames c.count (piece_in c.count (sym cut.planned i))))
     ]
 
 pub checkpoint_comes : (rules : Rules) (me room : ℕ) (journal : List Record) (m : Memory) (c : Checks) → AreInRange rules → 1 ≤ me → me ≤ rules.players → IsJournal rules me room journal → IsCut rules me journal c → (player_in (known_of rules me journal) (known_of rules me journal).me).leaving ≡ false
@@ -167,9 +165,9 @@ next_epoch journal me c = epoch_more journal (next_record me c) ∙ elim (cases_
 pub whole_may : (rules : Rules) (me room own : ℕ) (journal : List Record) (c : Checks) → value_of c ≡ checks_of journal → IsAllowed rules me room journal (next_record own c) → c.count ≡ 36
     → MayCheck (value_of c) c.frames (digest_of (plan_of c))
 whole_may rules me room own journal c same may all =
-    let is : next_record own c ≡ Check own c.frames (words_of (digest_of (plan_of c))) = rw (eq-eqb c.count 36 all) refl in
+    let is : next_record own c ≡ Check own c.frames (digest_of (plan_of c)) = rw (eq-eqb c.count 36 all) refl in
     let stands = (subst (IsAllowed rules me room journal) is may).may.whole in
-    subst (λ (x : ChecksValue). MayCheck x c.frames (digest_of (plan_of c))) (sym same) (subst (MayCheck (checks_of journal) c.frames) (digest_words (plan_of c)) stands)
+    subst (λ (x : ChecksValue). MayCheck x c.frames (digest_of (plan_of c))) (sym same) stands
 
 -- once the record stands, the kept checkpoints are the longer journal's
 pub noted_next : (rules : Rules) (me room own : ℕ) (journal : List Record) (c new : Checks) → AreInRange rules → 1 ≤ me → me ≤ rules.players → IsJournal rules me room journal → IsCut rules me journal c → c.count ≤ 36
@@ -177,15 +175,11 @@ pub noted_next : (rules : Rules) (me room own : ℕ) (journal : List Record) (c 
     → value_of new ≡ checks_of (journal ++ next_record own c ∷ [])
 noted_next rules me room own journal c new range from to is cut few piece whole = elim (cases_eq c.count 36) [
   | inl all ↦
-      let record_is : next_record own c ≡ Check own c.frames (words_of (digest_of (plan_of c))) = rw (eq-eqb c.count 36 all) refl in
+      let record_is : next_record own c ≡ Check own c.frames (digest_of (plan_of c)) = rw (eq-eqb c.count 36 all) refl in
       whole all ∙ ap with_whole cut.same ∙ sym (checks_more journal (next_record own c) ∙ ap (with_check (checks_of journal)) record_is)
   | inr more ↦
-      let plan = plan_is rules me room journal c range from to is cut in
-      let record_is : next_record own c ≡ State own c.frames c.count (words_of (piece_in c.count (plan_of c))) = rw (ne_eqb c.count 36 more) refl in
-      let words : words_bytes (words_of (piece_in c.count (plan_of c))) ≡ piece_in c.count (plan_of c) =
-      subst (λ (bytes : List ℕ). words_bytes (words_of (piece_in c.count bytes)) ≡ piece_in c.count bytes) (sym plan.2) (piece_words plan.0 c.count plan.1 (omega (arith, few, more))) in
+      let record_is : next_record own c ≡ State own c.frames c.count (piece_in c.count (plan_of c)) = rw (ne_eqb c.count 36 more) refl in
       piece more ∙ ap (λ (x : ChecksValue). with_piece x c.frames c.count (piece_in c.count (plan_of c))) cut.same
-      ∙ ap (with_piece (checks_of journal) c.frames c.count) (sym words)
       ∙ sym (checks_more journal (next_record own c) ∙ ap (with_check (checks_of journal)) record_is)
 ]
 

@@ -5,10 +5,7 @@ use Rattle.std.proofs.lemmas.Bool.{and_from, cases_eq, eqb-true, eqb-false, leb-
 use Rattle.c8_game.specs.Rules.{Rules, AreInRange}
 use Rattle.c8_game.specs.declared.row.Row.{Row}
 use Rattle.c8_wire.specs.Packet.{AreBytes}
-use Rattle.c8_wire.specs.Spelling.{words_bytes}
-use Rattle.c8_wire.specs.Reading.{words_of}
 use Rattle.c8_wire.specs.checked.NumberLaws.{AreBytes-take, AreBytes-drop}
-use Rattle.c8_wire.specs.checked.WordLaws.{words_of-lt, length-spelled_words}
 use Rattle.c8_digest.specs.declared.marks.FrameMark.{FrameMark}
 use Rattle.c8_digest.specs.StateBytes.{mark_of}
 use Rattle.c8_digest.specs.Marks.{kept}
@@ -23,7 +20,7 @@ use Rattle.c8_check.specs.Checks.{Pieces, ChecksValue, before_piece, piece_lengt
 use Rattle.c8_check.specs.declared.checks.Checks.{Checks}
 use Rattle.c8_check.specs.Seen.{pieces_of, value_of}
 use Rattle.c8_check.specs.checked.CheckLaws.{opened_more}
-use Rattle.c8_check.specs.checked.PieceLaws.{none_before, saved_long, saved_low, piece_fits, pieces_more, whole_origin, whole_may_check, piece_words, piece_words_few, digest_words, digest_words_four}
+use Rattle.c8_check.specs.checked.PieceLaws.{none_before, saved_long, saved_low, saved_even, saved_few, digest_long, piece_fits, pieces_more, whole_origin, whole_may_check}
 use Rattle.c8_roll.specs.Roll.{mark_since, marks_since, origin_at, IsOnTheWay}
 use Rattle.c8_roll.specs.checked.RollLaws.{map_same_between, origin_goes_on, confirmed_is_serial, marks_on_the_way}
 use Rattle.c8_record.specs.Body.{HasSpelling}
@@ -109,7 +106,7 @@ pub record IsPiece (rules : Rules) (me : ℕ) (journal : List Record) (r : Recor
   pub starts : (begun_at rules journal).frames ≤ frames
   pub next : is_next_after (checks_of journal).under_way (frames_of (checks_of journal).last) (confirmed (known_of rules me journal)) frames piece ≡ true
   pub before : bytes_so_far (checks_of journal).under_way ≡ take (before_piece piece) ((told_of rules me journal).saved frames)
-  pub is : r ≡ State (known_of rules me journal).me frames piece (words_of (piece_in piece ((told_of rules me journal).saved frames)))
+  pub is : r ≡ State (known_of rules me journal).me frames piece (piece_in piece ((told_of rules me journal).saved frames))
 
 -- the digest of all pieces
 pub record IsEnd (rules : Rules) (me : ℕ) (journal : List Record) (r : Record) : Type 0 where
@@ -119,7 +116,7 @@ pub record IsEnd (rules : Rules) (me : ℕ) (journal : List Record) (r : Record)
   pub low : p.frames ≤ confirmed (known_of rules me journal)
   pub starts : (begun_at rules journal).frames ≤ p.frames
   pub bytes : p.bytes ≡ take (before_piece p.count) ((told_of rules me journal).saved p.frames)
-  pub is : r ≡ Check (known_of rules me journal).me p.frames (words_of (digest_of p.bytes))
+  pub is : r ≡ Check (known_of rules me journal).me p.frames (digest_of p.bytes)
 
 abbrev pub IsNext : Rules → ℕ → List Record → Record → Type 0
 IsNext rules me journal r = IsPiece rules me journal r ⊎ IsEnd rules me journal r
@@ -212,20 +209,20 @@ piece_may rules me room journal r range from to is saving next =
     let known = journal_known rules me room journal range from to is in
     let piece : List ℕ = piece_in next.piece (save_bytes at) in
     let same : piece_in next.piece ((told_of rules me journal).saved next.frames) ≡ piece = ap (piece_in next.piece) saved in
-    let new : Record = State k.me next.frames next.piece (words_of piece) in
-    let is_new : r ≡ new = next.is ∙ ap (λ (bytes : List ℕ). State k.me next.frames next.piece (words_of bytes)) same in
+    let new : Record = State k.me next.frames next.piece piece in
+    let is_new : r ≡ new = next.is ∙ ap (λ (bytes : List ℕ). State k.me next.frames next.piece bytes) same in
     let spelled : HasSpelling new = record {
       from_one = known.me.from_one;
       to_four = omega (arith, known.at_most_four, known.me.in_game);
       number = frames_fit k next.frames known next.low;
       start = let within = next.within in omega (arith, within);
-      short = piece_words_few at next.piece origin next.within;
-      parts = words_of-lt piece (piece_low at next.piece origin);
+      short = saved_few at next.piece origin next.within;
+      parts = (saved_even at next.piece origin next.within, piece_low at next.piece origin);
     } in
-    let shape : has_shape next.frames next.piece (words_bytes (words_of piece)) ≡ true = subst (λ (bytes : List ℕ). has_shape next.frames next.piece bytes ≡ true) (sym (piece_words at next.piece origin next.within)) (piece_fits at next.piece origin next.within) in
-    let may : may_take (checks_of journal) (confirmed k) next.frames next.piece (words_bytes (words_of piece)) ≡ true =
+    let shape : has_shape next.frames next.piece piece ≡ true = piece_fits at next.piece origin next.within in
+    let may : may_take (checks_of journal) (confirmed k) next.frames next.piece piece ≡ true =
     and_from _ _ (and_from _ _ (eq-eqb (checks_of journal).form 2 saving.form) next.next) shape in
-    subst (λ (one : Record). HasSpelling one × MayFollow rules room (past_of rules me journal) one) (sym is_new) (spelled, record { own = refl; next = may })
+    subst (λ (one : Record). HasSpelling one × MayFollow rules room (past_of rules me journal) one) (sym is_new) (spelled, record { own = refl; low = piece_low at next.piece origin; next = may })
 
 end_may : (rules : Rules) (me room : ℕ) (journal : List Record) (r : Record) → AreInRange rules → 1 ≤ me → me ≤ rules.players → IsJournal rules me room journal → IsEnd rules me journal r
     → HasSpelling r × MayFollow rules room (past_of rules me journal) r
@@ -236,15 +233,15 @@ end_may rules me room journal r range from to is next =
     let origin = saved_origin rules me room journal p.frames range from to is next.starts in
     let known = journal_known rules me room journal range from to is in
     let bytes : p.bytes ≡ take (before_piece p.count) (save_bytes at) = next.bytes ∙ ap (take (before_piece p.count)) (saved_is rules me journal p.frames) in
-    let new : Record = Check k.me p.frames (words_of (digest_of p.bytes)) in
-    let whole = subst (MayCheck (checks_of journal) p.frames) (sym (digest_words p.bytes)) (whole_may_check (checks_of journal) at p origin next.under_way refl next.all bytes) in
+    let new : Record = Check k.me p.frames (digest_of p.bytes) in
+    let whole = whole_may_check (checks_of journal) at p origin next.under_way refl next.all bytes in
     let spelled : HasSpelling new = record {
       from_one = known.me.from_one;
       to_four = omega (arith, known.at_most_four, known.me.in_game);
       number = frames_fit k p.frames known next.low;
       start = omega arith;
-      short = omega (arith, length-spelled_words (words_of (digest_of p.bytes)), digest_words_four p.bytes);
-      parts = (digest_words_four p.bytes, words_of-lt (digest_of p.bytes) (digest_low p.bytes));
+      short = omega (arith, digest_long p.bytes);
+      parts = (digest_long p.bytes, digest_low p.bytes);
     } in
     subst (λ (one : Record). HasSpelling one × MayFollow rules room (past_of rules me journal) one) (sym next.is) (spelled, record { own = refl; whole = whole })
 
@@ -281,13 +278,11 @@ piece_more rules me room journal r range from to is next =
     let saved : List ℕ = (told_of rules me journal).saved next.frames in
     let saved_here = saved_is rules me journal next.frames in
     let origin = saved_origin rules me room journal next.frames range from to is next.starts in
-    let words : words_bytes (words_of (piece_in next.piece saved)) ≡ piece_in next.piece saved =
-    subst (λ (bytes : List ℕ). words_bytes (words_of (piece_in next.piece bytes)) ≡ piece_in next.piece bytes) (sym saved_here) (piece_words at next.piece origin next.within) in
     let more : take (before_piece next.piece) saved ++ piece_in next.piece saved ≡ take (before_piece (next.piece + 1)) saved =
     subst (λ (bytes : List ℕ). take (before_piece next.piece) bytes ++ piece_in next.piece bytes ≡ take (before_piece (next.piece + 1)) bytes) (sym saved_here) (pieces_more next.piece (save_bytes at) (saved_long at origin) next.within) in
     ap (with_check c) next.is
     ∙ ap (λ (bytes : List ℕ). record c { under_way = Some (record { frames = next.frames; count = next.piece + 1; bytes = bytes }) })
-    (ap (λ (bytes : List ℕ). bytes_so_far c.under_way ++ bytes) words ∙ ap (λ (bytes : List ℕ). bytes ++ piece_in next.piece saved) next.before ∙ more)
+    (ap (λ (bytes : List ℕ). bytes ++ piece_in next.piece saved) next.before ∙ more)
 
 -- the digest completes the checkpoint
 end_more : (rules : Rules) (me room : ℕ) (journal : List Record) (r : Record) → AreInRange rules → 1 ≤ me → me ≤ rules.players → IsJournal rules me room journal → (next : IsEnd rules me journal r)

@@ -44,8 +44,8 @@ same_epoch journal (Got player start words) other = epoch_more journal (Got play
 same_epoch journal (Freeze player) other = epoch_more journal (Freeze player)
 same_epoch journal (Leave player) other = epoch_more journal (Leave player)
 same_epoch journal (Cut player length start words) other = epoch_more journal (Cut player length start words)
-same_epoch journal (journals.State player frames piece words) other = absurd cc
-same_epoch journal (Check player frames words) other = absurd cc
+same_epoch journal (journals.State player frames piece bytes) other = absurd cc
+same_epoch journal (Check player frames digest) other = absurd cc
 
 -- ---- bodies and records
 
@@ -140,8 +140,8 @@ one_tick k (Got player start words) = omega arith
 one_tick k (Freeze player) = omega arith
 one_tick k (Leave player) = omega arith
 one_tick k (Cut player length start words) = omega arith
-one_tick k (journals.State player frames piece words) = omega arith
-one_tick k (Check player frames words) = omega arith
+one_tick k (journals.State player frames piece bytes) = omega arith
+one_tick k (Check player frames digest) = omega arith
 
 no_tick : (k : KnownValue) (r : Record) → is_entry r ≡ false → (with_record k r).ticks ≡ k.ticks
 no_tick k (Head player form id room) other = refl
@@ -151,8 +151,8 @@ no_tick k (Got player start words) other = refl
 no_tick k (Freeze player) other = refl
 no_tick k (Leave player) other = refl
 no_tick k (Cut player length start words) other = refl
-no_tick k (journals.State player frames piece words) other = refl
-no_tick k (Check player frames words) other = refl
+no_tick k (journals.State player frames piece bytes) other = refl
+no_tick k (Check player frames digest) other = refl
 
 -- a roll within the window runs no more frames than the record allows
 pub runs_few : (rules : Rules) (k later : KnownValue) (r : Record) (ran : ℕ) → later ≡ with_record k r → ran ≤ rules.window + 1 → (later.ticks ≤ k.ticks → ran ≤ rules.window)

@@ -158,8 +158,8 @@ splits q (journals.Freeze player ∷ journal) is =
     ]
 splits q (journals.Leave player ∷ journal) is = later q (journals.Leave player) journal (splits q journal is)
 splits q (journals.Cut player length start words ∷ journal) is = later q (journals.Cut player length start words) journal (splits q journal is)
-splits q (journals.State player frames piece words ∷ journal) is = later q (journals.State player frames piece words) journal (splits q journal is)
-splits q (journals.Check player frames words ∷ journal) is = later q (journals.Check player frames words) journal (splits q journal is)
+splits q (journals.State player frames piece bytes ∷ journal) is = later q (journals.State player frames piece bytes) journal (splits q journal is)
+splits q (journals.Check player frames digest ∷ journal) is = later q (journals.Check player frames digest) journal (splits q journal is)
 
 frozen_at : (rules : Rules) (q : ℕ) (journal : List Record) (n : ℕ) → has_freeze q journal ≡ true → n ≡ count rules q journal → IsFrozenAt rules q n journal
 frozen_at rules q journal n is all =

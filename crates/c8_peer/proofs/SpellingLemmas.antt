@@ -82,8 +82,8 @@ words_fit q (Got player start words) has = words_if (player == q) words has.part
 words_fit q (journals.Freeze player) has = no_words
 words_fit q (journals.Leave player) has = no_words
 words_fit q (journals.Cut player K start words) has = words_if (player == q) words has.parts
-words_fit q (journals.State player frames piece words) has = no_words
-words_fit q (journals.Check player frames words) has = no_words
+words_fit q (journals.State player frames piece bytes) has = no_words
+words_fit q (journals.Check player frames digest) has = no_words
 
 all_words : (q : ℕ) (journal : List Record) → ((n : ℕ) (r : Record) → slice_get journal n ≡ Some r → HasSpelling r) → AreWords (flat_map (words_of q) journal)
 all_words q [] has = no_words

@@ -1,7 +1,6 @@
 -- The calls tick, leave, decide and checkpoint. Their refusals stand in the order of judging.
 use Rattle.std.specs.Prelude.{ℕ, ◌+◌, ◌==◌, ◌||◌, not, nat_le, [], Option, Some, None, is_some, Ok, Err, if◌then◌else◌}
 use Rattle.c8_game.specs.Rules.{Rules}
-use Rattle.c8_wire.specs.Reading.{words_of}
 use Rattle.c8_known.specs.Journal as records
 use Rattle.c8_known.specs.Known.{KnownValue, player_in, count_in, is_player}
 use Rattle.c8_known.specs.Confirmed.{confirmed}
@@ -45,10 +44,10 @@ decide k m leaver =
 abbrev pub next_piece : Told → KnownValue → Memory → Option Pieces → Outcome
 next_piece t k m None =
     if nat_le (confirmed k) (frames_of t.checks.last) then answered m (Checked (Err checks.Nothing))
-    else recorded m (Checked (Ok (Piece 0))) (records.State k.me (confirmed k) 0 (words_of (piece_in 0 (t.saved (confirmed k)))))
+    else recorded m (Checked (Ok (Piece 0))) (records.State k.me (confirmed k) 0 (piece_in 0 (t.saved (confirmed k))))
 next_piece t k m (Some p) =
-    if p.count == all_pieces then recorded m (Checked (Ok (Done p.frames))) (records.Check k.me p.frames (words_of (digest_of p.bytes)))
-    else recorded m (Checked (Ok (Piece p.count))) (records.State k.me p.frames p.count (words_of (piece_in p.count (t.saved p.frames))))
+    if p.count == all_pieces then recorded m (Checked (Ok (Done p.frames))) (records.Check k.me p.frames (digest_of p.bytes))
+    else recorded m (Checked (Ok (Piece p.count))) (records.State k.me p.frames p.count (piece_in p.count (t.saved p.frames)))
 
 unfoldable pub checkpoint : Told → KnownValue → Memory → Outcome
 checkpoint t k m = if (player_in k k.me).leaving then answered m (Checked (Err checks.Dropped)) else next_piece t k m t.checks.under_way

@@ -28,8 +28,8 @@ is_no_check (Got player start words) = true
 is_no_check (Freeze player) = true
 is_no_check (Leave player) = true
 is_no_check (Cut player length start words) = true
-is_no_check (State player frames piece words) = false
-is_no_check (Check player frames words) = false
+is_no_check (State player frames piece bytes) = false
+is_no_check (Check player frames digest) = false
 
 abbrev pub SaysNoCheck : List Record → Type 0
 SaysNoCheck journal = list_all is_no_check journal ≡ true

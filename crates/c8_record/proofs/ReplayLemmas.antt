@@ -87,8 +87,8 @@ module _ (rules : Rules) (me room : ℕ) (bodies : List (List ℕ)) where
   other_game body (Freeze player) first spells other = absurd other
   other_game body (Leave player) first spells other = absurd other
   other_game body (Cut player cut start words) first spells other = absurd other
-  other_game body (State player frames piece words) first spells other = absurd other
-  other_game body (Check player frames words) first spells other = absurd other
+  other_game body (State player frames piece bytes) first spells other = absurd other
+  other_game body (Check player frames digest) first spells other = absurd other
 
   other_player : (body : List ℕ) (r : Record) → slice_get bodies 0 ≡ Some body → Spells body r → IsOfOtherPlayer rules me room r → IsRefusal rules me room bodies WrongPlayer
   other_player body (Head player form id named) first spells other =
@@ -99,8 +99,8 @@ module _ (rules : Rules) (me room : ℕ) (bodies : List (List ℕ)) where
   other_player body (Freeze player) first spells other = absurd other
   other_player body (Leave player) first spells other = absurd other
   other_player body (Cut player cut start words) first spells other = absurd other
-  other_player body (State player frames piece words) first spells other = absurd other
-  other_player body (Check player frames words) first spells other = absurd other
+  other_player body (State player frames piece bytes) first spells other = absurd other
+  other_player body (Check player frames digest) first spells other = absurd other
 
   -- what is known and noted, where the bodies before are these
   said : (n : ℕ) (now : KnownValue) (checks : ChecksValue) (last : ℕ) → IsReadTo rules me room bodies n now checks last → (some : List (List ℕ)) → take n bodies ≡ some → AreSaid rules me some now checks

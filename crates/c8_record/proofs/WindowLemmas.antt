@@ -17,8 +17,8 @@ one_within : (rules : Rules) (room : ℕ) (past : Past) (r : Record) → IsAllow
     → IsWithin rules (with_record past.known r)
 one_within rules room past (Head player form id named) may within rises = within
 one_within rules room past (Epoch player number form) may within rises = within
-one_within rules room past (State player frames piece words) may within rises = within
-one_within rules room past (Check player frames words) may within rises = within
+one_within rules room past (State player frames piece bytes) may within rises = within
+one_within rules room past (Check player frames digest) may within rises = within
 one_within rules room past (Own player start word) may within rises =
     let made : (with_record past.known (Own player start word)).ticks ≡ past.known.ticks + 1 = refl in
     let few = may.may.window in

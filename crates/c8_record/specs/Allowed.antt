@@ -5,7 +5,6 @@ use Rattle.c8_game.specs.Rules.{Rules, id_of}
 use Rattle.c8_known.specs.Journal.{Record, Head, Epoch, Own, Got, Freeze, Leave, Cut, State, Check, player_of, epoch}
 use Rattle.c8_known.specs.Known.{PlayerValue, KnownValue, player_in, count_in, known_of, Plays, IsOfGame}
 use Rattle.c8_known.specs.Confirmed.{confirmed}
-use Rattle.c8_wire.specs.Spelling.{words_bytes}
 use Rattle.c8_wire.specs.Packet.{AreBytes}
 use Rattle.c8_digest.specs.Origin.{Origin, IsOrigin}
 use Rattle.c8_check.specs.Checks.{Pieces, ChecksValue, all_pieces, before_piece, checks_of, may_take, MayCheck}
@@ -77,14 +76,15 @@ pub record MayCut (k : KnownValue) (player cut start : ℕ) (words : List ℕ) :
   pub once : (player_in k player).cut ≡ None
 
 -- STATE: the next piece of a checkpoint, of the own player
-pub record MayState (k : KnownValue) (checks : ChecksValue) (player frames piece : ℕ) (words : List ℕ) : Type 0 where
+pub record MayState (k : KnownValue) (checks : ChecksValue) (player frames piece : ℕ) (bytes : List ℕ) : Type 0 where
   pub own : player ≡ k.me
-  pub next : may_take checks (confirmed k) frames piece (words_bytes words) ≡ true
+  pub low : AreBytes bytes
+  pub next : may_take checks (confirmed k) frames piece bytes ≡ true
 
 -- CHECK: the digest of all pieces, of the own player
-pub record MayEnd (k : KnownValue) (checks : ChecksValue) (player frames : ℕ) (words : List ℕ) : Type 0 where
+pub record MayEnd (k : KnownValue) (checks : ChecksValue) (player frames : ℕ) (digest : List ℕ) : Type 0 where
   pub own : player ≡ k.me
-  pub whole : MayCheck checks frames (words_bytes words)
+  pub whole : MayCheck checks frames digest
 
 abbrev pub MayFollow : Rules → ℕ → Past → Record → Type 0
 MayFollow rules room past (Head player form id named) = MayHead rules room past player id named
@@ -94,8 +94,8 @@ MayFollow rules room past (Got player start words) = MayGot past.known player st
 MayFollow rules room past (Freeze player) = MayFreeze past.known player
 MayFollow rules room past (Leave player) = MayLeave past.known player
 MayFollow rules room past (Cut player length start words) = MayCut past.known player length start words
-MayFollow rules room past (State player frames piece words) = MayState past.known past.checks player frames piece words
-MayFollow rules room past (Check player frames words) = MayEnd past.known past.checks player frames words
+MayFollow rules room past (State player frames piece bytes) = MayState past.known past.checks player frames piece bytes
+MayFollow rules room past (Check player frames digest) = MayEnd past.known past.checks player frames digest
 
 abbrev pub IsHead : Record → Type 0
 IsHead (Head player form id room) = Unit {0}
@@ -105,8 +105,8 @@ IsHead (Got player start words) = ⊥
 IsHead (Freeze player) = ⊥
 IsHead (Leave player) = ⊥
 IsHead (Cut player length start words) = ⊥
-IsHead (State player frames piece words) = ⊥
-IsHead (Check player frames words) = ⊥
+IsHead (State player frames piece bytes) = ⊥
+IsHead (Check player frames digest) = ⊥
 
 -- a record that an opening adds
 abbrev pub IsOpening : Record → Type 0
@@ -117,8 +117,8 @@ IsOpening (Got player start words) = ⊥
 IsOpening (Freeze player) = ⊥
 IsOpening (Leave player) = ⊥
 IsOpening (Cut player length start words) = ⊥
-IsOpening (State player frames piece words) = ⊥
-IsOpening (Check player frames words) = ⊥
+IsOpening (State player frames piece bytes) = ⊥
+IsOpening (Check player frames digest) = ⊥
 
 -- A record that the rules allow. It can be spelled, its player is in the game, and the rule of its kind
 -- holds. The first record is a HEAD. After its own LEAVE, a player other than player one adds only

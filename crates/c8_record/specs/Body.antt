@@ -1,5 +1,5 @@
 -- The spelling of a record in the 143 bytes of a slot's body.
-use Rattle.std.specs.Prelude.{ℕ, ◌-◌, ◌*◌, ◌/◌, ◌^◌, ◌≡◌, ◌<◌, ◌≤◌, ◌==◌, ◌⊎◌, if◌then◌else◌, List, [], ◌∷◌, ◌++◌, length, take, drop, replicate, slice_index, map}
+use Rattle.std.specs.Prelude.{ℕ, ◌-◌, ◌*◌, ◌/◌, ◌%◌, ◌^◌, ◌≡◌, ◌<◌, ◌≤◌, ◌==◌, ◌⊎◌, if◌then◌else◌, List, [], ◌∷◌, ◌++◌, length, take, drop, replicate, slice_index, map}
 use Rattle.byteorder.specs.Endian.{big_bytes}
 use Rattle.c8_wire.specs.Packet.{AreBytes, AreWords}
 use Rattle.c8_wire.specs.Reading.{number_at, words_of}
@@ -35,8 +35,8 @@ fields_of (Got player start words) = record { kind = 4; player = player; number 
 fields_of (Freeze player) = record { kind = 5; player = player; number = 0; start = 0; run = [] }
 fields_of (Leave player) = record { kind = 6; player = player; number = 0; start = 0; run = [] }
 fields_of (Cut player length start words) = record { kind = 7; player = player; number = length; start = start; run = words_bytes words }
-fields_of (State player frames piece words) = record { kind = 8; player = player; number = frames; start = piece; run = words_bytes words }
-fields_of (Check player frames words) = record { kind = 9; player = player; number = frames; start = all_pieces; run = words_bytes words }
+fields_of (State player frames piece bytes) = record { kind = 8; player = player; number = frames; start = piece; run = bytes }
+fields_of (Check player frames digest) = record { kind = 9; player = player; number = frames; start = all_pieces; run = digest }
 
 -- The fields in 143 bytes, if the run is not too long. Numbers are big-endian. The number of the run's
 -- words comes before the run, and zeros after it.
@@ -65,8 +65,8 @@ HasParts (Got player start words) = (1 ≤ length words) × AreWords words
 HasParts (Freeze player) = Unit {0}
 HasParts (Leave player) = Unit {0}
 HasParts (Cut player length start words) = AreWords words
-HasParts (State player frames piece words) = AreWords words
-HasParts (Check player frames words) = (length words ≡ digest_words) × AreWords words
+HasParts (State player frames piece bytes) = (length bytes % 2 ≡ 0) × AreBytes bytes
+HasParts (Check player frames digest) = (length digest ≡ 2 * digest_words) × AreBytes digest
 
 -- the record can be spelled
 pub record HasSpelling (r : Record) : Type 0 where
@@ -88,6 +88,10 @@ pub record Spells (bytes : List ℕ) (r : Record) : Type 0 where
 abbrev pub run_at : List ℕ → List ℕ
 run_at bytes = words_of (take (2 * number_at 10 2 bytes) (drop run_place bytes))
 
+-- the bytes of the run
+abbrev pub bytes_at : List ℕ → List ℕ
+bytes_at bytes = take (2 * number_at 10 2 bytes) (drop run_place bytes)
+
 -- The record that bytes can spell. The first byte decides its kind: any value but 1 to 8 is read as a
 -- CHECK. `Spells` says whether the bytes really spell it.
 unfoldable pub record_of : List ℕ → Record
@@ -99,8 +103,8 @@ record_of bytes =
     else (if slice_index bytes 0 == 5 then Freeze (slice_index bytes 1)
     else (if slice_index bytes 0 == 6 then Leave (slice_index bytes 1)
     else (if slice_index bytes 0 == 7 then Cut (slice_index bytes 1) (number_at 2 4 bytes) (number_at 6 4 bytes) (run_at bytes)
-    else (if slice_index bytes 0 == 8 then State (slice_index bytes 1) (number_at 2 4 bytes) (number_at 6 4 bytes) (run_at bytes)
-    else Check (slice_index bytes 1) (number_at 2 4 bytes) (run_at bytes))))))))
+    else (if slice_index bytes 0 == 8 then State (slice_index bytes 1) (number_at 2 4 bytes) (number_at 6 4 bytes) (bytes_at bytes)
+    else Check (slice_index bytes 1) (number_at 2 4 bytes) (bytes_at bytes))))))))
 
 -- the records of a list of bodies
 abbrev pub records_of : List (List ℕ) → List Record

@@ -2,6 +2,7 @@
 use Rattle.std.specs.Prelude.{ℕ, ◌≡◌, ◌<◌, List, length, take, drop}
 use Rattle.c8_game.specs.declared.wire.WireVersion.TheVariants as versions
 use Rattle.c8_wire.specs.Lent.{version_of, words, spelled}
+use Rattle.c8_wire.specs.Spelling.{words_bytes}
 use Rattle.c8_known.specs.Journal as journals
 use Rattle.c8_record.specs.declared.record.Record.{Record}
 use Rattle.c8_record.specs.declared.record.Record.TheVariants as lent
@@ -16,8 +17,8 @@ value_of (lent.Got player start run) = journals.Got player.number start (words r
 value_of (lent.Freeze player) = journals.Freeze player.number
 value_of (lent.Leave player) = journals.Leave player.number
 value_of (lent.Cut player cut start run) = journals.Cut player.number cut start (words run)
-value_of (lent.State player frames piece run) = journals.State player.number frames piece (words run)
-value_of (lent.Check player frames run) = journals.Check player.number frames (words run)
+value_of (lent.State player frames piece run) = journals.State player.number frames piece (words_bytes (words run))
+value_of (lent.Check player frames run) = journals.Check player.number frames (words_bytes (words run))
 
 -- the borrowed parts are slices of the body
 abbrev pub IsSliceOf : List ℕ → Record → Type 0

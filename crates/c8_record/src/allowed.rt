@@ -4,6 +4,7 @@ ghost use Rattle.c8_game.specs.Rules.{id_of};
 ghost use Rattle.c8_known.specs.Known.{Plays, IsKnown, IsOfGame};
 ghost use Rattle.c8_wire.specs.Lent.{version_of, words};
 ghost use Rattle.c8_game.specs.declared.wire.WireVersion.TheVariants as versions;
+ghost use Rattle.c8_wire.specs.Spelling.{words_bytes};
 ghost use Rattle.c8_record.specs.Allowed.{MayEpoch, MayOwn, MayGot, MayFreeze, MayLeave, MayCut, MayState, MayEnd, IsAllowedAfter};
 ghost use Rattle.c8_record.specs.Body.{HasSpelling};
 ghost use Rattle.c8_record.specs.Lent.{value_of, IsOfWords};
@@ -151,7 +152,7 @@ fn may_state(
 ) -> bool
     requires { version_of run ≡ versions.One }
     ensures { (result ≡ true) ↔ MayState known.now (value_in checks.now) player.number frames piece
-        (words run.entry) }
+        (words_bytes (words run.entry)) }
 {
     let me = known.me();
     player.number == me.number && checks.may_take(known.confirmed(), frames, piece, run.bytes())
@@ -160,7 +161,8 @@ fn may_state(
 fn may_end(known: &Known, checks: &Checks, player: Player, frames: u32, run: Run<'_>) -> bool
     requires { version_of run ≡ versions.One }
     ensures { (result ≡ true)
-        ↔ MayEnd known.now (value_in checks.now) player.number frames (words run.entry) }
+        ↔ MayEnd known.now (value_in checks.now) player.number frames
+        (words_bytes (words run.entry)) }
 {
     let me = known.me();
     player.number == me.number && checks.may_check(frames, run.bytes())

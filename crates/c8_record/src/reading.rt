@@ -4,8 +4,9 @@ ghost use Rattle.c8_wire.specs.Lent.{version_of, words, spelled};
 ghost use Rattle.c8_game.specs.declared.wire.WireVersion.TheVariants as versions;
 ghost use Rattle.c8_wire.specs.Reading.{number_at};
 ghost use Rattle.c8_known.specs.Journal as journals;
-ghost use Rattle.c8_record.specs.Body.{Spells, record_of, run_place, run_at, IsForm};
+ghost use Rattle.c8_record.specs.Body.{bytes_at, Spells, record_of, run_place, run_at, IsForm};
 ghost use Rattle.c8_record.specs.Lent.{value_of, IsSliceOf, IsComplete, IsOfWords};
+ghost use Rattle.c8_wire.specs.Spelling.{words_bytes};
 ghost use Rattle.c8_wire.specs.Sizes.{longest_run};
 
 use crate::record::{DIGEST_WORDS, RUN_PLACE, Record};
@@ -100,6 +101,7 @@ fn run_of(body: &[u8; BODY_LENGTH]) -> Option<Run<'_>>
     ensures slice { MatchOption result (longest_run < number_at 10 2 body.now)
         (λ run. spelled run ≡ take (2 * number_at 10 2 body.now) (drop run_place body.now)) }
     ensures words { IfSome result (λ run. words run ≡ run_at body.now) }
+    ensures bytes { IfSome result (λ run. words_bytes (words run) ≡ bytes_at body.now) }
     ensures version { IfSome result (λ run. version_of run ≡ versions.One) }
 {
     let count = usize::from(u16_at(body, 10));

@@ -105,17 +105,17 @@ fn cut_body(player: Player, length: u32, start: u32, run: Run<'_>) -> [u8; BODY_
 
 #[tactic(auto, unfolding(crate::specs::Body::body_of))]
 fn state_body(player: Player, frames: u32, piece: u32, run: Run<'_>) -> [u8; BODY_LENGTH]
-    ensures body { result ≡ body_of (State player.number frames piece (words run.entry)) }
-    ensures spells { Spells result (State player.number frames piece (words run.entry)) }
+    ensures body { result ≡ body_of (State player.number frames piece (words_bytes (words run.entry))) }
+    ensures spells { Spells result (State player.number frames piece (words_bytes (words run.entry))) }
 {
     spell_inputs(8, player, frames, piece, run)
 }
 
 #[tactic(auto, unfolding(crate::specs::Body::body_of))]
 fn check_body(player: Player, frames: u32, run: Run<'_>) -> [u8; BODY_LENGTH]
-    ensures body { result ≡ body_of (Check player.number frames (words run.entry)) }
+    ensures body { result ≡ body_of (Check player.number frames (words_bytes (words run.entry))) }
     ensures spells { length (words run.entry) ≡ digest_words
-        → Spells result (Check player.number frames (words run.entry)) }
+        → Spells result (Check player.number frames (words_bytes (words run.entry))) }
 {
     spell_inputs(9, player, frames, PIECES, run)
 }

@@ -1,5 +1,5 @@
 -- What one packet changes.
-use Rattle.std.proofs.Common.{◌≡◌, ◌⊎◌, ℕ, List, Result, Ok, Err, refl, sym, ◌∙◌, subst, arith, inl, inr, slice_index}
+use Rattle.std.proofs.Common.{◌≡◌, ◌⊎◌, ℕ, List, Some, Result, Ok, Err, refl, sym, ◌∙◌, subst, arith, inl, inr, slice_index}
 use Rattle.c8_relay.specs.declared.address.Address.{Address}
 use Rattle.c8_relay.specs.declared.address.Lane.{Lane}
 use Rattle.c8_relay.specs.declared.address.Lane.TheVariants.{Players, Watchers}
@@ -8,7 +8,7 @@ use Rattle.c8_relay.specs.declared.address.Sender.{Sender}
 use Rattle.c8_relay.specs.declared.control.Join.{Join}
 use Rattle.c8_relay.specs.declared.control.Route.{Route}
 use Rattle.c8_relay.specs.declared.seats.Seated.{Seated}
-use Rattle.c8_relay.specs.Reading.{IsDatagram, IsJoin, IsKind, lane_code}
+use Rattle.c8_relay.specs.Reading.{IsDatagram, IsJoin, lane_of_kind, lane_code}
 use Rattle.c8_relay.specs.Seating.{Sits, SeatsOnly}
 
 pub one_ok : {A E : Type 0} (r : Result A E) (x y : A) → r ≡ Ok x → r ≡ Ok y → x ≡ y
@@ -17,11 +17,8 @@ one_ok r x y one other = let e : Ok x ≡ Ok y = sym one ∙ other in cc
 pub no_ok : {A E : Type 0} (r : Result A E) (x : A) (e : E) → r ≡ Err e → r ≡ Ok x → ⊥
 no_ok r x e one other = let e : Err e ≡ Ok x = sym one ∙ other in cc
 
-one_lane : (a b : Lane) (kind : ℕ) → IsKind a kind → IsKind b kind → a ≡ b
-one_lane Players Players kind one other = refl
-one_lane Players Watchers kind one other = let p = one.1 in let q = other.0 in absurd (omega (arith, p, q))
-one_lane Watchers Players kind one other = let p = one.0 in let q = other.1 in absurd (omega (arith, p, q))
-one_lane Watchers Watchers kind one other = refl
+one_lane : (a b : Lane) (code : ℕ) → lane_of_kind code ≡ Some a → lane_of_kind code ≡ Some b → a ≡ b
+one_lane a b code one other = let same : Some a ≡ Some b = sym one ∙ other in cc
 
 a_route : Lane → ℕ → ℕ → Route
 a_route lane from to = record { lane = lane; from = from; to = to }

@@ -1,6 +1,9 @@
 -- What a relay reads of a packet, and how its answers are spelled.
-use Rattle.std.specs.Prelude.{◌≡◌, ◌≤◌, ℕ, List, ◌∷◌, length, slice_index, slice_range}
+use Rattle.std.specs.Prelude.{◌≡◌, ◌≤◌, ℕ, List, ◌∷◌, length, slice_index, slice_range, Option, Some, option_map}
 use Rattle.std.specs.Int.{w128, from_be_bytes}
+use Rattle.c8_wire.specs.declared.kinds.KeyOf.{KeyOf}
+use Rattle.c8_wire.specs.declared.kinds.KeyOf.TheVariants as keys
+use Rattle.c8_wire.specs.Kinds.{kind_of_code, shape_of}
 use Rattle.c8_relay.specs.declared.address.Lane.{Lane}
 use Rattle.c8_relay.specs.declared.address.Lane.TheVariants.{Players, Watchers}
 use Rattle.c8_relay.specs.declared.control.Join.{Join}
@@ -11,10 +14,14 @@ use Rattle.c8_relay.specs.declared.control.Spoken.TheVariants.{Datagram, Nothing
 use Rattle.c8_relay.specs.declared.control.Status.{Status}
 use Rattle.c8_relay.specs.declared.control.Status.TheVariants.{Prove, Joined, Busy, Full}
 
--- the kinds of datagrams that players seal with their own secret, and those that they seal with the watchers'
-abbrev pub IsKind : Lane → ℕ → Type 0
-IsKind Players kind = (1 ≤ kind) × (kind ≤ 6)
-IsKind Watchers kind = (7 ≤ kind) × (kind ≤ 8)
+-- a lane for each secret
+abbrev pub lane_of_key : KeyOf → Lane
+lane_of_key keys.Players = Players
+lane_of_key keys.Watchers = Watchers
+
+-- the lane of the kind with a code, if there is one
+abbrev pub lane_of_kind : ℕ → Option Lane
+lane_of_kind code = option_map (λ kind. lane_of_key (shape_of kind).key) (kind_of_code code)
 
 -- byte 5 of a JOIN
 abbrev pub lane_code : Lane → ℕ
@@ -30,7 +37,7 @@ pub record IsDatagram (packet : List ℕ) (route : Route) : Type 0 where
   pub longest : length packet ≤ 198
   pub first : slice_index packet 0 ≡ 0x43
   pub second : slice_index packet 1 ≡ 0x38
-  pub kind : IsKind route.lane (slice_index packet 3)
+  pub kind : lane_of_kind (slice_index packet 3) ≡ Some route.lane
   pub from : route.from ≡ slice_index packet 12
   pub to : route.to ≡ slice_index packet 13
   pub sender : IsSeat (slice_index packet 12)

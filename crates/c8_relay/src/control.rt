@@ -1,9 +1,10 @@
 //! What a relay reads of a packet, and the bytes of its answers.
 ghost use Rattle.std.specs.Prelude.{◌≡◌, ◌≤◌, ◌<◌, ◌+◌, ◌∷◌, [], ℕ, length, slice_index, MatchOption};
-ghost use Rattle.c8_relay.specs.Reading.{IsDatagram, IsJoin, IsKind, IsRead, lane_code, spelled, status_code};
+ghost use Rattle.c8_relay.specs.Reading.{IsDatagram, IsJoin, IsRead, lane_code, lane_of_key, lane_of_kind, spelled, status_code};
 
 use crate::address::{Lane, Place};
 use c8_seal::{LONGEST_SEALED, SEAL_LENGTH};
+use c8_wire::{DatagramKind, HEADER_LENGTH, KeyOf};
 
 /// How many bytes a cookie has.
 pub const COOKIE_LENGTH: usize = 16;
@@ -16,9 +17,6 @@ pub const JOIN_LENGTH: usize = 40;
 
 /// How many bytes an answer has.
 pub const ANSWER_LENGTH: usize = 24;
-
-/// How many bytes the header of a datagram has.
-const HEADER_LENGTH: usize = 24;
 
 /// The shortest sealed packet: a header and a seal.
 const SHORTEST: usize = HEADER_LENGTH + SEAL_LENGTH;
@@ -115,14 +113,22 @@ fn read_join(packet: &[u8]) -> Option<Join>
     Some(Join { place, cookie })
 }
 
-/// The lane of a datagram's kind.
-fn lane_of_kind(kind: u8) -> Option<Lane>
-    ensures { MatchOption result ((lane : Lane) → IsKind lane kind → ⊥) (λ lane. IsKind lane kind) }
+/// The lane of the kind with a code, if there is one.
+fn lane_of_kind(code: u8) -> Option<Lane>
+    ensures { result ≡ lane_of_kind code }
 {
-    match kind {
-        1..=6 => Some(Lane::Players),
-        7 | 8 => Some(Lane::Watchers),
-        _ => None,
+    match DatagramKind::try_from(code) {
+        Ok(kind) => Some(lane_of_key(kind.shape().key)),
+        Err(_) => None,
+    }
+}
+
+fn lane_of_key(key: KeyOf) -> Lane
+    ensures { result ≡ lane_of_key key }
+{
+    match key {
+        KeyOf::Players => Lane::Players,
+        KeyOf::Watchers => Lane::Watchers,
     }
 }
 

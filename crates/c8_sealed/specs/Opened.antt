@@ -1,18 +1,26 @@
--- Packets and the datagrams inside. A packet is sealed with one of two keys: SHOW and SEEN with that of the watchers, all
--- other kinds with that of the players.
-use Rattle.std.specs.Prelude.{◌≡◌, ◌≤◌, ℕ, ◌-◌, ◌==◌, ◌||◌, Bool, List, [], ◌∷◌, length, take, drop, flat_map, slice_index_or, bytes_eq, Option, None, Some, option_map, if◌then◌else◌}
+-- Packets and the datagrams inside. A packet is sealed with one of two keys, by its kind.
+use Rattle.std.specs.Prelude.{◌≡◌, ◌≤◌, ℕ, ◌-◌, List, [], ◌∷◌, length, take, drop, flat_map, slice_index_or, bytes_eq, Option, None, Some, option_map, if◌then◌else◌}
 use Rattle.std.specs.Int.{w64, from_be_bytes}
 use Rattle.c8_seal.specs.Seal.{sealed, match_key, watch_key}
+use Rattle.c8_wire.specs.declared.kinds.DatagramKind.{DatagramKind}
+use Rattle.c8_wire.specs.declared.kinds.KeyOf.{KeyOf}
+use Rattle.c8_wire.specs.declared.kinds.KeyOf.TheVariants as key
+use Rattle.c8_wire.specs.Kinds.{kind_of_code, shape_of}
 use Rattle.c8_sealed.specs.declared.keys.SealKeys.{SealKeys}
 use Rattle.c8_sealed.specs.declared.keys.Secrets.{Secrets}
 
--- whether byte 3, the kind, is that of SHOW or SEEN
-abbrev pub is_for_watching : List ℕ → Bool
-is_for_watching datagram = slice_index_or datagram 3 0 == 7 || slice_index_or datagram 3 0 == 8
+-- whose key seals a kind; what is no kind counts as the players'
+abbrev pub key_of : Option DatagramKind → KeyOf
+key_of None = key.Players
+key_of (Some kind) = (shape_of kind).key
 
--- the key of a datagram, if these keys have it
+abbrev pub key_in : SealKeys → KeyOf → Option (List ℕ)
+key_in keys key.Players = keys.players
+key_in keys key.Watchers = keys.watchers
+
+-- the key of a datagram, by the kind that byte 3 names, if these keys have it
 abbrev pub key_for : SealKeys → List ℕ → Option (List ℕ)
-key_for keys datagram = if is_for_watching datagram then keys.watchers else keys.players
+key_for keys datagram = key_in keys (key_of (kind_of_code (slice_index_or datagram 3 0)))
 
 -- the packet is the sealing of this datagram, with this counter and the key of its kind
 pub record IsSealing (keys : SealKeys) (packet : List ℕ) (counter : ℕ) (datagram : List ℕ) : Type 0 where

@@ -1,14 +1,15 @@
 //! The keys of a match's packets.
 
-ghost use Rattle.std.specs.Prelude.{◌≡◌, ◌≢◌, ℕ, List, Some, None, MatchOption, IfOk, IfErr, OnOk, option_map};
+ghost use Rattle.std.specs.Prelude.{slice_index_or, ◌≡◌, ◌≢◌, ℕ, List, Some, None, MatchOption, IfOk, IfErr, OnOk, option_map};
 ghost use Rattle.c8_seal.specs.Seal.{match_key, watch_key};
-ghost use Rattle.c8_sealed.specs.Opened.{AreKeysOf, IsSealing, key_for, is_for_watching};
+ghost use Rattle.c8_wire.specs.Kinds.{kind_of_code};
+ghost use Rattle.c8_sealed.specs.Opened.{AreKeysOf, IsSealing, key_for, key_of};
 ghost use Rattle.c8_sealed.specs.declared.error.SecretError.TheVariants.{Same};
 
 use crate::error::SecretError;
 use crate::secret::Secret;
 use c8_seal::{Key, LONGEST_SEALED, Opened, SEAL_LENGTH};
-use c8_wire::{DatagramKind, Seat};
+use c8_wire::{DatagramKind, KeyOf, Seat};
 
 /// Where the kind of a datagram stands.
 const KIND_AT: usize = 3;
@@ -40,9 +41,7 @@ impl Secrets {
 /// The keys of a match's packets, as far as this machine has the secrets.
 #[derive(Drop)]
 pub struct SealKeys {
-    /// For all kinds but SHOW and SEEN.
     players: Option<Key>,
-    /// For SHOW and SEEN.
     watchers: Option<Key>,
 }
 
@@ -62,10 +61,9 @@ impl SealKeys {
         ensures { MatchOption result (key_for self.now datagram.now ≡ None)
             (λ key. key_for self.now datagram.now ≡ Some key.now) }
     {
-        if is_for_watching(datagram) {
-            self.watchers.as_ref()
-        } else {
-            self.players.as_ref()
+        match key_of(datagram) {
+            KeyOf::Players => self.players.as_ref(),
+            KeyOf::Watchers => self.watchers.as_ref(),
         }
     }
 
@@ -102,13 +100,17 @@ pub struct Seal {
     pub session: u64,
 }
 
-/// Whether a datagram is of a kind that is said to watchers or by them.
-fn is_for_watching(datagram: &[u8]) -> bool
-    ensures { result ≡ is_for_watching datagram.now }
+/// Whose key seals a datagram, by its kind. What is no datagram counts as the players'.
+fn key_of(datagram: &[u8]) -> KeyOf
+    ensures { result ≡ key_of (kind_of_code (slice_index_or datagram.now 3 0)) }
 {
-    match datagram.get(KIND_AT) {
-        Some(kind) => *kind == DatagramKind::Show.code() || *kind == DatagramKind::Seen.code(),
-        None => false,
+    let code = match datagram.get(KIND_AT) {
+        Some(code) => *code,
+        None => 0,
+    };
+    match DatagramKind::try_from(code) {
+        Ok(kind) => kind.shape().key,
+        Err(_) => KeyOf::Players,
     }
 }
 

@@ -11,7 +11,7 @@ use Rattle.std.proofs.lemmas.Bool.Decides.{nat_tests}
 use Rattle.c8_wire.specs.declared.error.WireError.TheVariants as errors
 use Rattle.c8_wire.specs.Refusal.{applies}
 use Rattle.c8_wire.specs.declared.kinds.DatagramKind.{DatagramKind}
-use Rattle.c8_wire.specs.Kinds.{code_of}
+use Rattle.c8_wire.specs.Kinds.{shape_of}
 use Rattle.c8_wire.specs.Seats.{are_seats}
 use Rattle.c8_wire.specs.Packet.{AreBytes, HeadValue, IsHead}
 use Rattle.c8_game.specs.Wire.{version_number}
@@ -28,15 +28,15 @@ pub byte_here : (place next : ℕ) (bytes : List ℕ) → place + 1 ≡ next →
 byte_here place next bytes ends long = drop_more bytes place 0 (omega arith) ∙ ap (λ (k : ℕ). get_or bytes place 0 ∷ drop k bytes) ends
 
 -- a header that begins a datagram's bytes spells what it says
-pub spelled_header : (kind : DatagramKind) (bytes : List ℕ) → AreBytes bytes → 24 ≤ length bytes → number_at 0 2 bytes ≡ 0x4338 → slice_index bytes 2 ≡ version_number (version_at bytes) → slice_index bytes 3 ≡ code_of kind
+pub spelled_header : (kind : DatagramKind) (bytes : List ℕ) → AreBytes bytes → 24 ≤ length bytes → number_at 0 2 bytes ≡ 0x4338 → slice_index bytes 2 ≡ version_number (version_at bytes) → slice_index bytes 3 ≡ (shape_of kind).code
     → bytes ≡ header_bytes (head_at kind bytes) (size_at bytes) ++ drop 24 bytes
 spelled_header kind bytes fits long magic version code =
     let first : bytes ≡ big_bytes 2 0x4338 ++ drop 2 bytes = spelled_at 0 2 2 bytes refl (omega arith) fits ∙ ap (λ (n : ℕ). big_bytes 2 n ++ drop 2 bytes) magic in
     let second : drop 2 bytes ≡ version_number (version_at bytes) ∷ [] ++ drop 3 bytes = byte_here 2 3 bytes refl (omega arith) ∙ ap (λ (n : ℕ). n ∷ drop 3 bytes) version in
-    let third : drop 3 bytes ≡ code_of kind ∷ [] ++ drop 4 bytes = byte_here 3 4 bytes refl (omega arith) ∙ ap (λ (n : ℕ). n ∷ drop 4 bytes) code in
+    let third : drop 3 bytes ≡ (shape_of kind).code ∷ [] ++ drop 4 bytes = byte_here 3 4 bytes refl (omega arith) ∙ ap (λ (n : ℕ). n ∷ drop 4 bytes) code in
     then (big_bytes 2 0x4338) first
     (then (version_number (version_at bytes) ∷ []) second
-    (then (code_of kind ∷ []) third
+    (then ((shape_of kind).code ∷ []) third
     (then (big_bytes 8 (number_at 4 8 bytes)) (spelled_at 4 8 12 bytes refl (omega arith) fits)
     (then (slice_index bytes 12 ∷ []) (byte_here 12 13 bytes refl (omega arith))
     (then (slice_index bytes 13 ∷ []) (byte_here 13 14 bytes refl (omega arith))

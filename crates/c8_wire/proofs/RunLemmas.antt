@@ -8,11 +8,13 @@ use Rattle.byteorder.specs.Endian.{big_bytes, big_number}
 use Rattle.byteorder.specs.Numbers.{big_number-reads_back}
 use Rattle.c8_game.specs.declared.wire.WireVersion.{WireVersion}
 use Rattle.c8_wire.specs.declared.kinds.DatagramKind.{DatagramKind}
-use Rattle.c8_wire.specs.Kinds.{fixed_size, has_run, has_rows, run_place}
+use Rattle.c8_wire.specs.declared.kinds.Tail.{Tail}
+use Rattle.c8_wire.specs.declared.kinds.Tail.TheVariants as tails
+use Rattle.c8_wire.specs.Kinds.{shape_of, is_run, run_place}
 use Rattle.c8_wire.specs.Packet.{AreBytes, has_few_stretches}
 use Rattle.c8_wire.specs.Spelling.{inputs_bytes, run_bytes}
 use Rattle.c8_wire.specs.Reading.{number_at, version_at, size_at, inputs_of, run_at}
-use Rattle.c8_wire.specs.Refusal.{has_wrong_size, are_no_run, count_at, miscounts_run, miscounts_rows, miscounts, mispairs}
+use Rattle.c8_wire.specs.Refusal.{has_wrong_size, are_no_run, count_at, miscounts_tail, miscounts, mispairs}
 use Rattle.c8_wire.specs.checked.NumberLaws.{AreBytes-drop, spelled_at}
 use Rattle.c8_wire.specs.checked.RunLaws.{AreRun, are_run_of, inputs_again, right_size, are_paired}
 use Rattle.c8_wire.proofs.HeadLemmas.{then}
@@ -69,21 +71,20 @@ not_above : (least number : ℕ) → number ≤ least → nat_lt least number �
 not_above least number low = grind (arith, nat_tests)
 
 -- none applies to a run that has room
-pub counted : (kind : DatagramKind) (bytes : List ℕ) (version : WireVersion) (words : List ℕ) → version_at bytes ≡ version → count_at kind bytes ≡ length words → size_at bytes ≡ fixed_size kind + length (inputs_bytes version words)
-    → length words ≤ 64 → has_few_stretches version words ≡ true → has_rows kind ≡ false → miscounts kind bytes ≡ false
-counted kind bytes version words is count size short room rowless =
-    let left : size_at bytes - fixed_size kind ≡ length (inputs_bytes version words) = omega (arith, size) in
-    let right : has_wrong_size (version_at bytes) (count_at kind bytes) (size_at bytes - fixed_size kind) ≡ false =
+pub counted : (kind : DatagramKind) (bytes : List ℕ) (version : WireVersion) (words : List ℕ) → version_at bytes ≡ version → count_at kind bytes ≡ length words → size_at bytes ≡ (shape_of kind).fixed + length (inputs_bytes version words)
+    → length words ≤ 64 → has_few_stretches version words ≡ true → (shape_of kind).tail ≡ tails.Run → miscounts kind bytes ≡ false
+counted kind bytes version words is count size short room run =
+    let left : size_at bytes - (shape_of kind).fixed ≡ length (inputs_bytes version words) = omega (arith, size) in
+    let right : has_wrong_size (version_at bytes) (count_at kind bytes) (size_at bytes - (shape_of kind).fixed) ≡ false =
     (λ i. has_wrong_size (is i) (count i) (left i)) ∙ right_size version words room in
-    ap (λ (rows : Bool). cond rows (miscounts_rows kind bytes) (has_run kind && miscounts_run kind bytes)) rowless
-    ∙ and_false (has_run kind) _ (or_false _ _ (not_above 64 (count_at kind bytes) (omega (arith, count, short))) right)
+    ap (λ (tail : Tail). miscounts_tail tail kind bytes) run ∙ or_false _ _ (not_above 64 (count_at kind bytes) (omega (arith, count, short))) right
 
 pub paired : (kind : DatagramKind) (bytes : List ℕ) (version : WireVersion) (words : List ℕ) → version_at bytes ≡ version → count_at kind bytes ≡ length words → drop (run_place kind) bytes ≡ inputs_bytes version words
     → ((i : ℕ) → slice_index words i < 2 ^ 16) → mispairs kind bytes ≡ false
 paired kind bytes version words is count ended fits =
     let right : are_no_run (version_at bytes) (count_at kind bytes) (drop (run_place kind) bytes) ≡ false =
     (λ i. are_no_run (is i) (count i) (ended i)) ∙ are_paired version words fits in
-    and_false (has_run kind) _ right
+    and_false (is_run (shape_of kind).tail) _ right
 
 -- what the table says of a body that ends with a run of this size
 pub run_shaped : (place size : ℕ) (bytes : List ℕ) → length bytes ≡ place + 6 + size → nat_lt 64 (number_at (place + 4) 2 bytes) || has_wrong_size (version_at bytes) (number_at (place + 4) 2 bytes) size ≡ false

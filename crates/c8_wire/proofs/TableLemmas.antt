@@ -6,7 +6,7 @@ use Rattle.c8_wire.specs.declared.error.WireError.{WireError}
 use Rattle.c8_wire.specs.declared.error.WireError.TheVariants as errors
 use Rattle.c8_wire.specs.declared.kinds.DatagramKind.{DatagramKind}
 use Rattle.c8_wire.specs.declared.kinds.DatagramKind.TheVariants as kinds
-use Rattle.c8_wire.specs.Kinds.{code_of, all_kinds, kind_of_code}
+use Rattle.c8_wire.specs.Kinds.{shape_of, all_kinds, kind_of_code}
 use Rattle.c8_wire.specs.Reading.{kind_at}
 use Rattle.c8_wire.specs.Refusal.{applies, first_of, front_refusals, body_refusals, refusal}
 
@@ -35,11 +35,11 @@ pub refused_or_not : (refused : Option WireError) (error : WireError) → refuse
 refused_or_not refused error none some = cc
 
 -- a number's kind has that number
-pub code_of_found : (code : ℕ) (kind : DatagramKind) → kind_of_code code ≡ Some kind → code ≡ code_of kind
+pub code_of_found : (code : ℕ) (kind : DatagramKind) → kind_of_code code ≡ Some kind → code ≡ (shape_of kind).code
 unfolding kind_of_code
-code_of_found code kind e = sym (eqb-true _ _ (find_passes (λ k. code_of k == code) all_kinds kind e))
+code_of_found code kind e = sym (eqb-true _ _ (find_passes (λ k. (shape_of k).code == code) all_kinds kind e))
 
-pub kind_of_its_code : (kind : DatagramKind) → kind_of_code (code_of kind) ≡ Some kind
+pub kind_of_its_code : (kind : DatagramKind) → kind_of_code (shape_of kind).code ≡ Some kind
 unfolding kind_of_code
 kind_of_its_code kinds.Hello = refl
 kind_of_its_code kinds.Welcome = refl

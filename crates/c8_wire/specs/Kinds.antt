@@ -1,77 +1,83 @@
--- The kinds of datagrams, and the layout of their bodies. A new kind adds a case to each definition.
-use Rattle.std.specs.Prelude.{◌≡◌, ℕ, ◌+◌, ◌==◌, Bool, true, false, List, [], ◌∷◌, Option, Some, None, Result, MatchResult, find}
+-- The kinds of datagrams. A row says all of a kind but its name; a new kind adds a row.
+use Rattle.std.specs.Prelude.{◌≡◌, ◌≤◌, ℕ, ◌+◌, ◌==◌, Bool, true, false, List, [], ◌∷◌, Option, Some, None, Result, MatchResult, find}
+use Rattle.std.specs.Bool.{OnTrue}
 use Rattle.c8_wire.specs.declared.error.WireError.{WireError}
 use Rattle.c8_wire.specs.declared.error.WireError.TheVariants as errors
 use Rattle.c8_wire.specs.declared.kinds.DatagramKind.{DatagramKind}
 use Rattle.c8_wire.specs.declared.kinds.DatagramKind.TheVariants as kinds
+use Rattle.c8_wire.specs.declared.kinds.KeyOf.{KeyOf}
+use Rattle.c8_wire.specs.declared.kinds.KeyOf.TheVariants as keys
+use Rattle.c8_wire.specs.declared.kinds.Parties.{Parties}
+use Rattle.c8_wire.specs.declared.kinds.Parties.TheVariants as parties
+use Rattle.c8_wire.specs.declared.kinds.Shape.{Shape}
+use Rattle.c8_wire.specs.declared.kinds.Tail.{Tail}
+use Rattle.c8_wire.specs.declared.kinds.Tail.TheVariants as tails
+use Rattle.c8_wire.specs.declared.kinds.Wanted.{Wanted}
+use Rattle.c8_wire.specs.declared.kinds.Wanted.TheVariants as wanted
 use Rattle.c8_wire.specs.Sizes.{header_length}
 
--- the number of a kind, byte 3 of its datagrams
-abbrev pub code_of : DatagramKind → ℕ
-code_of kinds.Hello = 1
-code_of kinds.Welcome = 2
-code_of kinds.Data = 3
-code_of kinds.Freeze = 4
-code_of kinds.Frozen = 5
-code_of kinds.Cut = 6
-code_of kinds.Show = 7
-code_of kinds.Seen = 8
+-- byte 3 of its datagrams; the length in bytes of the body before its run or rows; what the body ends with; whether it begins
+-- with a dropped player and a byte 0; who sends it to whom; the link that a player needs to take it; whose key seals it
+pub record ShapeValue : Type 0 where
+  pub code : ℕ
+  pub fixed : ℕ
+  pub tail : Tail
+  pub names_leaver : Bool
+  pub parties : Parties
+  pub link : Wanted
+  pub key : KeyOf
+
+abbrev pub shape_of : DatagramKind → ShapeValue
+shape_of kinds.Hello = record { code = 1; fixed = 0; tail = tails.Nothing; names_leaver = false; parties = parties.Players; link = wanted.Nothing; key = keys.Players }
+shape_of kinds.Welcome = record { code = 2; fixed = 4; tail = tails.Nothing; names_leaver = false; parties = parties.Players; link = wanted.Known; key = keys.Players }
+shape_of kinds.Data = record { code = 3; fixed = 22; tail = tails.Run; names_leaver = false; parties = parties.Players; link = wanted.Open; key = keys.Players }
+shape_of kinds.Freeze = record { code = 4; fixed = 6; tail = tails.Nothing; names_leaver = true; parties = parties.Players; link = wanted.Open; key = keys.Players }
+shape_of kinds.Frozen = record { code = 5; fixed = 12; tail = tails.Run; names_leaver = true; parties = parties.Players; link = wanted.Open; key = keys.Players }
+shape_of kinds.Cut = record { code = 6; fixed = 12; tail = tails.Run; names_leaver = true; parties = parties.Players; link = wanted.Open; key = keys.Players }
+shape_of kinds.Show = record { code = 7; fixed = 6; tail = tails.Rows; names_leaver = false; parties = parties.ToWatcher; link = wanted.Never; key = keys.Watchers }
+shape_of kinds.Seen = record { code = 8; fixed = 4; tail = tails.Nothing; names_leaver = false; parties = parties.FromWatcher; link = wanted.Never; key = keys.Watchers }
+
+-- what code holds of a kind
+abbrev pub shape_value : Shape → ShapeValue
+shape_value shape = record {
+  code = shape.code;
+  fixed = shape.fixed;
+  tail = shape.tail;
+  names_leaver = shape.names_leaver;
+  parties = shape.parties;
+  link = shape.link;
+  key = shape.key;
+}
 
 abbrev pub all_kinds : List DatagramKind
 all_kinds = kinds.Hello ∷ kinds.Welcome ∷ kinds.Data ∷ kinds.Freeze ∷ kinds.Frozen ∷ kinds.Cut ∷ kinds.Show ∷ kinds.Seen ∷ []
 
--- the kind with a number, if there is one
+-- the kind with a code, if there is one
 unfoldable pub kind_of_code : ℕ → Option DatagramKind
-kind_of_code code = find (λ kind. code_of kind == code) all_kinds
+kind_of_code code = find (λ kind. (shape_of kind).code == code) all_kinds
 
--- the answer when a number is read as a kind
+-- the answer when a code is read as a kind
 abbrev pub IsKindOf : ℕ → Result DatagramKind WireError → Type 0
 IsKindOf code answer = MatchResult answer (λ kind. kind_of_code code ≡ Some kind) (λ error. (kind_of_code code ≡ None) × (error ≡ errors.Kind))
 
--- the length in bytes of the body before its run or rows; of the whole body if the kind has neither
-abbrev pub fixed_size : DatagramKind → ℕ
-fixed_size kinds.Hello = 0
-fixed_size kinds.Welcome = 4
-fixed_size kinds.Data = 22
-fixed_size kinds.Freeze = 6
-fixed_size kinds.Frozen = 12
-fixed_size kinds.Cut = 12
-fixed_size kinds.Show = 6
-fixed_size kinds.Seen = 4
+-- whether a body ends with a run, and whether with a run or with rows
+abbrev pub is_run : Tail → Bool
+is_run tails.Nothing = false
+is_run tails.Run = true
+is_run tails.Rows = false
 
--- whether the body ends with a run: its start, its count, its inputs
-abbrev pub has_run : DatagramKind → Bool
-has_run kinds.Hello = false
-has_run kinds.Welcome = false
-has_run kinds.Data = true
-has_run kinds.Freeze = false
-has_run kinds.Frozen = true
-has_run kinds.Cut = true
-has_run kinds.Show = false
-has_run kinds.Seen = false
+abbrev pub has_tail : Tail → Bool
+has_tail tails.Nothing = false
+has_tail tails.Run = true
+has_tail tails.Rows = true
 
--- whether it ends with rows: their start, their count, the rows
-abbrev pub has_rows : DatagramKind → Bool
-has_rows kinds.Hello = false
-has_rows kinds.Welcome = false
-has_rows kinds.Data = false
-has_rows kinds.Freeze = false
-has_rows kinds.Frozen = false
-has_rows kinds.Cut = false
-has_rows kinds.Show = true
-has_rows kinds.Seen = false
-
--- whether the body begins with a dropped player and a byte 0
-abbrev pub names_leaver : DatagramKind → Bool
-names_leaver kinds.Hello = false
-names_leaver kinds.Welcome = false
-names_leaver kinds.Data = false
-names_leaver kinds.Freeze = true
-names_leaver kinds.Frozen = true
-names_leaver kinds.Cut = true
-names_leaver kinds.Show = false
-names_leaver kinds.Seen = false
+-- the fixed bytes have room for the numbers that stand in them
+pub record IsSized (shape : ShapeValue) : Type 0 where
+  pub greatest : shape.fixed ≤ 22
+  pub run : OnTrue (is_run shape.tail) (12 ≤ shape.fixed)
+  pub tail : OnTrue (has_tail shape.tail) (6 ≤ shape.fixed)
+  pub leaver : OnTrue shape.names_leaver (6 ≤ shape.fixed)
 
 -- the place of the first input of a kind's run, or of its first row
 abbrev pub run_place : DatagramKind → ℕ
-run_place kind = header_length + fixed_size kind
+run_place kind = header_length + (shape_of kind).fixed

@@ -9,30 +9,32 @@ use Rattle.c8_wire.specs.declared.error.WireError.TheVariants as errors
 use Rattle.c8_wire.specs.declared.kinds.DatagramKind.{DatagramKind}
 use Rattle.c8_wire.specs.declared.kinds.DatagramKind.TheVariants as kinds
 use Rattle.c8_wire.specs.Sizes.{header_length, longest_run, most_pairs, most_rows, row_length}
-use Rattle.c8_wire.specs.Kinds.{fixed_size, has_run, has_rows, names_leaver, run_place}
+use Rattle.c8_wire.specs.declared.kinds.Tail.{Tail}
+use Rattle.c8_wire.specs.declared.kinds.Tail.TheVariants as tails
+use Rattle.c8_wire.specs.Kinds.{shape_of, is_run, has_tail, run_place}
 use Rattle.c8_wire.specs.Seats.{is_within, are_seats}
 use Rattle.c8_wire.specs.Reading.{number_at, version_at, kind_at, size_at}
 
 -- the length of the body differs from what the header says or from what the kind needs
 abbrev pub is_misfit : DatagramKind → List ℕ → Bool
 is_misfit kind bytes = not (length bytes == header_length + size_at bytes)
-    || (if has_run kind || has_rows kind then nat_lt (size_at bytes) (fixed_size kind) else not (size_at bytes == fixed_size kind))
+    || (if has_tail (shape_of kind).tail then nat_lt (size_at bytes) (shape_of kind).fixed else not (size_at bytes == (shape_of kind).fixed))
 
 -- Sender and addressee cannot exchange such a datagram, or the leaver is not 2 to 4.
 abbrev pub misnames_players : DatagramKind → List ℕ → Bool
-misnames_players kind bytes = (names_leaver kind && not (is_within 2 4 (slice_index bytes 24)))
+misnames_players kind bytes = ((shape_of kind).names_leaver && not (is_within 2 4 (slice_index bytes 24)))
     || not (are_seats kind (slice_index bytes 12) (slice_index bytes 13))
 
 -- the byte after the leaver is not 0
 abbrev pub fills_reserved : DatagramKind → List ℕ → Bool
-fills_reserved kind bytes = names_leaver kind && not (slice_index bytes 25 == 0)
+fills_reserved kind bytes = (shape_of kind).names_leaver && not (slice_index bytes 25 == 0)
 
 -- the start and the count of a run, or of rows, are the last six bytes of the fixed part
 abbrev pub start_at : DatagramKind → List ℕ → ℕ
-start_at kind bytes = number_at (18 + fixed_size kind) 4 bytes
+start_at kind bytes = number_at (18 + (shape_of kind).fixed) 4 bytes
 
 abbrev pub count_at : DatagramKind → List ℕ → ℕ
-count_at kind bytes = number_at (22 + fixed_size kind) 2 bytes
+count_at kind bytes = number_at (22 + (shape_of kind).fixed) 2 bytes
 
 abbrev pub run_end : DatagramKind → List ℕ → ℕ
 run_end kind bytes = start_at kind bytes + count_at kind bytes
@@ -46,15 +48,20 @@ has_wrong_size versions.Two count size = not (size % 3 == 0) || nat_lt (3 * most
 -- the run is too long, or has a wrong number of bytes; it ends the body
 abbrev pub miscounts_run : DatagramKind → List ℕ → Bool
 miscounts_run kind bytes =
-    nat_lt longest_run (count_at kind bytes) || has_wrong_size (version_at bytes) (count_at kind bytes) (size_at bytes - fixed_size kind)
+    nat_lt longest_run (count_at kind bytes) || has_wrong_size (version_at bytes) (count_at kind bytes) (size_at bytes - (shape_of kind).fixed)
 
 -- there are too many rows, or not eight bytes for each
 abbrev pub miscounts_rows : DatagramKind → List ℕ → Bool
 miscounts_rows kind bytes =
-    nat_lt most_rows (count_at kind bytes) || not (size_at bytes == fixed_size kind + row_length * count_at kind bytes)
+    nat_lt most_rows (count_at kind bytes) || not (size_at bytes == (shape_of kind).fixed + row_length * count_at kind bytes)
+
+abbrev pub miscounts_tail : Tail → DatagramKind → List ℕ → Bool
+miscounts_tail tails.Nothing kind bytes = false
+miscounts_tail tails.Run kind bytes = miscounts_run kind bytes
+miscounts_tail tails.Rows kind bytes = miscounts_rows kind bytes
 
 abbrev pub miscounts : DatagramKind → List ℕ → Bool
-miscounts kind bytes = if has_rows kind then miscounts_rows kind bytes else (has_run kind && miscounts_run kind bytes)
+miscounts kind bytes = miscounts_tail (shape_of kind).tail kind bytes
 
 -- in version 2: a pair has no inputs, two neighbours have the same key set, or the total is not the
 -- count
@@ -63,7 +70,7 @@ are_no_run versions.One count bytes = false
 are_no_run versions.Two count bytes = not (are_run (pairs_at bytes) count)
 
 abbrev pub mispairs : DatagramKind → List ℕ → Bool
-mispairs kind bytes = has_run kind && are_no_run (version_at bytes) (count_at kind bytes) (drop (run_place kind) bytes)
+mispairs kind bytes = is_run (shape_of kind).tail && are_no_run (version_at bytes) (count_at kind bytes) (drop (run_place kind) bytes)
 
 -- A number of inputs is above the most that a list can have, or one of rows above the most that a game
 -- can have, or a run or rows end too late.

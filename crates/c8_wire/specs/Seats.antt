@@ -1,7 +1,9 @@
 -- The seats of senders and addressees: players 1 to 4, watchers 5 and 6.
 use Rattle.std.specs.Prelude.{ℕ, ◌==◌, ◌&&◌, Bool, not, nat_le}
 use Rattle.c8_wire.specs.declared.kinds.DatagramKind.{DatagramKind}
-use Rattle.c8_wire.specs.declared.kinds.DatagramKind.TheVariants as kinds
+use Rattle.c8_wire.specs.declared.kinds.Parties.{Parties}
+use Rattle.c8_wire.specs.declared.kinds.Parties.TheVariants as parties
+use Rattle.c8_wire.specs.Kinds.{shape_of}
 
 abbrev pub is_within : ℕ → ℕ → ℕ → Bool
 is_within least greatest number = nat_le least number && nat_le number greatest
@@ -15,14 +17,12 @@ is_watcher seat = is_within 5 6 seat
 abbrev pub are_two_players : ℕ → ℕ → Bool
 are_two_players from to = (is_player from && is_player to) && not (from == to)
 
--- Who may send a kind to whom: a player to another player. Exceptions: player one sends SHOW to a
--- watcher, and a watcher sends SEEN to player one.
+-- a player to another player, player one to a watcher, or a watcher to player one
+abbrev pub are_parties : Parties → ℕ → ℕ → Bool
+are_parties parties.Players from to = are_two_players from to
+are_parties parties.ToWatcher from to = from == 1 && is_watcher to
+are_parties parties.FromWatcher from to = is_watcher from && to == 1
+
+-- who may send a kind to whom
 abbrev pub are_seats : DatagramKind → ℕ → ℕ → Bool
-are_seats kinds.Hello from to = are_two_players from to
-are_seats kinds.Welcome from to = are_two_players from to
-are_seats kinds.Data from to = are_two_players from to
-are_seats kinds.Freeze from to = are_two_players from to
-are_seats kinds.Frozen from to = are_two_players from to
-are_seats kinds.Cut from to = are_two_players from to
-are_seats kinds.Show from to = from == 1 && is_watcher to
-are_seats kinds.Seen from to = is_watcher from && to == 1
+are_seats kind from to = are_parties (shape_of kind).parties from to

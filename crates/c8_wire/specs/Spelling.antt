@@ -8,13 +8,13 @@ use Rattle.c8_game.specs.declared.wire.WireVersion.{WireVersion}
 use Rattle.c8_game.specs.declared.wire.WireVersion.TheVariants as versions
 use Rattle.c8_game.specs.Wire.{version_number}
 use Rattle.c8_pairs.specs.Pairs as pairs
-use Rattle.c8_wire.specs.Kinds.{code_of}
+use Rattle.c8_wire.specs.Kinds.{shape_of}
 use Rattle.c8_wire.specs.Packet.{HeadValue, LeaverMessage, ShowMessage, Message, Hello, Welcome, Data, Freeze, Frozen, Cut, Show, Seen, Packet, IsPacket}
 
 -- The header of a datagram whose body has `size` bytes. Byte 2 is the number of the version.
 abbrev pub header_bytes : HeadValue → ℕ → List ℕ
 header_bytes head size =
-    0x43 ∷ 0x38 ∷ version_number head.version ∷ code_of head.kind ∷ [] ++ big_bytes 8 head.session ++ head.from ∷ head.to ∷ []
+    0x43 ∷ 0x38 ∷ version_number head.version ∷ (shape_of head.kind).code ∷ [] ++ big_bytes 8 head.session ++ head.from ∷ head.to ∷ []
     ++ big_bytes 2 size ++ big_bytes 4 head.sender_epoch ++ big_bytes 4 head.addressee_epoch
 
 -- key sets, two bytes each

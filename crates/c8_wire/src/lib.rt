@@ -39,7 +39,7 @@ pub use datagram::Datagram;
 pub use error::WireError;
 pub use handshake::{Hello, Welcome};
 pub use header::{Head, Header, Seat};
-pub use kinds::DatagramKind;
+pub use kinds::{DatagramKind, KeyOf, Parties, Shape, Tail, Wanted};
 pub use leaving::{Cut, Freeze, Frozen};
 pub use numbers::{u16_at, u32_at, u64_at};
 pub use reading::view;

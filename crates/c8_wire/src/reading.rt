@@ -1,12 +1,11 @@
 //! Reads a datagram from bytes, or refuses it.
 ghost use Rattle.std.specs.Prelude.{◌≡◌, ◌+◌, ◌<◌, ◌≤◌, not, false, length, Option, Some, None, Ok, Err, MatchResult, IfOk, IfErr, OnOk, IsOkAnd};
-ghost use Rattle.c8_wire.specs.Kinds.{fixed_size};
+ghost use Rattle.c8_wire.specs.Kinds.{shape_of};
 ghost use Rattle.std.specs.Bool.{OnFalse};
 ghost use Rattle.c8_wire.specs.Packet.{Packet};
 ghost use Rattle.c8_wire.specs.Spelling.{Spells};
 ghost use Rattle.c8_wire.specs.Reading.{kind_at, size_at, packet_at};
 ghost use Rattle.c8_wire.specs.Refusal.{first_of, body_refusals, refusal, is_misfit, misnames_players, fills_reserved, miscounts, miscounts_run, miscounts_rows, has_wrong_size, mispairs, goes_beyond, run_end};
-ghost use Rattle.c8_wire.specs.Seats.{is_player, is_watcher, are_seats};
 ghost use Rattle.c8_wire.specs.checked.Read.{read};
 ghost use Rattle.c8_wire.specs.Lent.{bytes_of, packet_of};
 
@@ -14,7 +13,7 @@ use crate::data::Data;
 use crate::datagram::Datagram;
 use crate::error::WireError;
 use crate::handshake::{Hello, Welcome};
-use crate::kinds::DatagramKind;
+use crate::kinds::{DatagramKind, Tail};
 use crate::layout::{
     ACK_AT, COUNT_PAST_FIXED, FROM_AT, INPUTS_AT, KIND_AT, LEAVER_AT, MAGIC, MAGIC_AT,
     MARK_FRAME_AT, RESERVED, RESERVED_AT, ROW_LENGTH, SEEN_ACK_AT, SIZE_AT, START_PAST_FIXED,
@@ -108,10 +107,7 @@ fn named_kind(bytes: &[u8]) -> Result<DatagramKind, WireError>
     if version != WireVersion::One.number() && version != WireVersion::Two.number() {
         return Err(WireError::Version);
     }
-    match DatagramKind::from_code(bytes[KIND_AT]) {
-        Some(kind) => Ok(kind),
-        None => Err(WireError::Kind),
-    }
+    DatagramKind::try_from(bytes[KIND_AT])
 }
 
 /// Returns the first of the other six refusals that applies to a datagram of this kind.
@@ -145,95 +141,66 @@ fn body_refusal(kind: DatagramKind, bytes: &[u8]) -> Option<WireError>
 fn is_misfit(kind: DatagramKind, bytes: &[u8]) -> bool
     requires { HEADER_LENGTH ≤ length bytes.now }
     ensures value { result ≡ is_misfit kind bytes.now }
-    ensures long { OnFalse result (HEADER_LENGTH + fixed_size kind ≤ length bytes.now) }
-    ensures size { OnFalse result (fixed_size kind ≤ size_at bytes.now) }
+    ensures long { OnFalse result (HEADER_LENGTH + (shape_of kind).fixed ≤ length bytes.now) }
+    ensures size { OnFalse result ((shape_of kind).fixed ≤ size_at bytes.now) }
 {
     let size = usize::from(u16_at(bytes, SIZE_AT));
-    let fixed = kind.fixed_size();
+    let shape = kind.shape();
     let mut is_misfit = bytes.len() - HEADER_LENGTH != size;
-    is_misfit |= size < fixed || (!kind.has_run() && !kind.has_rows() && size > fixed);
+    is_misfit |= size < shape.fixed || (shape.tail == Tail::Nothing && size > shape.fixed);
     is_misfit
 }
 
 /// Returns whether sender and addressee cannot exchange such a datagram, or the leaver is not 2 to 4.
 fn misnames_players(kind: DatagramKind, bytes: &[u8]) -> bool
-    requires { HEADER_LENGTH + fixed_size kind ≤ length bytes.now }
+    requires { HEADER_LENGTH + (shape_of kind).fixed ≤ length bytes.now }
     ensures { result ≡ misnames_players kind bytes.now }
 {
-    let from = bytes[FROM_AT];
-    let to = bytes[TO_AT];
-    let names_none = kind.names_leaver() && (bytes[LEAVER_AT] < 2 || 4 < bytes[LEAVER_AT]);
-    names_none || !are_seats(kind, from, to)
-}
-
-/// Returns whether seat `from` may send a datagram of this kind to seat `to`.
-fn are_seats(kind: DatagramKind, from: u8, to: u8) -> bool
-    ensures { result ≡ are_seats kind from to }
-{
-    match kind {
-        DatagramKind::Show => from == 1 && is_watcher(to),
-        DatagramKind::Seen => is_watcher(from) && to == 1,
-        DatagramKind::Hello
-        | DatagramKind::Welcome
-        | DatagramKind::Data
-        | DatagramKind::Freeze
-        | DatagramKind::Frozen
-        | DatagramKind::Cut => is_player(from) && is_player(to) && from != to,
-    }
-}
-
-fn is_player(seat: u8) -> bool
-    ensures { result ≡ is_player seat }
-{
-    1 <= seat && seat <= 4
-}
-
-fn is_watcher(seat: u8) -> bool
-    ensures { result ≡ is_watcher seat }
-{
-    5 <= seat && seat <= 6
+    let shape = kind.shape();
+    let names_none = shape.names_leaver && (bytes[LEAVER_AT] < 2 || 4 < bytes[LEAVER_AT]);
+    names_none || !shape.parties.are_seats(bytes[FROM_AT], bytes[TO_AT])
 }
 
 /// Returns whether the byte after the leaver is not 0.
 fn fills_reserved(kind: DatagramKind, bytes: &[u8]) -> bool
-    requires { HEADER_LENGTH + fixed_size kind ≤ length bytes.now }
+    requires { HEADER_LENGTH + (shape_of kind).fixed ≤ length bytes.now }
     ensures { result ≡ fills_reserved kind bytes.now }
 {
-    kind.names_leaver() && bytes[RESERVED_AT] != RESERVED
+    kind.shape().names_leaver && bytes[RESERVED_AT] != RESERVED
 }
 
 /// Returns whether there are too many inputs or rows, or a wrong number of bytes for them.
 fn miscounts(kind: DatagramKind, bytes: &[u8]) -> bool
-    requires long { HEADER_LENGTH + fixed_size kind ≤ length bytes.now }
-    requires size { fixed_size kind ≤ size_at bytes.now }
+    requires long { HEADER_LENGTH + (shape_of kind).fixed ≤ length bytes.now }
+    requires size { (shape_of kind).fixed ≤ size_at bytes.now }
     ensures { result ≡ miscounts kind bytes.now }
 {
-    if kind.has_rows() {
-        miscounts_rows(kind, bytes)
-    } else {
-        kind.has_run() && miscounts_run(kind, bytes)
+    match kind.shape().tail {
+        Tail::Nothing => false,
+        Tail::Run => miscounts_run(kind, bytes),
+        Tail::Rows => miscounts_rows(kind, bytes),
     }
 }
 
 /// Returns whether the run has more than 64 inputs, or a wrong number of bytes.
 fn miscounts_run(kind: DatagramKind, bytes: &[u8]) -> bool
-    requires long { HEADER_LENGTH + fixed_size kind ≤ length bytes.now }
-    requires size { fixed_size kind ≤ size_at bytes.now }
+    requires long { HEADER_LENGTH + (shape_of kind).fixed ≤ length bytes.now }
+    requires size { (shape_of kind).fixed ≤ size_at bytes.now }
     ensures { result ≡ miscounts_run kind bytes.now }
 {
-    let size = usize::from(u16_at(bytes, SIZE_AT)) - kind.fixed_size();
-    let count = usize::from(u16_at(bytes, COUNT_PAST_FIXED + kind.fixed_size()));
+    let size = usize::from(u16_at(bytes, SIZE_AT)) - kind.shape().fixed;
+    let count = usize::from(u16_at(bytes, COUNT_PAST_FIXED + kind.shape().fixed));
     count > LONGEST_RUN || has_wrong_size(version_in(bytes), count, size)
 }
 
 /// Returns whether there are more than 16 rows, or not eight bytes for each.
 fn miscounts_rows(kind: DatagramKind, bytes: &[u8]) -> bool
-    requires { HEADER_LENGTH + fixed_size kind ≤ length bytes.now }
+    requires { HEADER_LENGTH + (shape_of kind).fixed ≤ length bytes.now }
     ensures { result ≡ miscounts_rows kind bytes.now }
 {
     let size = usize::from(u16_at(bytes, SIZE_AT));
-    let count = usize::from(u16_at(bytes, COUNT_PAST_FIXED + kind.fixed_size()));
-    count > MOST_ROWS || size != kind.fixed_size() + ROW_LENGTH * count
+    let count = usize::from(u16_at(bytes, COUNT_PAST_FIXED + kind.shape().fixed));
+    count > MOST_ROWS || size != kind.shape().fixed + ROW_LENGTH * count
 }
 
 /// Returns whether a run of `count` inputs cannot have `size` bytes in this version.
@@ -250,20 +217,22 @@ fn has_wrong_size(version: WireVersion, count: usize, size: usize) -> bool
 /// Returns whether, in version 2, the end of the body is not the pairs of a run. There are at most 42
 /// pairs here: `miscounts` has refused more.
 fn mispairs(kind: DatagramKind, bytes: &[u8]) -> bool
-    requires long { HEADER_LENGTH + fixed_size kind ≤ length bytes.now }
+    requires long { HEADER_LENGTH + (shape_of kind).fixed ≤ length bytes.now }
     requires fits { is_misfit kind bytes.now ≡ false }
     requires counted { miscounts kind bytes.now ≡ false }
     ensures { result ≡ mispairs kind bytes.now }
 {
-    let count = usize::from(u16_at(bytes, COUNT_PAST_FIXED + kind.fixed_size()));
-    let (_, run) = bytes.split_at(HEADER_LENGTH + kind.fixed_size());
-    kind.has_run() && version_in(bytes) == WireVersion::Two && Pairs::read(run, count).is_none()
+    let count = usize::from(u16_at(bytes, COUNT_PAST_FIXED + kind.shape().fixed));
+    let (_, run) = bytes.split_at(HEADER_LENGTH + kind.shape().fixed);
+    kind.shape().tail == Tail::Run
+        && version_in(bytes) == WireVersion::Two
+        && Pairs::read(run, count).is_none()
 }
 
 /// Returns whether a number of inputs or rows is above what a game can have, or a run or rows end too
 /// late.
 fn goes_beyond(kind: DatagramKind, bytes: &[u8]) -> bool
-    requires { HEADER_LENGTH + fixed_size kind ≤ length bytes.now }
+    requires { HEADER_LENGTH + (shape_of kind).fixed ≤ length bytes.now }
     ensures { result ≡ goes_beyond kind bytes.now }
 {
     match kind {
@@ -289,9 +258,9 @@ fn goes_beyond(kind: DatagramKind, bytes: &[u8]) -> bool
 
 /// Returns the place after the last input of the run, or after the last row.
 fn run_end(kind: DatagramKind, bytes: &[u8]) -> u64
-    requires { HEADER_LENGTH + fixed_size kind ≤ length bytes.now }
+    requires { HEADER_LENGTH + (shape_of kind).fixed ≤ length bytes.now }
     ensures { result ≡ run_end kind bytes.now }
 {
-    let start = u32_at(bytes, START_PAST_FIXED + kind.fixed_size());
-    u64::from(start) + u64::from(u16_at(bytes, COUNT_PAST_FIXED + kind.fixed_size()))
+    let start = u32_at(bytes, START_PAST_FIXED + kind.shape().fixed);
+    u64::from(start) + u64::from(u16_at(bytes, COUNT_PAST_FIXED + kind.shape().fixed))
 }

@@ -45,7 +45,7 @@ fn put_header(head: &Head, size: usize, out: &mut ArrayVec<u8, LONGEST_DATAGRAM>
 {
     let [first, second] = MAGIC;
     put(
-        &[first, second, head.version.number(), head.kind.code()],
+        &[first, second, head.version.number(), head.kind.shape().code],
         out,
     );
     put(&head.session.to_be_bytes(), out);

@@ -46,8 +46,8 @@ words_of_other q (Got player start words) other = rw (ne_eqb player q other) ref
 words_of_other q (Freeze player) other = refl
 words_of_other q (Leave player) other = refl
 words_of_other q (Cut player K start words) other = rw (ne_eqb player q other) refl
-words_of_other q (State player frames piece words) other = refl
-words_of_other q (Check player frames words) other = refl
+words_of_other q (State player frames piece bytes) other = refl
+words_of_other q (Check player frames digest) other = refl
 
 cuts_of_other : (q : ℕ) (r : Record) → player_of r ≢ q → cuts_of q r ≡ []
 cuts_of_other q (Head player form id room) other = refl
@@ -57,8 +57,8 @@ cuts_of_other q (Got player start words) other = refl
 cuts_of_other q (Freeze player) other = refl
 cuts_of_other q (Leave player) other = refl
 cuts_of_other q (Cut player K start words) other = rw (ne_eqb player q other) refl
-cuts_of_other q (State player frames piece words) other = refl
-cuts_of_other q (Check player frames words) other = refl
+cuts_of_other q (State player frames piece bytes) other = refl
+cuts_of_other q (Check player frames digest) other = refl
 
 -- a cut is of the player whom the record names
 cut_is_of : (q K : ℕ) (r : Record) → slice_get (cuts_of q r) 0 ≡ Some K → q ≡ player_of r
@@ -136,15 +136,15 @@ pub fits_leave : (rules : Rules) (room : ℕ) (J : ℕ → List Record) (p L : �
 fits_leave rules room J p L sound plays may =
     fits_by rules room J p (Leave L) sound plays may (quiet rules room J p L sound plays (names_player rules room p (J p) (Leave L) may.allowed))
 
-pub fits_state : (rules : Rules) (room : ℕ) (J : ℕ → List Record) (p player frames piece : ℕ) (words : List ℕ) → AreSound rules room J → IsPlayer rules p
-    → MayAdd rules room J p (State player frames piece words) → Fits rules room J p (State player frames piece words)
-fits_state rules room J p player frames piece words sound plays may =
-    fits_by rules room J p (State player frames piece words) sound plays may (quiet rules room J p player sound plays (names_player rules room p (J p) (State player frames piece words) may.allowed))
+pub fits_state : (rules : Rules) (room : ℕ) (J : ℕ → List Record) (p player frames piece : ℕ) (bytes : List ℕ) → AreSound rules room J → IsPlayer rules p
+    → MayAdd rules room J p (State player frames piece bytes) → Fits rules room J p (State player frames piece bytes)
+fits_state rules room J p player frames piece bytes sound plays may =
+    fits_by rules room J p (State player frames piece bytes) sound plays may (quiet rules room J p player sound plays (names_player rules room p (J p) (State player frames piece bytes) may.allowed))
 
-pub fits_check : (rules : Rules) (room : ℕ) (J : ℕ → List Record) (p player frames : ℕ) (words : List ℕ) → AreSound rules room J → IsPlayer rules p
-    → MayAdd rules room J p (Check player frames words) → Fits rules room J p (Check player frames words)
-fits_check rules room J p player frames words sound plays may =
-    fits_by rules room J p (Check player frames words) sound plays may (quiet rules room J p player sound plays (names_player rules room p (J p) (Check player frames words) may.allowed))
+pub fits_check : (rules : Rules) (room : ℕ) (J : ℕ → List Record) (p player frames : ℕ) (digest : List ℕ) → AreSound rules room J → IsPlayer rules p
+    → MayAdd rules room J p (Check player frames digest) → Fits rules room J p (Check player frames digest)
+fits_check rules room J p player frames digest sound plays may =
+    fits_by rules room J p (Check player frames digest) sound plays may (quiet rules room J p player sound plays (names_player rules room p (J p) (Check player frames digest) may.allowed))
 
 -- no player freezes itself, and player 1 freezes nobody
 pub own_unfrozen : (rules : Rules) (room : ℕ) (J : ℕ → List Record) (p : ℕ) → AreSound rules room J → IsPlayer rules p → has_freeze p (J p) ≡ false

@@ -15,15 +15,11 @@ use Rattle.c8_digest.specs.StateBytes.{columns, places, waits_byte, stop_byte, r
 use Rattle.c8_digest.specs.Reading.{state_in}
 use Rattle.c8_digest.specs.Marks.{AreMarksAfter, IsMarkAt, forgotten_after, marks_bytes, marks_in, are_marks}
 use Rattle.c8_digest.specs.Origin.{Origin, IsOrigin}
-use Rattle.c8_digest.specs.checked.DigestLaws.{digest_length, digest_bytes_fit}
+use Rattle.c8_digest.specs.checked.DigestLaws.{digest_length}
 use Rattle.c8_digest.proofs.LengthLemmas.{state_long}
 use Rattle.c8_digest.proofs.ReadLemmas.{state_again}
 use Rattle.c8_digest.proofs.MarkBytesLemmas.{read_again, zeros_again}
 use Rattle.c8_wire.specs.Packet.{AreBytes}
-use Rattle.c8_wire.specs.Spelling.{words_bytes}
-use Rattle.c8_wire.specs.Reading.{words_of}
-use Rattle.c8_wire.specs.checked.NumberLaws.{AreBytes-take, AreBytes-drop}
-use Rattle.c8_wire.specs.checked.WordLaws.{spelled_words, length_words_of}
 use Rattle.c8_check.specs.Checks.{save_bytes, save_length, all_pieces, before_piece, piece_length, piece_in, digest_of, Pieces, ChecksValue, origin_in, ends_well, has_shape, MayCheck}
 
 -- ---- where the pieces are
@@ -299,25 +295,14 @@ whole_may_check c from p is under_way same all so_far = record {
   spelled = sym (ap (take 4419) (whole_bytes from p is all so_far) ∙ (saved from is).machine);
 }
 
--- ---- as words
+-- ---- in a record
 
--- a piece and a digest are a whole number of words
-pub piece_words : (from : Origin) (piece : ℕ) → IsOrigin from → piece < all_pieces → words_bytes (words_of (piece_in piece (save_bytes from))) ≡ piece_in piece (save_bytes from)
-piece_words from piece is within =
-    let bytes : List ℕ = save_bytes from in
-    spelled_words (piece_in piece bytes) (ap (λ (n : ℕ). n % 2) (piece_long from piece is within) ∙ (sized piece).even)
-    (AreBytes-take (piece_length piece) (drop (before_piece piece) bytes) (AreBytes-drop (before_piece piece) bytes (saved_low from is)))
+-- a piece has an even number of bytes, at most 128
+pub saved_even : (from : Origin) (piece : ℕ) → IsOrigin from → piece < all_pieces → length (piece_in piece (save_bytes from)) % 2 ≡ 0
+saved_even from piece is within = ap (λ (n : ℕ). n % 2) (piece_long from piece is within) ∙ (sized piece).even
 
-pub piece_words_few : (from : Origin) (piece : ℕ) → IsOrigin from → piece < all_pieces → length (words_bytes (words_of (piece_in piece (save_bytes from)))) ≤ 128
-piece_words_few from piece is within = omega (arith, ap length (piece_words from piece is within), piece_long from piece is within, (sized piece).few)
+pub saved_few : (from : Origin) (piece : ℕ) → IsOrigin from → piece < all_pieces → length (piece_in piece (save_bytes from)) ≤ 128
+saved_few from piece is within = omega (arith, piece_long from piece is within, (sized piece).few)
 
-digest_long : (bytes : List ℕ) → length (digest_of bytes) ≡ 8
+pub digest_long : (bytes : List ℕ) → length (digest_of bytes) ≡ 8
 digest_long bytes = let whole : List ℕ = take 4419 bytes ++ drop 4420 bytes in length-take-le 8 (sha256 whole) (omega (arith, digest_length whole))
-
-pub digest_words : (bytes : List ℕ) → words_bytes (words_of (digest_of bytes)) ≡ digest_of bytes
-digest_words bytes =
-    let whole : List ℕ = take 4419 bytes ++ drop 4420 bytes in
-    spelled_words (digest_of bytes) (ap (λ (n : ℕ). n % 2) (digest_long bytes)) (AreBytes-take 8 (sha256 whole) (digest_bytes_fit whole))
-
-pub digest_words_four : (bytes : List ℕ) → length (words_of (digest_of bytes)) ≡ 4
-digest_words_four bytes = omega (arith, length_words_of (digest_of bytes), digest_long bytes)

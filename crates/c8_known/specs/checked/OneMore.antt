@@ -54,8 +54,8 @@ after_none p q r words freeze leave cuts =
 after_other : (p : PlayerValue) (q : ℕ) (r : Record) → player_of r ≢ q → after p q r ≡ p
 after_other p q (Head player form id room) other = after_none p q (Head player form id room) refl refl refl refl
 after_other p q (Epoch player number form) other = after_none p q (Epoch player number form) refl refl refl refl
-after_other p q (State player frames piece words) other = after_none p q (State player frames piece words) refl refl refl refl
-after_other p q (Check player frames words) other = after_none p q (Check player frames words) refl refl refl refl
+after_other p q (State player frames piece bytes) other = after_none p q (State player frames piece bytes) refl refl refl refl
+after_other p q (Check player frames digest) other = after_none p q (Check player frames digest) refl refl refl refl
 after_other p q (Own player start word) other = after_none p q (Own player start word) (rw (ne_eqb player q other) refl) refl refl refl
 after_other p q (Got player start words) other = after_none p q (Got player start words) (rw (ne_eqb player q other) refl) refl refl refl
 after_other p q (Freeze player) other = after_none p q (Freeze player) refl (ne_eqb player q other) refl refl
@@ -155,10 +155,10 @@ one_more rules me journal (Head player form id room) named =
     let r : Record = Head player form id room in same_known (known_of rules me journal) (no_tick journal r refl) (table_same rules journal r (λ p q. after_none p q r refl refl refl refl))
 one_more rules me journal (Epoch player number form) named =
     let r : Record = Epoch player number form in same_known (known_of rules me journal) (no_tick journal r refl) (table_same rules journal r (λ p q. after_none p q r refl refl refl refl))
-one_more rules me journal (State player frames piece words) named =
-    let r : Record = State player frames piece words in same_known (known_of rules me journal) (no_tick journal r refl) (table_same rules journal r (λ p q. after_none p q r refl refl refl refl))
-one_more rules me journal (Check player frames words) named =
-    let r : Record = Check player frames words in same_known (known_of rules me journal) (no_tick journal r refl) (table_same rules journal r (λ p q. after_none p q r refl refl refl refl))
+one_more rules me journal (State player frames piece bytes) named =
+    let r : Record = State player frames piece bytes in same_known (known_of rules me journal) (no_tick journal r refl) (table_same rules journal r (λ p q. after_none p q r refl refl refl refl))
+one_more rules me journal (Check player frames digest) named =
+    let r : Record = Check player frames digest in same_known (known_of rules me journal) (no_tick journal r refl) (table_same rules journal r (λ p q. after_none p q r refl refl refl refl))
 one_more rules me journal (Own player start word) named =
     let r : Record = Own player start word in
     same_known (known_of rules me journal) (one_tick journal r refl)

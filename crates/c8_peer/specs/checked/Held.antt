@@ -7,7 +7,6 @@ use Rattle.c8_known.specs.Known.{KnownValue, known_of}
 use Rattle.c8_known.specs.Confirmed.{confirmed}
 use Rattle.c8_known.specs.Growth.{IsStillKnown}
 use Rattle.c8_digest.specs.Origin.{Origin}
-use Rattle.c8_wire.specs.Reading.{words_of}
 use Rattle.c8_check.specs.declared.checks.Checks.{Checks}
 use Rattle.c8_check.specs.Checks.{ChecksValue, all_pieces, piece_in, digest_of, checks_of, begun_at}
 use Rattle.c8_check.specs.Seen.{plan_of}
@@ -49,7 +48,7 @@ IsPlanned rules me journal c = c.count ≢ 0 → plan_of c ≡ (told_of rules me
 
 -- the next record of a checkpoint, from the kept bytes, and the answer to it
 abbrev pub next_record : ℕ → Checks → Record
-next_record me c = if c.count == all_pieces then Check me c.frames (words_of (digest_of (plan_of c))) else State me c.frames c.count (words_of (piece_in c.count (plan_of c)))
+next_record me c = if c.count == all_pieces then Check me c.frames (digest_of (plan_of c)) else State me c.frames c.count (piece_in c.count (plan_of c))
 
 abbrev pub next_said : Checks → said.Check
 next_said c = if c.count == all_pieces then Done c.frames else Piece c.count
@@ -63,8 +62,8 @@ is_entry (Got player start words) = false
 is_entry (Freeze player) = false
 is_entry (Leave player) = false
 is_entry (Cut player length start words) = false
-is_entry (State player frames piece words) = false
-is_entry (Check player frames words) = false
+is_entry (State player frames piece bytes) = false
+is_entry (Check player frames digest) = false
 
 -- the record is one of what players do: neither an opening nor a checkpoint adds it
 abbrev pub is_play : Record → Bool
@@ -75,8 +74,8 @@ is_play (Got player start words) = true
 is_play (Freeze player) = true
 is_play (Leave player) = true
 is_play (Cut player length start words) = true
-is_play (State player frames piece words) = false
-is_play (Check player frames words) = false
+is_play (State player frames piece bytes) = false
+is_play (Check player frames digest) = false
 
 -- the most frames that a record makes the peer run: a window, and one more for an input that the own player entered
 abbrev pub most_run_with : Rules → Record → ℕ

@@ -78,8 +78,8 @@ one_none c before (Got player start words) is none = none
 one_none c before (Freeze player) is none = none
 one_none c before (Leave player) is none = none
 one_none c before (Cut player length start words) is none = none
-one_none c before (State player frames piece words) is none = absurd cc
-one_none c before (Check player frames words) is none = absurd cc
+one_none c before (State player frames piece bytes) is none = absurd cc
+one_none c before (Check player frames digest) is none = absurd cc
 
 all_none : (c : ChecksValue) (before : Option Origin) (journal : List Record) → SaysNoCheck journal → IsNone c before → IsNone (fold with_check c journal) (opened_since c before journal)
 unfolding opened_since
@@ -109,8 +109,8 @@ play_says_nothing c (Got player start words) is = refl
 play_says_nothing c (Freeze player) is = refl
 play_says_nothing c (Leave player) is = refl
 play_says_nothing c (Cut player length start words) is = refl
-play_says_nothing c (State player frames piece words) is = absurd cc
-play_says_nothing c (Check player frames words) is = absurd cc
+play_says_nothing c (State player frames piece bytes) is = absurd cc
+play_says_nothing c (Check player frames digest) is = absurd cc
 
 play_begins_nothing : (c : ChecksValue) (before : Option Origin) (r : Record) → is_play r ≡ true → opened_at c before r ≡ before
 play_begins_nothing c before (Head player form id room) is = absurd cc
@@ -120,8 +120,8 @@ play_begins_nothing c before (Got player start words) is = refl
 play_begins_nothing c before (Freeze player) is = refl
 play_begins_nothing c before (Leave player) is = refl
 play_begins_nothing c before (Cut player length start words) is = refl
-play_begins_nothing c before (State player frames piece words) is = absurd cc
-play_begins_nothing c before (Check player frames words) is = absurd cc
+play_begins_nothing c before (State player frames piece bytes) is = absurd cc
+play_begins_nothing c before (Check player frames digest) is = absurd cc
 
 pub play_checks : (journal : List Record) (r : Record) → is_play r ≡ true → checks_of (journal ++ r ∷ []) ≡ checks_of journal
 play_checks journal r play = checks_more journal r ∙ play_says_nothing (checks_of journal) r play

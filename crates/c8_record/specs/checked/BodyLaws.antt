@@ -1,5 +1,5 @@
 -- Checked, not believed: the spelling of a record reads back, and so do lists of bodies and records.
-use Rattle.std.proofs.Common.{◌≡◌, ℕ, zero, suc, ◌*◌, ◌-◌, ◌/◌, ◌^◌, ◌<◌, ◌≤◌, List, [], ◌∷◌, ◌++◌, length, map, take, drop, ⊎_elim, refl, sym, ap, subst, ◌∙◌, arith}
+use Rattle.std.proofs.Common.{◌≡◌, ℕ, zero, suc, ◌*◌, ◌-◌, ◌/◌, ◌%◌, ◌^◌, ◌<◌, ◌≤◌, List, [], ◌∷◌, ◌++◌, length, map, take, drop, ⊎_elim, refl, sym, ap, subst, ◌∙◌, arith}
 use Rattle.std.specs.Prelude.{slice_index, replicate}
 use Rattle.std.specs.List.{All}
 use Rattle.std.proofs.Math.Seq.{take-append_seam, drop-append_seam}
@@ -13,8 +13,10 @@ use Rattle.c8_wire.specs.checked.WordLaws.{length-spelled_words, words_of-spelle
 use Rattle.c8_known.specs.Journal.{Record, Head, Epoch, Own, Got, Freeze, Leave, Cut, State, Check}
 use Rattle.c8_record.specs.declared.record.Record.{Record as Lent}
 use Rattle.c8_record.specs.declared.record.Record.TheVariants as lents
+use Rattle.c8_wire.specs.Lent.{words}
 use Rattle.c8_record.specs.Lent.{value_of, IsComplete}
-use Rattle.c8_record.specs.Body.{IsForm, records_of, run_room, Fields, fields_of, field_bytes, body_of, HasSpelling, Spells, run_at, record_of}
+use Rattle.c8_record.specs.Body.{IsForm, records_of, run_room, Fields, fields_of, field_bytes, body_of, HasSpelling, Spells, run_at, bytes_at, record_of}
+use Rattle.c8_record.specs.checked.CheckLaws.{words_low}
 
 -- ---- fields
 
@@ -46,6 +48,13 @@ run_is f words is short fits =
     ap (λ (n : ℕ). words_of (take n (f.run ++ zeros_of f.run))) all
     ∙ ap (λ (run : List ℕ). words_of (take (length bytes) (run ++ zeros_of f.run))) is
     ∙ ap words_of (take-append_seam bytes (zeros_of f.run)) ∙ words_of-spelled words fits
+
+-- the bytes of the run
+bytes_are : (f : Fields) → length f.run ≤ 128 → length f.run % 2 ≡ 0 → bytes_at (field_bytes f) ≡ f.run
+unfolding zeros_of
+bytes_are f short even =
+    let all : 2 * number_at 10 2 (field_bytes f) ≡ length f.run = omega (arith, count_is f short, even) in
+    ap (λ (n : ℕ). take n (f.run ++ zeros_of f.run)) all ∙ take-append_seam f.run (zeros_of f.run)
 
 -- ---- records
 
@@ -94,16 +103,16 @@ read_again (Cut player cut start words) has =
     let from = start_is f has.start in
     let inputs = run_is f words refl has.short has.parts in
     λ i. Cut player (ends i) (from i) (inputs i)
-read_again (State player frames piece words) has =
-    let f : Fields = fields_of (State player frames piece words) in
+read_again (State player frames piece bytes) has =
+    let f : Fields = fields_of (State player frames piece bytes) in
     let at = number_is f has.number in
     let place = start_is f has.start in
-    let bytes = run_is f words refl has.short has.parts in
+    let bytes = bytes_are f has.short has.parts.0 in
     λ i. State player (at i) (place i) (bytes i)
-read_again (Check player frames words) has =
-    let f : Fields = fields_of (Check player frames words) in
+read_again (Check player frames digest) has =
+    let f : Fields = fields_of (Check player frames digest) in
     let at = number_is f has.number in
-    let digest = run_is f words refl has.short has.parts.1 in
+    let digest = bytes_are f has.short (omega (arith, has.parts.0)) in
     λ i. Check player (at i) (digest i)
 
 pub reads_back : (bytes : List ℕ) (r : Record) → Spells bytes r → record_of bytes ≡ r
@@ -122,8 +131,8 @@ kind_of (Got player start words) = (omega arith, omega arith)
 kind_of (Freeze player) = (omega arith, omega arith)
 kind_of (Leave player) = (omega arith, omega arith)
 kind_of (Cut player cut start words) = (omega arith, omega arith)
-kind_of (State player frames piece words) = (omega arith, omega arith)
-kind_of (Check player frames words) = (omega arith, omega arith)
+kind_of (State player frames piece bytes) = (omega arith, omega arith)
+kind_of (Check player frames digest) = (omega arith, omega arith)
 
 pub record IsShaped (bytes : List ℕ) : Type 0 where
   pub kind_from : 1 ≤ slice_index bytes 0
@@ -187,17 +196,17 @@ cut_spells bytes player cut start words is from to low first sets few = record {
   is = is;
 }
 
-pub state_spells : (bytes : List ℕ) (player frames piece : ℕ) (words : List ℕ) → bytes ≡ body_of (State player frames piece words)
-    → 1 ≤ player → player ≤ 4 → frames < 2 ^ 32 → piece < 2 ^ 32 → AreWords words → length words ≤ 64 → Spells bytes (State player frames piece words)
+pub state_spells : (bytes : List ℕ) (player frames piece : ℕ) (words : List ℕ) → bytes ≡ body_of (State player frames piece (words_bytes words))
+    → 1 ≤ player → player ≤ 4 → frames < 2 ^ 32 → piece < 2 ^ 32 → AreWords words → length words ≤ 64 → Spells bytes (State player frames piece (words_bytes words))
 state_spells bytes player frames piece words is from to low place sets few = record {
-  has = record { from_one = from; to_four = to; number = low; start = place; short = omega (arith, few, length-spelled_words words); parts = sets };
+  has = record { from_one = from; to_four = to; number = low; start = place; short = omega (arith, few, length-spelled_words words); parts = (omega (arith, length-spelled_words words), words_low words) };
   is = is;
 }
 
-pub check_spells : (bytes : List ℕ) (player frames : ℕ) (words : List ℕ) → bytes ≡ body_of (Check player frames words)
-    → 1 ≤ player → player ≤ 4 → frames < 2 ^ 32 → AreWords words → length words ≡ 4 → Spells bytes (Check player frames words)
+pub check_spells : (bytes : List ℕ) (player frames : ℕ) (words : List ℕ) → bytes ≡ body_of (Check player frames (words_bytes words))
+    → 1 ≤ player → player ≤ 4 → frames < 2 ^ 32 → AreWords words → length words ≡ 4 → Spells bytes (Check player frames (words_bytes words))
 check_spells bytes player frames words is from to low sets four = record {
-  has = record { from_one = from; to_four = to; number = low; start = omega arith; short = omega (arith, four, length-spelled_words words); parts = (four, sets) };
+  has = record { from_one = from; to_four = to; number = low; start = omega arith; short = omega (arith, four, length-spelled_words words); parts = (omega (arith, four, length-spelled_words words), words_low words) };
   is = is;
 }
 
@@ -211,7 +220,7 @@ complete (lents.Freeze player) has = tt
 complete (lents.Leave player) has = tt
 complete (lents.Cut player cut start run) has = tt
 complete (lents.State player frames piece run) has = tt
-complete (lents.Check player frames run) has = has.parts.0
+complete (lents.Check player frames run) has = let long = has.parts.0 in omega (arith, long, length-spelled_words (words run))
 
 -- if a body spells a record, that record is the value of its borrowed parts
 pub spells_lent : (bytes : List ℕ) (lent : Lent) (r : Record) → value_of lent ≡ record_of bytes → Spells bytes r → Spells bytes (value_of lent)

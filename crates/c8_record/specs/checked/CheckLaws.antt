@@ -39,7 +39,7 @@ bytes_low (x ∷ xs) ys one two (suc i) = bytes_low xs ys (λ j. one (suc j)) tw
 none_low : AreBytes []
 none_low i = omega arith
 
-words_low : (words : List ℕ) → AreBytes (words_bytes words)
+pub words_low : (words : List ℕ) → AreBytes (words_bytes words)
 words_low [] = none_low
 words_low (word ∷ words) = bytes_low (big_bytes 2 word) (words_bytes words) (word_low word) (words_low words)
 
@@ -137,11 +137,11 @@ one_in_order rules room past (Got player start words) may are rises = later past
 one_in_order rules room past (Freeze player) may are rises = later past.checks past.known _ are rises
 one_in_order rules room past (Leave player) may are rises = later past.checks past.known _ are rises
 one_in_order rules room past (Cut player cut start words) may are rises = later past.checks past.known _ are rises
-one_in_order rules room past (State player frames piece words) may are rises =
-    let one = one_piece past.checks past.known frames piece (words_bytes words) are may.may.next (words_low words) in
+one_in_order rules room past (State player frames piece bytes) may are rises =
+    let one = one_piece past.checks past.known frames piece bytes are may.may.next may.may.low in
     record { last = are.last; under_way = λ p is. subst (λ (x : Pieces). ArePieces x past.known) (some_same _ p is) one }
-one_in_order rules room past (Check player frames words) may are rises =
-    record { last = whole_in_order past.checks past.known frames (words_bytes words) are may.may.whole; under_way = λ p is. absurd cc }
+one_in_order rules room past (Check player frames digest) may are rises =
+    record { last = whole_in_order past.checks past.known frames digest are may.may.whole; under_way = λ p is. absurd cc }
 
 begun_by_one : (c : ChecksValue) (before : Option Origin) (k now : KnownValue) (r : Record) → AreInOrder c k → IsInOrder before k → confirmed k ≤ confirmed now → IsInOrder (opened_at c before r) now
 begun_by_one c before k now (Head player form id room) are is rises = later_order c.last k now are.last rises
@@ -151,8 +151,8 @@ begun_by_one c before k now (Got player start words) are is rises = later_order 
 begun_by_one c before k now (Freeze player) are is rises = later_order before k now is rises
 begun_by_one c before k now (Leave player) are is rises = later_order before k now is rises
 begun_by_one c before k now (Cut player cut start words) are is rises = later_order before k now is rises
-begun_by_one c before k now (State player frames piece words) are is rises = later_order before k now is rises
-begun_by_one c before k now (Check player frames words) are is rises = later_order before k now is rises
+begun_by_one c before k now (State player frames piece bytes) are is rises = later_order before k now is rises
+begun_by_one c before k now (Check player frames digest) are is rises = later_order before k now is rises
 
 -- ---- a journal
 

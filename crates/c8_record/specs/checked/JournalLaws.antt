@@ -95,8 +95,8 @@ epoch_more journal (Got player start words) = same_epoch journal (Got player sta
 epoch_more journal (Freeze player) = same_epoch journal (Freeze player) refl
 epoch_more journal (Leave player) = same_epoch journal (Leave player) refl
 epoch_more journal (Cut player cut start words) = same_epoch journal (Cut player cut start words) refl
-epoch_more journal (State player frames piece words) = same_epoch journal (State player frames piece words) refl
-epoch_more journal (Check player frames words) = same_epoch journal (Check player frames words) refl
+epoch_more journal (State player frames piece bytes) = same_epoch journal (State player frames piece bytes) refl
+epoch_more journal (Check player frames digest) = same_epoch journal (Check player frames digest) refl
 
 -- ---- checkpoints
 
@@ -138,8 +138,8 @@ sound_more rules room past (Freeze player) known of may = freeze_known past.know
 sound_more rules room past (Leave player) known of may = leave_known past.known player known may.plays
 sound_more rules room past (Cut player cut start words) known of may =
     cut_known past.known player cut start words known may.plays may.may.other (leaves past.known player cut start words may.may) may.may.once (omega (arith, may.may.next, may.may.ends)) may.may.within
-sound_more rules room past (State player frames piece words) known of may = known
-sound_more rules room past (Check player frames words) known of may = known
+sound_more rules room past (State player frames piece bytes) known of may = known
+sound_more rules room past (Check player frames digest) known of may = known
 
 pub still_with : (rules : Rules) (room : ℕ) (past : Past) (r : Record) → IsKnown past.known → IsAllowedAfter rules room past r → IsStillKnown past.known (with_record past.known r)
 still_with rules room past (Head player form id named) known may = still_same past.known
@@ -150,8 +150,8 @@ still_with rules room past (Got player start words) known may = got_still past.k
 still_with rules room past (Freeze player) known may = freeze_still past.known player may.plays
 still_with rules room past (Leave player) known may = leave_still past.known player may.plays
 still_with rules room past (Cut player cut start words) known may = cut_still past.known player cut start words may.plays may.may.once
-still_with rules room past (State player frames piece words) known may = still_same past.known
-still_with rules room past (Check player frames words) known may = still_same past.known
+still_with rules room past (State player frames piece bytes) known may = still_same past.known
+still_with rules room past (Check player frames digest) known may = still_same past.known
 
 -- what a journal with one more record makes known
 pub known_more : (rules : Rules) (me room : ℕ) (journal : List Record) (r : Record) → IsAllowed rules me room journal r → known_of rules me (journal ++ r ∷ []) ≡ with_record (known_of rules me journal) r

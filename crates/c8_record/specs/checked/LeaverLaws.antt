@@ -33,8 +33,8 @@ longer me q p words o = record {
 orderly_with : (rules : Rules) (room : ℕ) (past : Past) (r : Record) → IsOrderly past.known → IsAllowedAfter rules room past r → IsOrderly (with_record past.known r)
 orderly_with rules room past (Head player form id named) orderly may = orderly
 orderly_with rules room past (Epoch player number form) orderly may = orderly
-orderly_with rules room past (State player frames piece words) orderly may = orderly
-orderly_with rules room past (Check player frames words) orderly may = orderly
+orderly_with rules room past (State player frames piece bytes) orderly may = orderly
+orderly_with rules room past (Check player frames digest) orderly may = orderly
 orderly_with rules room past (Own player start word) orderly may =
     let k : KnownValue = past.known in
     orderly_changed k (k.ticks + 1) player (with_words (player_in k player) (word ∷ [])) orderly may.plays (longer k.me player (player_in k player) (word ∷ []) (orderly player may.plays.from_one))

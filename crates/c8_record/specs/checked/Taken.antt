@@ -7,7 +7,6 @@ use Rattle.c8_game.specs.Rules.{Rules, id_of}
 use Rattle.c8_known.specs.Journal.{Record, Head, Epoch, Own, Got, Freeze, Leave, Cut, State, Check, epoch}
 use Rattle.c8_known.specs.Known.{KnownValue, known_of, with_record, IsKnown}
 use Rattle.c8_check.specs.Checks.{ChecksValue, checks_of, with_check, may_take, MayCheck}
-use Rattle.c8_wire.specs.Spelling.{words_bytes}
 use Rattle.c8_record.specs.Body.{Spells, record_of, records_of}
 use Rattle.c8_record.specs.Replay.{AreJournalBodies}
 use Rattle.c8_record.specs.Allowed.{Past, IsHead, IsAllowedAfter}
@@ -28,8 +27,8 @@ epoch_after before (Got player start words) = before
 epoch_after before (Freeze player) = before
 epoch_after before (Leave player) = before
 epoch_after before (Cut player length start words) = before
-epoch_after before (State player frames piece words) = before
-epoch_after before (Check player frames words) = before
+epoch_after before (State player frames piece bytes) = before
+epoch_after before (Check player frames digest) = before
 
 -- the record is a HEAD with this property
 abbrev pub IsHeadWith : (ℕ → List ℕ → ℕ → Type 0) → Record → Type 0
@@ -40,8 +39,8 @@ IsHeadWith P (Got player start words) = ⊥
 IsHeadWith P (Freeze player) = ⊥
 IsHeadWith P (Leave player) = ⊥
 IsHeadWith P (Cut player length start words) = ⊥
-IsHeadWith P (State player frames piece words) = ⊥
-IsHeadWith P (Check player frames words) = ⊥
+IsHeadWith P (State player frames piece bytes) = ⊥
+IsHeadWith P (Check player frames digest) = ⊥
 
 abbrev pub IsOfOtherGame : Rules → ℕ → Record → Type 0
 IsOfOtherGame rules room r = IsHeadWith (λ player id named. (id ≢ id_of rules) ⊎ (named ≢ room)) r
@@ -73,8 +72,8 @@ MaySay checks (Got player start words) = Unit {0}
 MaySay checks (Freeze player) = Unit {0}
 MaySay checks (Leave player) = Unit {0}
 MaySay checks (Cut player length start words) = Unit {0}
-MaySay checks (State player frames piece words) = (sure : ℕ) × (may_take checks sure frames piece (words_bytes words) ≡ true)
-MaySay checks (Check player frames words) = MayCheck checks frames (words_bytes words)
+MaySay checks (State player frames piece bytes) = (sure : ℕ) × (may_take checks sure frames piece bytes ≡ true)
+MaySay checks (Check player frames digest) = MayCheck checks frames digest
 
 -- the result of a body that is taken
 pub record IsTaken (rules : Rules) (room : ℕ) (past : Past) (body : List ℕ) (new : KnownValue) (checks : ChecksValue) (later : ℕ) : Type 0 where
