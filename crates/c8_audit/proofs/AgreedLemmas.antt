@@ -42,7 +42,8 @@ same_unless a b never =
 
 -- ---- players
 
-rows_of_two : (all : AllSeen) (p r : ℕ) (a b : Seen) (n : ℕ) → ((frame one other : ℕ) → IsDifference all frame one other → ⊥) → p < r → Stays all p a → Stays all r b
+rows_of_two : (all : AllSeen) (p r : ℕ) (a b : Seen) (n : ℕ) → ((frame one other : ℕ) → IsDifference all frame one other → ⊥) → p < r
+    → Stays all p a → Stays all r b
     → n ≤ confirmed a.first → n ≤ confirmed b.first → rows_below a.first n ≡ rows_below b.first n
 rows_of_two all p r a b n none order at_p at_r p_counts r_counts =
     map_same (row a.first) (row b.first) 0 n (λ frame below.

@@ -18,7 +18,8 @@ some_same x y same = cc
 same_seen : (all : AllSeen) (p q : ℕ) (s t : Seen) → Stays all p s → Stays all q t → p ≡ q → s ≡ t
 same_seen all p q s t at_p at_q same = some_same s t (sym at_p.given.is ∙ ap all same ∙ at_q.given.is)
 
-pub lesser_next : (all : AllSeen) (n : ℕ) (least : Option ℕ) (o : Option Seen) → IsLesserBelow all n least → IsStayer all n o → IsLesserBelow all (n + 1) (lesser_of least o)
+pub lesser_next : (all : AllSeen) (n : ℕ) (least : Option ℕ) (o : Option Seen) → IsLesserBelow all n least → IsStayer all n o
+    → IsLesserBelow all (n + 1) (lesser_of least o)
 lesser_next all n None None before now =
     λ p s below stays. ⊎_elim (λ less. before p s less stays) (λ here. now s (subst (λ (x : ℕ). Stays all x s) here stays)) (below_next p n below)
 lesser_next all n (Some N) None before now = record {
@@ -26,7 +27,8 @@ lesser_next all n (Some N) None before now = record {
   seen = before.seen;
   stays = before.stays;
   count = before.count;
-  least = λ p s below stays. ⊎_elim (λ less. before.least p s less stays) (λ here. absurd (now s (subst (λ (x : ℕ). Stays all x s) here stays))) (below_next p n below);
+  least = λ p s below stays. ⊎_elim (λ less. before.least p s less stays)
+      (λ here. absurd (now s (subst (λ (x : ℕ). Stays all x s) here stays))) (below_next p n below);
 }
 lesser_next all n None (Some t) before now = record {
   player = n;

@@ -32,7 +32,8 @@ past_or_not (Some K) frame word =
       | inr apart ↦ inr (λ past. apart past.0)
     ]
 
-pub entered_or_not : (by : KnownValue) (cut : Option ℕ) (own : KnownValue) (q frame : ℕ) → Plays by q → frame < confirmed by → WasEntered by cut own q frame ⊎ (WasEntered by cut own q frame → ⊥)
+pub entered_or_not : (by : KnownValue) (cut : Option ℕ) (own : KnownValue) (q frame : ℕ) → Plays by q → frame < confirmed by
+    → WasEntered by cut own q frame ⊎ (WasEntered by cut own q frame → ⊥)
 entered_or_not by cut own q frame plays below =
     let has = some_value (input_of (player_in by q) frame) ((confirmed_is by).settled frame q below plays) in
     let word : ℕ = has.0 in
@@ -49,7 +50,8 @@ entered_or_not by cut own q frame plays below =
       ]
     ]
 
-pub entered_without : (rules : Rules) (all : AllSeen) → AreOfGame rules all → ((frame one other : ℕ) → IsUnentered all frame one other → ⊥) → AreEntered all
+pub entered_without : (rules : Rules) (all : AllSeen) → AreOfGame rules all → ((frame one other : ℕ) → IsUnentered all frame one other → ⊥)
+    → AreEntered all
 entered_without rules all of_game none p q frame by own by_given own_given below =
     let plays = plays_first rules all p q by own of_game by_given.from_one own_given.from_one by_given.is own_given.is in
     elim (entered_or_not by.first (cut_in all q) own.later q frame plays below) [

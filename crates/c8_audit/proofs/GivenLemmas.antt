@@ -8,7 +8,8 @@ pub given_is : (all : AllSeen) (p : ℕ) (s : Seen) → 1 ≤ p → all p ≡ So
 given_is all p s from is = record { from_one = from; is = is }
 
 -- a player whose journal is given is in the game of another journal, by that journal's first reading
-pub plays_first : (rules : Rules) (all : AllSeen) (p q : ℕ) (s t : Seen) → AreOfGame rules all → 1 ≤ p → 1 ≤ q → all p ≡ Some s → all q ≡ Some t → Plays s.first q
+pub plays_first : (rules : Rules) (all : AllSeen) (p q : ℕ) (s t : Seen) → AreOfGame rules all → 1 ≤ p → 1 ≤ q → all p ≡ Some s
+    → all q ≡ Some t → Plays s.first q
 plays_first rules all p q s t of_game p_from q_from p_is q_is =
     let of = of_game.first p s (given_is all p s p_from p_is) in
     let within = of_game.players q t (given_is all q t q_from q_is) in

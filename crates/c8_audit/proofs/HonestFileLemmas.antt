@@ -1,5 +1,6 @@
 -- The files of an honest match are gathered, and each verdict on them is yes.
-use Rattle.std.proofs.Common.{◌≡◌, ℕ, ◌+◌, ◌^◌, ◌<◌, ◌⊎◌, inl, inr, ⊎_elim, List, [], ◌∷◌, ◌++◌, length, map, slice_index_or, Bool, true, false, Option, Some, None, refl, sym, ap, subst, ◌∙◌, arith, zero, suc, get_or}
+use Rattle.std.proofs.Common.{◌≡◌, ℕ, ◌+◌, ◌^◌, ◌<◌, ◌⊎◌, inl, inr, ⊎_elim, List, [], ◌∷◌, ◌++◌, length, map, slice_index_or, Bool, true,
+  false, Option, Some, None, refl, sym, ap, subst, ◌∙◌, arith, zero, suc, get_or}
 use Rattle.std.specs.Prelude.{◌==◌, option_map, MatchOption}
 use Rattle.std.specs.List.{slice_get}
 use Rattle.std.proofs.lemmas.Bool.{eqb-true}
@@ -66,7 +67,8 @@ head_is rules p room (Cut player cut start words) is = absurd (is.begins refl)
 head_is rules p room (State player frames piece bytes) is = absurd (is.begins refl)
 head_is rules p room (Check player frames digest) is = absurd (is.begins refl)
 
-begins_with_head : (rules : Rules) (p room : ℕ) (bodies : List (List ℕ)) → AreJournalBodies rules p room bodies → 0 < length bodies → BeginsWithHead bodies p (id_of rules) room
+begins_with_head : (rules : Rules) (p room : ℕ) (bodies : List (List ℕ)) → AreJournalBodies rules p room bodies → 0 < length bodies
+    → BeginsWithHead bodies p (id_of rules) room
 begins_with_head rules p room bodies are some =
     let body = slice_index_or bodies 0 [] in
     let here : slice_get bodies 0 ≡ Some body = slice_get-get_or bodies 0 [] some in
@@ -75,10 +77,12 @@ begins_with_head rules p room bodies are some =
     (body, head.0, here, subst (Spells body) head.1 (are.spelled 0 [] some))
 
 -- two HEADs of the same bodies are one
-one_head : (bodies : List (List ℕ)) (p q : ℕ) (id other : List ℕ) (room named : ℕ) → BeginsWithHead bodies p id room → BeginsWithHead bodies q other named → (p ≡ q) × (room ≡ named)
+one_head : (bodies : List (List ℕ)) (p q : ℕ) (id other : List ℕ) (room named : ℕ) → BeginsWithHead bodies p id room
+    → BeginsWithHead bodies q other named → (p ≡ q) × (room ≡ named)
 one_head bodies p q id other room named x y =
     let body : x.0 ≡ y.0 = some_same x.0 y.0 (sym x.2 ∙ y.2) in
-    let same : Head p x.1 id room ≡ Head q y.1 other named = sym (reads_back x.0 (Head p x.1 id room) x.3) ∙ ap record_of body ∙ reads_back y.0 (Head q y.1 other named) y.3 in
+    let same : Head p x.1 id room ≡ Head q y.1 other named =
+        sym (reads_back x.0 (Head p x.1 id room) x.3) ∙ ap record_of body ∙ reads_back y.0 (Head q y.1 other named) y.3 in
     let player : p ≡ q = cc in
     let there : room ≡ named = cc in
     (player, there)
@@ -89,17 +93,24 @@ no_bad rules p room bodies n are bad =
     let here : slice_get bodies n ≡ Some body = slice_get-get_or bodies n [] bad.within in
     let place : slice_get (records_of bodies) n ≡ Some (record_of body) = slice_get-map record_of bodies n ∙ ap (option_map record_of) here in
     bad.bad body (record_of body) here (are.spelled n [] bad.within)
-    (subst (λ (before : List Record). IsAllowed rules p room before (record_of body)) (take-map record_of n bodies) (are.journal n (record_of body) place))
+    (subst (λ (before : List Record). IsAllowed rules p room before (record_of body)) (take-map record_of n bodies)
+        (are.journal n (record_of body) place))
 
 -- a journal is refused only if memory runs out
-only_memory : (rules : Rules) (p room : ℕ) (asked : Option ℕ) (bodies : List (List ℕ)) (error : JournalError) → AreJournalBodies rules p room bodies → 0 < length bodies → IsAsked asked room → IsRefusalOfJournal rules asked bodies error → error ≡ errors.Memory
-only_memory rules p room asked bodies errors.WrongGame are some is (player, id, named, head, inl other) = absurd (not_refused rules p room bodies replays.WrongGame are (player, id, named, head, inl other))
+only_memory : (rules : Rules) (p room : ℕ) (asked : Option ℕ) (bodies : List (List ℕ)) (error : JournalError)
+    → AreJournalBodies rules p room bodies → 0 < length bodies → IsAsked asked room → IsRefusalOfJournal rules asked bodies error
+    → error ≡ errors.Memory
+only_memory rules p room asked bodies errors.WrongGame are some is (player, id, named, head, inl other) =
+    absurd (not_refused rules p room bodies replays.WrongGame are (player, id, named, head, inl other))
 only_memory rules p room None bodies errors.WrongGame are some is (player, id, named, head, inr other) = absurd other
-only_memory rules p room (Some it) bodies errors.WrongGame are some is (player, id, named, head, inr other) = absurd (not_refused rules p room bodies replays.WrongGame are (player, id, named, head, inr (λ same. other (is ∙ sym same))))
-only_memory rules p room asked bodies (errors.BadRecord n why) are some is (inl none) = absurd (none.1 p (id_of rules) room (begins_with_head rules p room bodies are some))
+only_memory rules p room (Some it) bodies errors.WrongGame are some is (player, id, named, head, inr other) =
+    absurd (not_refused rules p room bodies replays.WrongGame are (player, id, named, head, inr (λ same. other (is ∙ sym same))))
+only_memory rules p room asked bodies (errors.BadRecord n why) are some is (inl none) =
+    absurd (none.1 p (id_of rules) room (begins_with_head rules p room bodies are some))
 only_memory rules p room asked bodies (errors.BadRecord n why) are some is (inr (me, named, head, wanted, bad)) =
     let same = one_head bodies me p (id_of rules) (id_of rules) named room head (begins_with_head rules p room bodies are some) in
-    absurd (no_bad rules p room bodies n are (subst (λ (q : ℕ). IsFirstBad rules q room bodies n) same.0 (subst (λ (r : ℕ). IsFirstBad rules me r bodies n) same.1 bad)))
+    absurd (no_bad rules p room bodies n are (subst (λ (q : ℕ). IsFirstBad rules q room bodies n) same.0
+        (subst (λ (r : ℕ). IsFirstBad rules me r bodies n) same.1 bad)))
 only_memory rules p room asked bodies errors.Memory are some is memory = refl
 
 -- ---- one file
@@ -111,22 +122,31 @@ record IsInOrder (rules : Rules) (room p : ℕ) (file : Twice) (readings : Readi
   same : readings_of (first_bytes file) (later_bytes file) ≡ readings
   continues : Begins (kept (first_bytes file)) (kept (later_bytes file))
 
-in_order : (laws : AreWorldsLawful) (rules : Rules) (room p : ℕ) (between : World) (file : Twice) → AreInRange rules → room < 2 ^ 64 → (is : IsFileOf rules room between p file) → IsInOrder rules room p file is.readings
+in_order : (laws : AreWorldsLawful) (rules : Rules) (room p : ℕ) (between : World) (file : Twice) → AreInRange rules → room < 2 ^ 64
+    → (is : IsFileOf rules room between p file) → IsInOrder rules room p file is.readings
 in_order laws rules room p between file range few is =
     let was = is.read in
     let reached : IsReached rules room between = reached_later rules room was.first_at between was.events was.answers was.first_reached was.before in
-    let after : IsReached rules room was.later_at = reached_later rules room between was.later_at was.more_events was.more_answers reached was.after in
-    let first : IsJournal rules p room is.readings.first = subst (λ (j : List Record). IsJournal rules p room j) (sym was.first_is) (laws.journals rules room was.first_at p was.finds range few was.first_reached is.plays) in
-    let later : IsJournal rules p room is.readings.later = subst (λ (j : List Record). IsJournal rules p room j) (sym was.later_is) (laws.journals rules room was.later_at p was.later_finds range few after is.plays) in
-    let one : records_of (kept (first_bytes file)) ≡ is.readings.first = ap records_of is.first_is ∙ journal_back rules p room is.readings.first first in
-    let two : records_of (kept (later_bytes file)) ≡ is.readings.later = ap records_of is.later_is ∙ journal_back rules p room is.readings.later later in
+    let after : IsReached rules room was.later_at =
+        reached_later rules room between was.later_at was.more_events was.more_answers reached was.after in
+    let first : IsJournal rules p room is.readings.first =
+        subst (λ (j : List Record). IsJournal rules p room j) (sym was.first_is)
+        (laws.journals rules room was.first_at p was.finds range few was.first_reached is.plays) in
+    let later : IsJournal rules p room is.readings.later =
+        subst (λ (j : List Record). IsJournal rules p room j) (sym was.later_is)
+        (laws.journals rules room was.later_at p was.later_finds range few after is.plays) in
+    let one : records_of (kept (first_bytes file)) ≡ is.readings.first =
+        ap records_of is.first_is ∙ journal_back rules p room is.readings.first first in
+    let two : records_of (kept (later_bytes file)) ≡ is.readings.later =
+        ap records_of is.later_is ∙ journal_back rules p room is.readings.later later in
     record {
       first = subst (λ (b : List (List ℕ)). AreJournalBodies rules p room b) (sym is.first_is) (journal_bodies rules p room is.readings.first first);
       later = subst (λ (b : List (List ℕ)). AreJournalBodies rules p room b) (sym is.later_is) (journal_bodies rules p room is.readings.later later);
       same = λ i. record { first = one i; later = two i };
       continues = record {
         rest = map body_of was.continues.rest;
-        is = is.later_is ∙ ap (map body_of) was.continues.is ∙ map-append body_of is.readings.first was.continues.rest ∙ ap (λ (xs : List (List ℕ)). xs ++ map body_of was.continues.rest) (sym is.first_is);
+        is = is.later_is ∙ ap (map body_of) was.continues.is ∙ map-append body_of is.readings.first was.continues.rest
+            ∙ ap (λ (xs : List (List ℕ)). xs ++ map body_of was.continues.rest) (sym is.first_is);
       };
     }
 
@@ -138,8 +158,10 @@ begun_longer : (xs ys : List (List ℕ)) → Begins xs ys → 0 < length xs → 
 begun_longer [] ys begins some = absurd (omega (arith, some))
 begun_longer (x ∷ xs) ys begins some = subst (λ (zs : List (List ℕ)). 0 < length zs) (sym begins.is) (omega arith)
 
-module _ (laws : AreWorldsLawful) (rules : Rules) (room : ℕ) (files : List Twice) (range : AreInRange rules) (few : room < 2 ^ 64) (honest : AreHonestFiles rules room files) where
-  file_in_order : (n : ℕ) (file : Twice) (at : slice_get files n ≡ Some file) → IsInOrder rules room (honest.owner n) file (honest.each n file at).readings
+module _ (laws : AreWorldsLawful) (rules : Rules) (room : ℕ) (files : List Twice) (range : AreInRange rules) (few : room < 2 ^ 64)
+    (honest : AreHonestFiles rules room files) where
+  file_in_order : (n : ℕ) (file : Twice) (at : slice_get files n ≡ Some file)
+      → IsInOrder rules room (honest.owner n) file (honest.each n file at).readings
   file_in_order n file at = in_order laws rules room (honest.owner n) honest.between file range few (honest.each n file at)
 
   -- what a file names is its owner and the room
@@ -147,7 +169,8 @@ module _ (laws : AreWorldsLawful) (rules : Rules) (room : ℕ) (files : List Twi
   names_owner n names =
       let order = file_in_order n.place names.file names.file_is in
       let some : 0 < length (kept (first_bytes names.file)) = slice_get_within (kept (first_bytes names.file)) 0 names.head.0 names.head.2 in
-      one_head (kept (first_bytes names.file)) n.player.number (honest.owner n.place) (id_of rules) (id_of rules) n.room room names.head (begins_with_head rules (honest.owner n.place) room (kept (first_bytes names.file)) order.first some)
+      one_head (kept (first_bytes names.file)) n.player.number (honest.owner n.place) (id_of rules) (id_of rules) n.room room names.head
+          (begins_with_head rules (honest.owner n.place) room (kept (first_bytes names.file)) order.first some)
 
   one_keeps : 0 < length (kept (first_bytes honest.one_file))
   one_keeps = some_kept (kept (first_bytes honest.one_file)) honest.one_keeps
@@ -155,7 +178,8 @@ module _ (laws : AreWorldsLawful) (rules : Rules) (room : ℕ) (files : List Twi
   one_head_is : BeginsWithHead (kept (first_bytes honest.one_file)) 1 (id_of rules) room
   one_head_is =
       subst (λ (p : ℕ). BeginsWithHead (kept (first_bytes honest.one_file)) p (id_of rules) room) honest.one_owner
-      (begins_with_head rules (honest.owner honest.one) room (kept (first_bytes honest.one_file)) (file_in_order honest.one honest.one_file honest.one_given).first one_keeps)
+      (begins_with_head rules (honest.owner honest.one) room (kept (first_bytes honest.one_file))
+          (file_in_order honest.one honest.one_file honest.one_given).first one_keeps)
 
   no_mismatch : (why : Mismatch) → IsMismatch rules files why → ⊥
   no_mismatch (SamePlayer a b) wrong =
@@ -169,21 +193,26 @@ module _ (laws : AreWorldsLawful) (rules : Rules) (room : ℕ) (files : List Twi
       let one : Named = record { place = honest.one; player = record { number = 1; from_one = omega arith; to_four = omega arith }; room = room } in
       wrong one (record { file = honest.one_file; file_is = honest.one_given; head = one_head_is }) refl
 
-  only_memory_in : (n : ℕ) (file : Twice) (at : slice_get files n ≡ Some file) (why : Unread) → keeps_nothing file ≡ false → IsUnread rules (first_bytes file) (later_bytes file) why → why ≡ Journal errors.Memory
+  only_memory_in : (n : ℕ) (file : Twice) (at : slice_get files n ≡ Some file) (why : Unread) → keeps_nothing file ≡ false
+      → IsUnread rules (first_bytes file) (later_bytes file) why → why ≡ Journal errors.Memory
   only_memory_in n file at (Journal error) some (inl first) =
-      ap Journal (only_memory rules (honest.owner n) room None (kept (first_bytes file)) error (file_in_order n file at).first (some_kept (kept (first_bytes file)) some) tt first)
+      ap Journal (only_memory rules (honest.owner n) room None (kept (first_bytes file)) error (file_in_order n file at).first
+          (some_kept (kept (first_bytes file)) some) tt first)
   only_memory_in n file at (Journal error) some (inr again) =
       let order = file_in_order n file at in
       let more : 0 < length (kept (first_bytes file)) = some_kept (kept (first_bytes file)) some in
-      let same = one_head (kept (first_bytes file)) again.0 (honest.owner n) (id_of rules) (id_of rules) again.1 room again.2 (begins_with_head rules (honest.owner n) room (kept (first_bytes file)) order.first more) in
-      ap Journal (only_memory rules (honest.owner n) room (Some again.1) (kept (later_bytes file)) error order.later (begun_longer (kept (first_bytes file)) (kept (later_bytes file)) order.continues more) same.1 again.3)
+      let same = one_head (kept (first_bytes file)) again.0 (honest.owner n) (id_of rules) (id_of rules) again.1 room again.2
+          (begins_with_head rules (honest.owner n) room (kept (first_bytes file)) order.first more) in
+      ap Journal (only_memory rules (honest.owner n) room (Some again.1) (kept (later_bytes file)) error order.later
+          (begun_longer (kept (first_bytes file)) (kept (later_bytes file)) order.continues more) same.1 again.3)
   only_memory_in n file at Changed some again = absurd (again.3 (file_in_order n file at).continues)
 
   pub gathered_honestly : (error : GatherError) → IsNotGathered rules files error → IsOutOfMemory error
   gathered_honestly (File place why) wrong = only_memory_in place wrong.1 wrong.2 why wrong.3 wrong.4
   gathered_honestly (Journals why) wrong = no_mismatch why wrong.1
 
-pub honest_gathered : (laws : AreWorldsLawful) (rules : Rules) (room : ℕ) (files : List Twice) (error : GatherError) → AreInRange rules → room < 2 ^ 64 → AreHonestFiles rules room files → IsNotGathered rules files error → IsOutOfMemory error
+pub honest_gathered : (laws : AreWorldsLawful) (rules : Rules) (room : ℕ) (files : List Twice) (error : GatherError) → AreInRange rules
+    → room < 2 ^ 64 → AreHonestFiles rules room files → IsNotGathered rules files error → IsOutOfMemory error
 honest_gathered laws rules room files error range few honest wrong = gathered_honestly laws rules room files range few honest error wrong
 
 -- ---- the evidence of the files
@@ -218,12 +247,14 @@ or_more : (b : Bool) (t r : Readings) (o : Option Readings) → o ≡ Some r →
 or_more true t r o is = (t, refl)
 or_more false t r o is = (r, is)
 
-is_given : (files : List Twice) (n p : ℕ) (file : Twice) → slice_get files n ≡ Some file → names_player p (records_of (kept (first_bytes file))) ≡ true → (r : Readings) × (evidence_of files p ≡ Some r)
+is_given : (files : List Twice) (n p : ℕ) (file : Twice) → slice_get files n ≡ Some file
+    → names_player p (records_of (kept (first_bytes file))) ≡ true → (r : Readings) × (evidence_of files p ≡ Some r)
 unfolding evidence_in
 is_given [] n p file at named = absurd cc
 is_given (f ∷ files) zero p file at named =
     let same : f ≡ file = some_same f file at in
-    some_in (evidence_of files p) (names_player p (records_of (kept (first_bytes f)))) (readings_of (first_bytes f) (later_bytes f)) (ap (λ (x : Twice). names_player p (records_of (kept (first_bytes x)))) same ∙ named)
+    some_in (evidence_of files p) (names_player p (records_of (kept (first_bytes f)))) (readings_of (first_bytes f) (later_bytes f))
+        (ap (λ (x : Twice). names_player p (records_of (kept (first_bytes x)))) same ∙ named)
 is_given (f ∷ files) (suc n) p file at named =
     let rest = is_given files n p file at named in
     or_more (names_player p (records_of (kept (first_bytes f)))) (readings_of (first_bytes f) (later_bytes f)) rest.0 (evidence_of files p) rest.1
@@ -236,26 +267,33 @@ names_some : (bodies : List (List ℕ)) (p : ℕ) → names_player p (records_of
 names_some [] p named = absurd cc
 names_some (b ∷ bodies) p named = omega arith
 
-module _ (laws : AreWorldsLawful) (rules : Rules) (room : ℕ) (files : List Twice) (range : AreInRange rules) (few : room < 2 ^ 64) (honest : AreHonestFiles rules room files) where
+module _ (laws : AreWorldsLawful) (rules : Rules) (room : ℕ) (files : List Twice) (range : AreInRange rules) (few : room < 2 ^ 64)
+    (honest : AreHonestFiles rules room files) where
   owner_is : (p : ℕ) (r : Readings) (from : IsFrom files p r) → honest.owner from.place ≡ p
   owner_is p r from =
       let order = in_order laws rules room (honest.owner from.place) honest.between from.file range few (honest.each from.place from.file from.at) in
-      let head = begins_with_head rules (honest.owner from.place) room (kept (first_bytes from.file)) order.first (names_some (kept (first_bytes from.file)) p from.named) in
-      names_one (records_of (kept (first_bytes from.file))) (honest.owner from.place) p (head_names (kept (first_bytes from.file)) (honest.owner from.place) (id_of rules) room head) from.named
+      let head = begins_with_head rules (honest.owner from.place) room (kept (first_bytes from.file)) order.first
+          (names_some (kept (first_bytes from.file)) p from.named) in
+      names_one (records_of (kept (first_bytes from.file))) (honest.owner from.place) p
+          (head_names (kept (first_bytes from.file)) (honest.owner from.place) (id_of rules) room head) from.named
 
   file_of : (p : ℕ) (r : Readings) (from : IsFrom files p r) → IsPlayer rules p × WasReadTwice rules room honest.between p r
   file_of p r from =
       let is = honest.each from.place from.file from.at in
       let order = in_order laws rules room (honest.owner from.place) honest.between from.file range few is in
       let same : is.readings ≡ r = sym order.same ∙ from.same in
-      subst (λ (q : ℕ). IsPlayer rules q × WasReadTwice rules room honest.between q r) (owner_is p r from) (is.plays, subst (λ (x : Readings). WasReadTwice rules room honest.between (honest.owner from.place) x) same is.read)
+      subst (λ (q : ℕ). IsPlayer rules q × WasReadTwice rules room honest.between q r) (owner_is p r from)
+          (is.plays, subst (λ (x : Readings). WasReadTwice rules room honest.between (honest.owner from.place) x) same is.read)
 
   one_given_is : (r : Readings) × (evidence_of files 1 ≡ Some r)
   one_given_is =
-      let order = in_order laws rules room (honest.owner honest.one) honest.between honest.one_file range few (honest.each honest.one honest.one_file honest.one_given) in
-      let head = begins_with_head rules (honest.owner honest.one) room (kept (first_bytes honest.one_file)) order.first (some_kept (kept (first_bytes honest.one_file)) honest.one_keeps) in
+      let order = in_order laws rules room (honest.owner honest.one) honest.between honest.one_file range few
+          (honest.each honest.one honest.one_file honest.one_given) in
+      let head = begins_with_head rules (honest.owner honest.one) room (kept (first_bytes honest.one_file)) order.first
+          (some_kept (kept (first_bytes honest.one_file)) honest.one_keeps) in
       is_given files honest.one 1 honest.one_file honest.one_given
-      (subst (λ (p : ℕ). names_player p (records_of (kept (first_bytes honest.one_file))) ≡ true) honest.one_owner (head_names (kept (first_bytes honest.one_file)) (honest.owner honest.one) (id_of rules) room head))
+      (subst (λ (p : ℕ). names_player p (records_of (kept (first_bytes honest.one_file))) ≡ true) honest.one_owner
+          (head_names (kept (first_bytes honest.one_file)) (honest.owner honest.one) (id_of rules) room head))
 
   pub honest_evidence : IsHonest rules room (evidence_of files)
   honest_evidence = record {
@@ -281,27 +319,37 @@ never_untrue rules all checks p wrong = wrong.never (checks p wrong.seen wrong.g
 row_at : (a b : KnownValue) (frame : ℕ) → rows_below a (frame + 1) ≡ rows_below b (frame + 1) → row a frame ≡ row b frame
 row_at a b frame same =
     let d = row a frame in
-    let one : get_or (rows_below a (frame + 1)) frame d ≡ row a frame = get_or-map-range_with_len (row a) 0 (frame + 1) frame frame d (omega arith) (omega arith) in
-    let two : get_or (rows_below b (frame + 1)) frame d ≡ row b frame = get_or-map-range_with_len (row b) 0 (frame + 1) frame frame d (omega arith) (omega arith) in
+    let one : get_or (rows_below a (frame + 1)) frame d ≡ row a frame =
+        get_or-map-range_with_len (row a) 0 (frame + 1) frame frame d (omega arith) (omega arith) in
+    let two : get_or (rows_below b (frame + 1)) frame d ≡ row b frame =
+        get_or-map-range_with_len (row b) 0 (frame + 1) frame frame d (omega arith) (omega arith) in
     sym one ∙ ap (λ (rows : List Row). get_or rows frame d) same ∙ two
 
 never_different : (rules : Rules) (all : AllSeen) → AreAgreed rules all → (frame p r : ℕ) → IsDifference all frame p r → ⊥
 never_different rules all agreed frame p r wrong =
     let one = wrong.one_counts in
     let other = wrong.other_counts in
-    wrong.rows (row_at wrong.one.first wrong.other.first frame (agreed p r wrong.one wrong.other wrong.one_stays wrong.other_stays (frame + 1) (omega (arith, one)) (omega (arith, other))).rows)
+    wrong.rows (row_at wrong.one.first wrong.other.first frame
+        (agreed p r wrong.one wrong.other wrong.one_stays wrong.other_stays (frame + 1) (omega (arith, one)) (omega (arith, other))).rows)
 
-pub honest_yes : (laws : AreWorldsLawful) (rules : Rules) (room : ℕ) (files : List Twice) (given : List (Option journals.Journal)) (verdicts : Verdicts) → AreInRange rules → room < 2 ^ 64 → AreHonestFiles rules room files
+pub honest_yes : (laws : AreWorldsLawful) (rules : Rules) (room : ℕ) (files : List Twice) (given : List (Option journals.Journal))
+    (verdicts : Verdicts) → AreInRange rules → room < 2 ^ 64 → AreHonestFiles rules room files
     → AreGathered rules (evidence_of files) given → AreVerdicts rules (all_seen given) verdicts → AreYes verdicts
 honest_yes laws rules room files given verdicts range few honest gathered judged =
     let e = evidence_of files in
     let is = honest_evidence laws rules room files range few honest in
     let same : AreSame (seen_in rules e) (all_seen given) = record { each = λ p from. sym (gathered.gathered.seen_is p from) } in
-    let entered : AreEntered (all_seen given) = entered_same (seen_in rules e) (all_seen given) same (honest_entered laws rules room e range few is) in
-    let checks : AreTrue rules (all_seen given) = true_same (seen_in rules e) (all_seen given) same rules (honest_true laws rules room e range few is) in
-    let agreed : AreAgreed rules (all_seen given) = agreed_same (seen_in rules e) (all_seen given) same rules (honest_agreed laws rules room e range few is) in
+    let entered : AreEntered (all_seen given) =
+        entered_same (seen_in rules e) (all_seen given) same (honest_entered laws rules room e range few is) in
+    let checks : AreTrue rules (all_seen given) =
+        true_same (seen_in rules e) (all_seen given) same rules (honest_true laws rules room e range few is) in
+    let agreed : AreAgreed rules (all_seen given) =
+        agreed_same (seen_in rules e) (all_seen given) same rules (honest_agreed laws rules room e range few is) in
     record {
-      entered = none_of (AreEntered (all_seen given)) _ verdicts.unentered judged.entered (λ fault wrong. never_unentered (all_seen given) entered fault.frame fault.one.number fault.other.number wrong.is);
-      checks = none_of (AreTrue rules (all_seen given)) _ verdicts.untrue judged.checks (λ player wrong. never_untrue rules (all_seen given) checks player.number wrong.is);
-      agree = none_of (AreAgreed rules (all_seen given)) _ verdicts.difference judged.agree (λ fault wrong. never_different rules (all_seen given) agreed fault.frame fault.one.number fault.other.number wrong.is);
+      entered = none_of (AreEntered (all_seen given)) _ verdicts.unentered judged.entered
+          (λ fault wrong. never_unentered (all_seen given) entered fault.frame fault.one.number fault.other.number wrong.is);
+      checks = none_of (AreTrue rules (all_seen given)) _ verdicts.untrue judged.checks
+          (λ player wrong. never_untrue rules (all_seen given) checks player.number wrong.is);
+      agree = none_of (AreAgreed rules (all_seen given)) _ verdicts.difference judged.agree
+          (λ fault wrong. never_different rules (all_seen given) agreed fault.frame fault.one.number fault.other.number wrong.is);
     }

@@ -17,7 +17,8 @@ use Rattle.c8_audit.specs.Marked.{HaveMarksBelow}
 
 -- ---- maps over two ranges
 
-map_shift : {X : Type 0} (f g : ℕ → X) (a b n : ℕ) → ((i : ℕ) → i < n → f (a + i) ≡ g (b + i)) → map f (range_with_len a n) ≡ map g (range_with_len b n)
+map_shift : {X : Type 0} (f g : ℕ → X) (a b n : ℕ) → ((i : ℕ) → i < n → f (a + i) ≡ g (b + i))
+    → map f (range_with_len a n) ≡ map g (range_with_len b n)
 map_shift f g a b zero same = refl
 map_shift f g a b (suc n) same =
     let at_a : a ≡ a + 0 = omega arith in
@@ -29,7 +30,8 @@ map_shift f g a b (suc n) same =
     ap f from ∙ same (i + 1) (omega (arith, below)) ∙ ap g to) in
     rw (head, tail) refl
 
-map_unshift : {X : Type 0} (f g : ℕ → X) (a b n : ℕ) → map f (range_with_len a n) ≡ map g (range_with_len b n) → (i : ℕ) → i < n → f (a + i) ≡ g (b + i)
+map_unshift : {X : Type 0} (f g : ℕ → X) (a b n : ℕ) → map f (range_with_len a n) ≡ map g (range_with_len b n) → (i : ℕ) → i < n
+    → f (a + i) ≡ g (b + i)
 map_unshift f g a b zero same i below = absurd (omega (arith, below))
 map_unshift f g a b (suc n) same zero below =
     let at_a : a + 0 ≡ a = omega arith in
@@ -62,11 +64,13 @@ kept_last g n =
 
 -- ---- the marks of a checkpoint
 
-up_to_is : (rules : Rules) (k : KnownValue) (frames : ℕ) → marks_up_to rules k frames ≡ map (λ m. mark_after rules k (mark_step * m)) (range_with_len (forgotten_after frames) (marks_after frames))
+up_to_is : (rules : Rules) (k : KnownValue) (frames : ℕ)
+    → marks_up_to rules k frames ≡ map (λ m. mark_after rules k (mark_step * m)) (range_with_len (forgotten_after frames) (marks_after frames))
 up_to_is rules k frames = kept_last (λ m. mark_after rules k (mark_step * m)) (frames / mark_step + 1)
 
 -- the marks are those of the serial run, if each of them is
-pub marks_from : (rules : Rules) (k : KnownValue) (frames : ℕ) (bytes : List ℕ) → HaveMarksBelow rules k frames bytes (frames + 1) → marks_in frames bytes ≡ marks_up_to rules k frames
+pub marks_from : (rules : Rules) (k : KnownValue) (frames : ℕ) (bytes : List ℕ) → HaveMarksBelow rules k frames bytes (frames + 1)
+    → marks_in frames bytes ≡ marks_up_to rules k frames
 unfolding marks_in
 marks_from rules k frames bytes have =
     map_shift _ (λ m. mark_after rules k (mark_step * m)) 0 (forgotten_after frames) (marks_after frames) (λ i below.
@@ -77,10 +81,12 @@ marks_from rules k frames bytes have =
     ∙ sym (up_to_is rules k frames)
 
 -- and only then
-pub marks_then : (rules : Rules) (k : KnownValue) (frames : ℕ) (bytes : List ℕ) (end : ℕ) → marks_in frames bytes ≡ marks_up_to rules k frames → HaveMarksBelow rules k frames bytes end
+pub marks_then : (rules : Rules) (k : KnownValue) (frames : ℕ) (bytes : List ℕ) (end : ℕ)
+    → marks_in frames bytes ≡ marks_up_to rules k frames → HaveMarksBelow rules k frames bytes end
 unfolding marks_in
 marks_then rules k frames bytes end same frame within i below at =
-    let each = map_unshift _ (λ m. mark_after rules k (mark_step * m)) 0 (forgotten_after frames) (marks_after frames) (same ∙ up_to_is rules k frames) i below in
+    let each = map_unshift _ (λ m. mark_after rules k (mark_step * m)) 0 (forgotten_after frames) (marks_after frames)
+        (same ∙ up_to_is rules k frames) i below in
     let here : 0 + i ≡ i = omega arith in
     let mark = ap (λ (m : FrameMark). m.mark) (rw here at each) in
     mark ∙ ap (λ (n : ℕ). mark_of (serial rules (rows_below k n))) at

@@ -1,5 +1,6 @@
 -- Which files name which players and rooms.
-use Rattle.std.proofs.Common.{◌≡◌, ℕ, ◌+◌, ◌<◌, ◌≤◌, ◌⊎◌, inl, inr, ⊎_elim, List, length, Bool, true, false, Option, Some, None, refl, sym, ap, subst, ◌∙◌, arith, if◌then◌else◌, eq-eqb}
+use Rattle.std.proofs.Common.{◌≡◌, ℕ, ◌+◌, ◌<◌, ◌≤◌, ◌⊎◌, inl, inr, ⊎_elim, List, length, Bool, true, false, Option, Some, None, refl, sym,
+  ap, subst, ◌∙◌, arith, if◌then◌else◌, eq-eqb}
 use Rattle.std.specs.Prelude.{◌==◌, unwrap_or, is_some}
 use Rattle.std.specs.List.{slice_get}
 use Rattle.std.proofs.lemmas.Bool.{eqb-true}
@@ -27,15 +28,19 @@ head_same : (p q : ℕ) (f g : ℕ) (id : List ℕ) (r s : ℕ) → Head p f id 
 head_same p q f g id r s same = let player : p ≡ q = cc in let room : r ≡ s = cc in (player, room)
 
 -- a file names one player and one room
-pub names_same : (rules : Rules) (files : List Twice) (a b : Named) → Names rules files a → Names rules files b → a.place ≡ b.place → (a.player.number ≡ b.player.number) × (a.room ≡ b.room)
+pub names_same : (rules : Rules) (files : List Twice) (a b : Named) → Names rules files a → Names rules files b → a.place ≡ b.place
+    → (a.player.number ≡ b.player.number) × (a.room ≡ b.room)
 names_same rules files a b x y at =
     let file : x.file ≡ y.file = some_same x.file y.file (sym x.file_is ∙ ap (slice_get files) at ∙ y.file_is) in
-    let body : x.head.0 ≡ y.head.0 = some_same x.head.0 y.head.0 (sym x.head.2 ∙ ap (λ (f : Twice). slice_get (kept (first_bytes f)) 0) file ∙ y.head.2) in
+    let body : x.head.0 ≡ y.head.0 = some_same x.head.0 y.head.0
+        (sym x.head.2 ∙ ap (λ (f : Twice). slice_get (kept (first_bytes f)) 0) file ∙ y.head.2) in
     head_same a.player.number b.player.number x.head.1 y.head.1 (id_of rules) a.room b.room
-    (sym (reads_back x.head.0 (Head a.player.number x.head.1 (id_of rules) a.room) x.head.3) ∙ ap record_of body ∙ reads_back y.head.0 (Head b.player.number y.head.1 (id_of rules) b.room) y.head.3)
+    (sym (reads_back x.head.0 (Head a.player.number x.head.1 (id_of rules) a.room) x.head.3) ∙ ap record_of body
+        ∙ reads_back y.head.0 (Head b.player.number y.head.1 (id_of rules) b.room) y.head.3)
 
 -- a file without a record names nobody
-pub names_nothing : (rules : Rules) (files : List Twice) (file : Twice) (n : Named) → slice_get files n.place ≡ Some file → length (kept (first_bytes file)) ≡ 0 → Names rules files n → ⊥
+pub names_nothing : (rules : Rules) (files : List Twice) (file : Twice) (n : Named) → slice_get files n.place ≡ Some file
+    → length (kept (first_bytes file)) ≡ 0 → Names rules files n → ⊥
 names_nothing rules files file n at none x =
     let same : x.file ≡ file = some_same x.file file (sym x.file_is ∙ at) in
     let some : slice_get (kept (first_bytes file)) 0 ≡ Some x.head.0 = ap (λ (f : Twice). slice_get (kept (first_bytes f)) 0) (sym same) ∙ x.head.2 in
@@ -54,8 +59,10 @@ named_stays (Some m) b n a is = is
 named_stays None b n a is = absurd cc
 
 -- why a file does not belong to earlier ones
-clash_is : (rules : Rules) (files : List Twice) (n : Named) (first same : Option Named) (why : Mismatch) → ((a : Named) → first ≡ Some a → Names rules files a × (a.place < n.place))
-    → ((b : Named) → same ≡ Some b → Names rules files b × (b.place < n.place) × (b.player.number ≡ n.player.number)) → Names rules files n → clash_of first same n ≡ Some why → IsMismatch rules files why
+clash_is : (rules : Rules) (files : List Twice) (n : Named) (first same : Option Named) (why : Mismatch)
+    → ((a : Named) → first ≡ Some a → Names rules files a × (a.place < n.place))
+    → ((b : Named) → same ≡ Some b → Names rules files b × (b.place < n.place) × (b.player.number ≡ n.player.number)) → Names rules files n
+    → clash_of first same n ≡ Some why → IsMismatch rules files why
 clash_is rules files n None None why one other names is = absurd cc
 clash_is rules files n None (Some b) why one other names is =
     let same : SamePlayer b n ≡ why = cc in
@@ -65,18 +72,21 @@ clash_is rules files n (Some a) None why one other names is =
     elim (eqb_tells a.room n.room) [
       | inl yes_it ↦ absurd (let wrong : None ≡ Some why = ap (λ (b : Bool). if b then None else Some (TwoRooms a n)) (sym yes_it.0) ∙ is in cc)
       | inr no_it ↦
-          let same : TwoRooms a n ≡ why = some_same (TwoRooms a n) why (ap (λ (b : Bool). if b then None else Some (TwoRooms a n)) (sym no_it.0) ∙ is) in
+          let same : TwoRooms a n ≡ why = some_same (TwoRooms a n) why
+              (ap (λ (b : Bool). if b then None else Some (TwoRooms a n)) (sym no_it.0) ∙ is) in
           let it = one a refl in
           subst (IsMismatch rules files) same (it.0, names, it.1, no_it.1)
     ]
 clash_is rules files n (Some a) (Some b) why one other names is =
     elim (eqb_tells a.room n.room) [
       | inl yes_it ↦
-          let same : SamePlayer b n ≡ why = some_same (SamePlayer b n) why (ap (λ (t : Bool). if t then Some (SamePlayer b n) else Some (TwoRooms a n)) (sym yes_it.0) ∙ is) in
+          let same : SamePlayer b n ≡ why = some_same (SamePlayer b n) why
+              (ap (λ (t : Bool). if t then Some (SamePlayer b n) else Some (TwoRooms a n)) (sym yes_it.0) ∙ is) in
           let it = other b refl in
           subst (IsMismatch rules files) same (it.0, names, it.1, it.2)
       | inr no_it ↦
-          let same : TwoRooms a n ≡ why = some_same (TwoRooms a n) why (ap (λ (t : Bool). if t then Some (SamePlayer b n) else Some (TwoRooms a n)) (sym no_it.0) ∙ is) in
+          let same : TwoRooms a n ≡ why = some_same (TwoRooms a n) why
+              (ap (λ (t : Bool). if t then Some (SamePlayer b n) else Some (TwoRooms a n)) (sym no_it.0) ∙ is) in
           let it = one a refl in
           subst (IsMismatch rules files) same (it.0, names, it.1, no_it.1)
     ]
@@ -91,13 +101,16 @@ no_clash (Some f) None n is = (
       let same : f ≡ a = some_same f a some in
       elim (eqb_tells f.room n.room) [
         | inl yes_it ↦ ap (λ (m : Named). m.room) (sym same) ∙ yes_it.1
-        | inr no_it ↦ absurd (let wrong : Some (TwoRooms f n) ≡ None = ap (λ (t : Bool). if t then None else Some (TwoRooms f n)) (sym no_it.0) ∙ is in cc)
+        | inr no_it ↦ absurd (let wrong : Some (TwoRooms f n) ≡ None =
+        ap (λ (t : Bool). if t then None else Some (TwoRooms f n)) (sym no_it.0) ∙ is in cc)
       ],
 )
 no_clash (Some f) (Some b) n is =
     elim (eqb_tells f.room n.room) [
-      | inl yes_it ↦ absurd (let wrong : Some (SamePlayer b n) ≡ None = ap (λ (t : Bool). if t then Some (SamePlayer b n) else Some (TwoRooms f n)) (sym yes_it.0) ∙ is in cc)
-      | inr no_it ↦ absurd (let wrong : Some (TwoRooms f n) ≡ None = ap (λ (t : Bool). if t then Some (SamePlayer b n) else Some (TwoRooms f n)) (sym no_it.0) ∙ is in cc)
+      | inl yes_it ↦ absurd (let wrong : Some (SamePlayer b n) ≡ None =
+      ap (λ (t : Bool). if t then Some (SamePlayer b n) else Some (TwoRooms f n)) (sym yes_it.0) ∙ is in cc)
+      | inr no_it ↦ absurd (let wrong : Some (TwoRooms f n) ≡ None =
+      ap (λ (t : Bool). if t then Some (SamePlayer b n) else Some (TwoRooms f n)) (sym no_it.0) ∙ is in cc)
     ]
 
 earlier_some : (found next : Option Mismatch) (why : Mismatch) → earlier_mismatch found next ≡ Some why → (found ≡ Some why) ⊎ (next ≡ Some why)
@@ -117,9 +130,12 @@ at_or_below i k within = elim (eqb_tells i k) [ inl yes_it ↦ inl yes_it.1 | in
 
 module _ (rules : Rules) (files : List Twice) where
   -- a file that names nobody
-  pub roster_skip : (end : ℕ) (journals : List (Option Journal)) (first : Option Named) (mismatch : Option Mismatch) → IsRoster rules files end journals first mismatch → ((n : Named) → n.place ≡ end → Names rules files n → ⊥) → IsRoster rules files (end + 1) journals first mismatch
+  pub roster_skip : (end : ℕ) (journals : List (Option Journal)) (first : Option Named) (mismatch : Option Mismatch)
+      → IsRoster rules files end journals first mismatch → ((n : Named) → n.place ≡ end → Names rules files n → ⊥)
+      → IsRoster rules files (end + 1) journals first mismatch
   roster_skip end journals first mismatch is none =
-      let below = λ (n : Named) (within : n.place < end + 1) (names : Names rules files n). let it : n.place < end = earlier_place n.place end within (λ at. none n at names) in it in
+      let below = λ (n : Named) (within : n.place < end + 1) (names : Names rules files n). let it : n.place < end =
+          earlier_place n.place end within (λ at. none n at names) in it in
       record {
         nobody = λ empty n within names. is.nobody empty n (below n within names) names;
         somebody = λ a some. let it = is.somebody a some in (it.0, omega (arith, it.1));
@@ -132,7 +148,8 @@ module _ (rules : Rules) (files : List Twice) where
       earlier_place : (i k : ℕ) → i < k + 1 → (i ≡ k → ⊥) → i < k
       earlier_place i k within apart = omega (arith, within, apart)
 
-  module _ (n : Named) (before after : List (Option Journal)) (first : Option Named) (mismatch : Option Mismatch) (is : IsRoster rules files n.place before first mismatch) (names : Names rules files n)
+  module _ (n : Named) (before after : List (Option Journal)) (first : Option Named) (mismatch : Option Mismatch)
+      (is : IsRoster rules files n.place before first mismatch) (names : Names rules files n)
       (put : (p : ℕ) → 1 ≤ p → all_named after p ≡ named_or (all_named before p) (n.player.number == p) n) where
     next_somebody : (a : Named) → Some (unwrap_or first n) ≡ Some a → Names rules files a × (a.place < n.place + 1)
     next_somebody a some = ⊎_elim
@@ -143,16 +160,20 @@ module _ (rules : Rules) (files : List Twice) where
     next_seats : (p : ℕ) (a : Named) → 1 ≤ p → all_named after p ≡ Some a → Names rules files a × (a.place < n.place + 1) × (a.player.number ≡ p)
     next_seats p a from at = ⊎_elim
         (λ old. let it = is.seats p a from old in (it.0, omega (arith, it.1), it.2))
-        (λ new. subst (λ (m : Named). Names rules files m × (m.place < n.place + 1) × (m.player.number ≡ p)) new.2 (names, omega arith, eqb-true n.player.number p new.1))
+        (λ new. subst (λ (m : Named). Names rules files m × (m.place < n.place + 1) × (m.player.number ≡ p)) new.2
+            (names, omega arith, eqb-true n.player.number p new.1))
         (named_or_cases (all_named before p) (n.player.number == p) n a (sym (put p from) ∙ at))
 
-    next_clash : (why : Mismatch) → earlier_mismatch mismatch (clash_of first (all_named before n.player.number) n) ≡ Some why → IsMismatch rules files why
+    next_clash : (why : Mismatch) → earlier_mismatch mismatch (clash_of first (all_named before n.player.number) n) ≡ Some why
+        → IsMismatch rules files why
     next_clash why at = ⊎_elim
         (is.clash why)
-        (λ new. clash_is rules files n first (all_named before n.player.number) why is.somebody (λ b some. is.seats n.player.number b n.player.from_one some) names new)
+        (λ new. clash_is rules files n first (all_named before n.player.number) why is.somebody
+            (λ b some. is.seats n.player.number b n.player.from_one some) names new)
         (earlier_some mismatch (clash_of first (all_named before n.player.number) n) why at)
 
-    next_rooms : earlier_mismatch mismatch (clash_of first (all_named before n.player.number) n) ≡ None → (a m : Named) → Some (unwrap_or first n) ≡ Some a → m.place < n.place + 1 → Names rules files m → m.room ≡ a.room
+    next_rooms : earlier_mismatch mismatch (clash_of first (all_named before n.player.number) n) ≡ None → (a m : Named)
+        → Some (unwrap_or first n) ≡ Some a → m.place < n.place + 1 → Names rules files m → m.room ≡ a.room
     next_rooms none a m some within has =
         let free = earlier_none mismatch (clash_of first (all_named before n.player.number) n) none in
         let clear = no_clash first (all_named before n.player.number) n free.1 in
@@ -168,7 +189,8 @@ module _ (rules : Rules) (files : List Twice) where
         (first_cases first n a some))
         (at_or_below m.place n.place within)
 
-    next_players : earlier_mismatch mismatch (clash_of first (all_named before n.player.number) n) ≡ None → (m : Named) → m.place < n.place + 1 → Names rules files m → (a : Named) × (all_named after m.player.number ≡ Some a) × (a.place ≡ m.place)
+    next_players : earlier_mismatch mismatch (clash_of first (all_named before n.player.number) n) ≡ None → (m : Named)
+        → m.place < n.place + 1 → Names rules files m → (a : Named) × (all_named after m.player.number ≡ Some a) × (a.place ≡ m.place)
     next_players none m within has =
         let free = earlier_none mismatch (clash_of first (all_named before n.player.number) n) none in
         let clear = no_clash first (all_named before n.player.number) n free.1 in
@@ -177,14 +199,17 @@ module _ (rules : Rules) (files : List Twice) where
         let number = (names_same rules files m n has names at).0 in
         let empty : all_named before m.player.number ≡ None = ap (all_named before) number ∙ clear.0 in
         let test : (n.player.number == m.player.number) ≡ true = eq-eqb n.player.number m.player.number (sym number) in
-        (n, put m.player.number m.player.from_one ∙ ap (λ (o : Option Named). named_or o (n.player.number == m.player.number) n) empty ∙ ap (λ (b : Bool). named_or None b n) test, sym at))
+        (n, put m.player.number m.player.from_one ∙ ap (λ (o : Option Named). named_or o (n.player.number == m.player.number) n) empty
+            ∙ ap (λ (b : Bool). named_or None b n) test, sym at))
         (λ below.
         let it = is.players free.0 m below has in
-        (it.0, put m.player.number m.player.from_one ∙ named_stays (all_named before m.player.number) (n.player.number == m.player.number) n it.0 it.1, it.2))
+        (it.0, put m.player.number m.player.from_one
+            ∙ named_stays (all_named before m.player.number) (n.player.number == m.player.number) n it.0 it.1, it.2))
         (at_or_below m.place n.place within)
 
     -- a file that names a player and a room
-    pub roster_next : IsRoster rules files (n.place + 1) after (Some (unwrap_or first n)) (earlier_mismatch mismatch (clash_of first (all_named before n.player.number) n))
+    pub roster_next : IsRoster rules files (n.place + 1) after (Some (unwrap_or first n))
+        (earlier_mismatch mismatch (clash_of first (all_named before n.player.number) n))
     roster_next = record {
       nobody = λ none. absurd cc;
       somebody = next_somebody;
@@ -200,14 +225,17 @@ module _ (rules : Rules) (files : List Twice) where
   place_within n names = slice_get_within files n.place names.file names.file_is
 
   -- without a journal at player 1's seat no file names player 1
-  pub lacks_one : (journals : List (Option Journal)) (first : Option Named) (mismatch : Option Mismatch) → IsRoster rules files (length files) journals first mismatch → mismatch ≡ None → all_named journals 1 ≡ None → IsMismatch rules files NoPlayerOne
+  pub lacks_one : (journals : List (Option Journal)) (first : Option Named) (mismatch : Option Mismatch)
+      → IsRoster rules files (length files) journals first mismatch → mismatch ≡ None → all_named journals 1 ≡ None
+      → IsMismatch rules files NoPlayerOne
   lacks_one journals first mismatch is free none n names one =
       let it = is.players free n (place_within n names) names in
       let wrong : None ≡ Some it.0 = sym none ∙ ap (all_named journals) (sym one) ∙ it.1 in
       absurd cc
 
   -- if no mismatch was found, there is none
-  pub matching : (journals : List (Option Journal)) (first : Option Named) (mismatch : Option Mismatch) → IsRoster rules files (length files) journals first mismatch → mismatch ≡ None → (one : Named) → all_named journals 1 ≡ Some one
+  pub matching : (journals : List (Option Journal)) (first : Option Named) (mismatch : Option Mismatch)
+      → IsRoster rules files (length files) journals first mismatch → mismatch ≡ None → (one : Named) → all_named journals 1 ≡ Some one
       → (why : Mismatch) → IsMismatch rules files why → ⊥
   matching journals first mismatch is free one at (SamePlayer a b) wrong =
       let x = is.players free a (place_within a wrong.0) wrong.0 in
@@ -217,7 +245,8 @@ module _ (rules : Rules) (files : List Twice) where
       let order = wrong.2 in
       omega (arith, places, order)
   matching journals None mismatch is free one at (TwoRooms a b) wrong = is.nobody refl a (place_within a wrong.0) wrong.0
-  matching journals (Some f) mismatch is free one at (TwoRooms a b) wrong = wrong.3 (is.rooms free f a refl (place_within a wrong.0) wrong.0 ∙ sym (is.rooms free f b refl (place_within b wrong.1) wrong.1))
+  matching journals (Some f) mismatch is free one at (TwoRooms a b) wrong =
+      wrong.3 (is.rooms free f a refl (place_within a wrong.0) wrong.0 ∙ sym (is.rooms free f b refl (place_within b wrong.1) wrong.1))
   matching journals first mismatch is free one at NoPlayerOne wrong =
       let it = is.seats 1 one (omega arith) at in
       wrong one it.0 it.2

@@ -8,7 +8,8 @@ use Rattle.c8_known.specs.checked.ConfirmedLaws.{confirmed_is, some_value}
 none : Keys
 none = record { 0 = 0 }
 
-set_of : (f : ℕ → ℕ) (place : ℕ) (d : Keys) → place < 4 → (slice_index_or (map (λ q. let keys : Keys = record { 0 = f q } in keys) (1 ∷ 2 ∷ 3 ∷ 4 ∷ [])) place d).0 ≡ f (place + 1)
+set_of : (f : ℕ → ℕ) (place : ℕ) (d : Keys) → place < 4
+    → (slice_index_or (map (λ q. let keys : Keys = record { 0 = f q } in keys) (1 ∷ 2 ∷ 3 ∷ 4 ∷ [])) place d).0 ≡ f (place + 1)
 set_of f zero d within = refl
 set_of f (suc zero) d within = refl
 set_of f (suc (suc zero)) d within = refl

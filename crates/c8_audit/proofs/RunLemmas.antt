@@ -19,12 +19,14 @@ row_more k frame =
     ∙ ap (λ (n : ℕ). rows_below k frame ++ row k n ∷ []) at
 
 -- the mark of one more frame
-pub have_more : (rules : Rules) (k : KnownValue) (frames : ℕ) (marks : List ℕ) (frame : ℕ) (machine : State) → machine ≡ serial rules (rows_below k frame)
+pub have_more : (rules : Rules) (k : KnownValue) (frames : ℕ) (marks : List ℕ) (frame : ℕ) (machine : State)
+    → machine ≡ serial rules (rows_below k frame)
     → HaveMarksBelow rules k frames marks frame → HasMark frames marks frame (mark_of machine) → HaveMarksBelow rules k frames marks (frame + 1)
 have_more rules k frames marks frame machine run before here at below =
     elim (cases_lt at frame) [
       | inl less ↦ before at less
       | inr more ↦
           let same : frame ≡ at = omega (arith, below, more) in
-          subst (λ (n : ℕ). HasMark frames marks n (mark_of (serial rules (rows_below k n)))) same (subst (λ (s : State). HasMark frames marks frame (mark_of s)) run here)
+          subst (λ (n : ℕ). HasMark frames marks n (mark_of (serial rules (rows_below k n)))) same
+              (subst (λ (s : State). HasMark frames marks frame (mark_of s)) run here)
     ]

@@ -21,7 +21,8 @@ up_to f g le = elim (cases_lt f g) [ inl less ↦ inl less | inr more ↦ inr (o
 -- ---- one player
 
 least_of_both : (question : Question) (all : AllSeen) (one n : ℕ) (least found : Fault) (first : Bool) → nat_le least.frame found.frame ≡ first
-    → IsLeastOf question all one n (Some least) → IsFirstOf question all one n (Some found) → IsLeastOf question all one (n + 1) (if first then Some least else Some found)
+    → IsLeastOf question all one n (Some least) → IsFirstOf question all one n (Some found)
+    → IsLeastOf question all one (n + 1) (if first then Some least else Some found)
 least_of_both question all one n least found true test before now =
     let order = leb-true least.frame found.frame test in
     let inside = before.1 in (
@@ -42,17 +43,20 @@ least_of_both question all one n least found false test before now =
       omega (arith, at),
       subst (λ (x : ℕ). IsFault question all found.frame one x) (sym at) now.2,
       λ frame other below fault. ⊎_elim
-          (λ less. inl (⊎_elim (λ earlier. omega (arith, earlier, order)) (λ same. let frames = same.0 in omega (arith, frames, order)) (before.3 frame other less fault)))
+          (λ less. inl (⊎_elim (λ earlier. omega (arith, earlier, order)) (λ same. let frames = same.0 in omega (arith, frames, order))
+              (before.3 frame other less fault)))
           (λ here.
           let after = now.3 frame (subst (λ (x : ℕ). IsFault question all frame one x) here fault) in
           ⊎_elim (λ less. inl less) (λ same. inr (same, omega (arith, at, here))) (up_to found.frame frame after))
           (below_next other n below),
     )
 
-pub least_of_next : (question : Question) (all : AllSeen) (one n : ℕ) (least found : Option Fault) → IsLeastOf question all one n least → IsFirstOf question all one n found
+pub least_of_next : (question : Question) (all : AllSeen) (one n : ℕ) (least found : Option Fault) → IsLeastOf question all one n least
+    → IsFirstOf question all one n found
     → IsLeastOf question all one (n + 1) (earlier_of least found)
 least_of_next question all one n None None before now =
-    λ frame other below fault. ⊎_elim (λ less. before frame other less fault) (λ here. now frame (subst (λ (x : ℕ). IsFault question all frame one x) here fault)) (below_next other n below)
+    λ frame other below fault. ⊎_elim (λ less. before frame other less fault)
+        (λ here. now frame (subst (λ (x : ℕ). IsFault question all frame one x) here fault)) (below_next other n below)
 least_of_next question all one n None (Some found) before now =
     let at = now.1 in (
       now.0,
@@ -75,12 +79,14 @@ least_of_next question all one n (Some least) None before now =
           (λ here. absurd (now frame (subst (λ (x : ℕ). IsFault question all frame one x) here fault)))
           (below_next other n below),
     )
-least_of_next question all one n (Some least) (Some found) before now = least_of_both question all one n least found (nat_le least.frame found.frame) refl before now
+least_of_next question all one n (Some least) (Some found) before now =
+    least_of_both question all one n least found (nat_le least.frame found.frame) refl before now
 
 -- ---- all players
 
 -- a least fault of one player comes up to any other fault of that player
-up_to_own : (one other frame' other' : ℕ) (frame : ℕ) → (frame < frame') ⊎ ((frame ≡ frame') × (other ≤ other')) → IsUpTo frame one other frame' one other'
+up_to_own : (one other frame' other' : ℕ) (frame : ℕ) → (frame < frame') ⊎ ((frame ≡ frame') × (other ≤ other'))
+    → IsUpTo frame one other frame' one other'
 up_to_own one other frame' other' frame (inl less) = inl less
 up_to_own one other frame' other' frame (inr same) = inr (same.0, inr (refl, same.1))
 
@@ -119,11 +125,14 @@ own_up_to question all n found five now frame one other here fault =
     (up_to_own one found.other.number frame other found.frame
     (now.3 frame other (five.other frame one other fault) (subst (λ (x : ℕ). IsFault question all frame x other) here fault)))
 
-found_is : (question : Question) (all : AllSeen) (n : ℕ) (found : Fault) → IsLeastOf question all n 5 (Some found) → IsFault question all found.frame found.one.number found.other.number
+found_is : (question : Question) (all : AllSeen) (n : ℕ) (found : Fault) → IsLeastOf question all n 5 (Some found)
+    → IsFault question all found.frame found.one.number found.other.number
 found_is question all n found now = subst (λ (x : ℕ). IsFault question all found.frame x found.other.number) (sym now.0) now.2
 
-below_both : (question : Question) (all : AllSeen) (n : ℕ) (least found : Fault) (first : Bool) → AreBelowFive question all → nat_le least.frame found.frame ≡ first
-    → IsLeastBelow question all n (Some least) → IsLeastOf question all n 5 (Some found) → IsLeastBelow question all (n + 1) (if first then Some least else Some found)
+below_both : (question : Question) (all : AllSeen) (n : ℕ) (least found : Fault) (first : Bool) → AreBelowFive question all
+    → nat_le least.frame found.frame ≡ first
+    → IsLeastBelow question all n (Some least) → IsLeastOf question all n 5 (Some found)
+    → IsLeastBelow question all (n + 1) (if first then Some least else Some found)
 below_both question all n least found true five test before now =
     let order = leb-true least.frame found.frame test in
     let inside = before.0 in (
@@ -132,7 +141,8 @@ below_both question all n least found true five test before now =
       λ frame one other below fault. ⊎_elim
           (λ less. before.2 frame one other less fault)
           (λ here.
-          let after = frames_up_to found.frame found.one.number found.other.number frame one other (own_up_to question all n found five now frame one other here fault) in
+          let after = frames_up_to found.frame found.one.number found.other.number frame one other
+              (own_up_to question all n found five now frame one other here fault) in
           up_to_next least.frame least.one.number least.other.number frame one other (omega (arith, order, after)) (omega (arith, inside, here)))
           (below_next one n below),
     )
@@ -142,12 +152,14 @@ below_both question all n least found false five test before now =
       omega (arith, at),
       found_is question all n found now,
       λ frame one other below fault. ⊎_elim
-          (λ less. inl (let after = frames_up_to least.frame least.one.number least.other.number frame one other (before.2 frame one other less fault) in omega (arith, order, after)))
+          (λ less. inl (let after = frames_up_to least.frame least.one.number least.other.number frame one other
+              (before.2 frame one other less fault) in omega (arith, order, after)))
           (λ here. own_up_to question all n found five now frame one other here fault)
           (below_next one n below),
     )
 
-pub below_more : (question : Question) (all : AllSeen) (n : ℕ) (least found : Option Fault) → AreBelowFive question all → IsLeastBelow question all n least → IsLeastOf question all n 5 found
+pub below_more : (question : Question) (all : AllSeen) (n : ℕ) (least found : Option Fault) → AreBelowFive question all
+    → IsLeastBelow question all n least → IsLeastOf question all n 5 found
     → IsLeastBelow question all (n + 1) (earlier_of least found)
 below_more question all n None None five before now =
     λ frame one other below fault. ⊎_elim
@@ -172,9 +184,12 @@ below_more question all n (Some least) None five before now =
           (λ here. absurd (now frame other (five.other frame one other fault) (subst (λ (x : ℕ). IsFault question all frame x other) here fault)))
           (below_next one n below),
     )
-below_more question all n (Some least) (Some found) five before now = below_both question all n least found (nat_le least.frame found.frame) five refl before now
+below_more question all n (Some least) (Some found) five before now =
+    below_both question all n least found (nat_le least.frame found.frame) five refl before now
 
 -- the least of all players below 5 is the least of all
-pub least_at_end : (question : Question) (all : AllSeen) (least : Option Fault) → AreBelowFive question all → IsLeastBelow question all 5 least → IsLeast question all least
+pub least_at_end : (question : Question) (all : AllSeen) (least : Option Fault) → AreBelowFive question all
+    → IsLeastBelow question all 5 least → IsLeast question all least
 least_at_end question all None five before = λ frame one other fault. before frame one other (five.one frame one other fault) fault
-least_at_end question all (Some least) five before = (before.1, λ frame one other fault. before.2 frame one other (five.one frame one other fault) fault)
+least_at_end question all (Some least) five before =
+    (before.1, λ frame one other fault. before.2 frame one other (five.one frame one other fault) fault)

@@ -1,5 +1,6 @@
 -- What is gathered, file by file.
-use Rattle.std.proofs.Common.{◌≡◌, ◌≢◌, ℕ, zero, suc, ◌+◌, ◌-◌, ◌^◌, ◌<◌, ◌≤◌, inl, inr, ⊎_elim, List, [], ◌∷◌, length, length-take, map, take, true, false, Option, Some, None, refl, sym, ap, subst, ◌∙◌, arith, eq-eqb}
+use Rattle.std.proofs.Common.{◌≡◌, ◌≢◌, ℕ, zero, suc, ◌+◌, ◌-◌, ◌^◌, ◌<◌, ◌≤◌, inl, inr, ⊎_elim, List, [], ◌∷◌, length, length-take, map,
+  take, true, false, Option, Some, None, refl, sym, ap, subst, ◌∙◌, arith, eq-eqb}
 use Rattle.std.specs.Prelude.{◌==◌, option_map, unwrap_or}
 use Rattle.std.specs.List.{slice_get, count_by}
 use Rattle.std.proofs.lemmas.Bool.Decides.{eqb_tells}
@@ -27,13 +28,18 @@ use Rattle.c8_audit.specs.declared.journal.Named.{Named}
 count_few : (files : List Twice) (i : ℕ) → count_by keeps_nothing (take i files) ≤ i
 count_few files i = omega (arith, count_by-le-length keeps_nothing (take i files), length-take i files)
 
-count_yes : (files : List Twice) (i : ℕ) (file : Twice) → slice_get files i ≡ Some file → keeps_nothing file ≡ true → count_by keeps_nothing (take (i + 1) files) ≡ count_by keeps_nothing (take i files) + 1
-count_yes files i file at empty_it = count_by_more_yes keeps_nothing files i file (slice_get_within files i file at) (ap keeps_nothing (get_or_from_slice_get files i file file at) ∙ empty_it)
+count_yes : (files : List Twice) (i : ℕ) (file : Twice) → slice_get files i ≡ Some file → keeps_nothing file ≡ true
+    → count_by keeps_nothing (take (i + 1) files) ≡ count_by keeps_nothing (take i files) + 1
+count_yes files i file at empty_it = count_by_more_yes keeps_nothing files i file (slice_get_within files i file at)
+    (ap keeps_nothing (get_or_from_slice_get files i file file at) ∙ empty_it)
 
-count_no : (files : List Twice) (i : ℕ) (file : Twice) → slice_get files i ≡ Some file → keeps_nothing file ≡ false → count_by keeps_nothing (take (i + 1) files) ≡ count_by keeps_nothing (take i files)
-count_no files i file at keeps_it = count_by_more_no keeps_nothing files i file (slice_get_within files i file at) (ap keeps_nothing (get_or_from_slice_get files i file file at) ∙ keeps_it)
+count_no : (files : List Twice) (i : ℕ) (file : Twice) → slice_get files i ≡ Some file → keeps_nothing file ≡ false
+    → count_by keeps_nothing (take (i + 1) files) ≡ count_by keeps_nothing (take i files)
+count_no files i file at keeps_it = count_by_more_no keeps_nothing files i file (slice_get_within files i file at)
+    (ap keeps_nothing (get_or_from_slice_get files i file file at) ∙ keeps_it)
 
-sound_next : (rules : Rules) (files : List Twice) (end : ℕ) (file : Twice) → AreSoundBelow rules files end → slice_get files end ≡ Some file → IsSound rules file → AreSoundBelow rules files (end + 1)
+sound_next : (rules : Rules) (files : List Twice) (end : ℕ) (file : Twice) → AreSoundBelow rules files end → slice_get files end ≡ Some file
+    → IsSound rules file → AreSoundBelow rules files (end + 1)
 sound_next rules files end file sound at here n other within is =
     elim (eqb_tells n end) [
       | inl yes_it ↦
@@ -46,50 +52,67 @@ file_at : (f : Twice → List ℕ) (files : List Twice) (i : ℕ) (file : Twice)
 file_at f files i file at = slice_get-map f files i ∙ ap (option_map f) at
 
 evidence_next : (rules : Rules) (files : List Twice) (place : ℕ) (file : Twice) (journals : List (Option Journal)) → slice_get files place ≡ Some file
-    → IsGathered rules (with_file (evidence_in (take place (map first_bytes files)) (take place (map later_bytes files))) (first_bytes file) (later_bytes file)) journals
+    → IsGathered rules (with_file (evidence_in (take place (map first_bytes files)) (take place (map later_bytes files))) (first_bytes file)
+    (later_bytes file)) journals
     → IsGathered rules (evidence_in (take (place + 1) (map first_bytes files)) (take (place + 1) (map later_bytes files))) journals
 evidence_next rules files place file journals at is =
-    gathered_next rules (map first_bytes files) (map later_bytes files) place (first_bytes file) (later_bytes file) journals (file_at first_bytes files place file at) (file_at later_bytes files place file at)
+    gathered_next rules (map first_bytes files) (map later_bytes files) place (first_bytes file) (later_bytes file) journals
+        (file_at first_bytes files place file at) (file_at later_bytes files place file at)
     (length-map files first_bytes ∙ sym (length-map files later_bytes)) is
 
 -- a file without a record
-pub sorted_skip : (rules : Rules) (files : List Twice) (place : ℕ) (file : Twice) (g : Gathered) (empty : ℕ) → slice_get files place ≡ Some file → length (kept (first_bytes file)) ≡ 0 → length files < 2 ^ 64
-    → (g.empty + 1 < 2 ^ 64 → empty ≡ g.empty + 1) → IsSorted rules files place g → IsSorted rules files (place + 1) (record { journals = g.journals; empty = empty; first = g.first; mismatch = g.mismatch })
+pub sorted_skip : (rules : Rules) (files : List Twice) (place : ℕ) (file : Twice) (g : Gathered) (empty : ℕ)
+    → slice_get files place ≡ Some file → length (kept (first_bytes file)) ≡ 0 → length files < 2 ^ 64
+    → (g.empty + 1 < 2 ^ 64 → empty ≡ g.empty + 1) → IsSorted rules files place g
+    → IsSorted rules files (place + 1) (record { journals = g.journals; empty = empty; first = g.first; mismatch = g.mismatch })
 sorted_skip rules files place file g empty at none few counts is =
     let empty_it : keeps_nothing file ≡ true = eq-eqb (length (kept (first_bytes file))) 0 none in
     let within : place < length files = slice_get_within files place file at in
     let at_most : g.empty ≤ place = let so = is.empty in omega (arith, so, count_few files place) in
     record {
-      gathered = evidence_next rules files place file g.journals at (nobody_in rules (evidence_in (take place (map first_bytes files)) (take place (map later_bytes files))) (first_bytes file) (later_bytes file) g.journals none is.gathered);
+      gathered = evidence_next rules files place file g.journals at
+          (nobody_in rules (evidence_in (take place (map first_bytes files)) (take place (map later_bytes files))) (first_bytes file)
+          (later_bytes file) g.journals none is.gathered);
       sound = sound_next rules files place file is.sound at (inl empty_it);
       empty = counts (omega (arith, at_most, within, few)) ∙ ap (λ (n : ℕ). n + 1) is.empty ∙ sym (count_yes files place file at empty_it);
-      roster = roster_skip rules files place g.journals g.first g.mismatch is.roster (λ n here. names_nothing rules files file n (ap (slice_get files) here ∙ at) none);
+      roster = roster_skip rules files place g.journals g.first g.mismatch is.roster
+          (λ n here. names_nothing rules files file n (ap (slice_get files) here ∙ at) none);
     }
 
 -- a file with a journal
-pub sorted_next : (rules : Rules) (files : List Twice) (place : ℕ) (file : Twice) (g : Gathered) (after : List (Option Journal)) (j : Journal) → slice_get files place ≡ Some file → length (kept (first_bytes file)) ≢ 0
-    → IsReadTwice rules j.named.room j.first.me (readings_of (first_bytes file) (later_bytes file)) → seen j ≡ seen_of rules j.first.me (readings_of (first_bytes file) (later_bytes file))
-    → names_player j.first.me (records_of (kept (first_bytes file))) ≡ true → BeginsWithHead (kept (first_bytes file)) j.named.player.number (id_of rules) j.named.room → j.named.place ≡ place → j.named.player.number ≡ j.first.me
+pub sorted_next : (rules : Rules) (files : List Twice) (place : ℕ) (file : Twice) (g : Gathered) (after : List (Option Journal))
+    (j : Journal) → slice_get files place ≡ Some file → length (kept (first_bytes file)) ≢ 0
+    → IsReadTwice rules j.named.room j.first.me (readings_of (first_bytes file) (later_bytes file))
+    → seen j ≡ seen_of rules j.first.me (readings_of (first_bytes file) (later_bytes file))
+    → names_player j.first.me (records_of (kept (first_bytes file))) ≡ true
+    → BeginsWithHead (kept (first_bytes file)) j.named.player.number (id_of rules) j.named.room → j.named.place ≡ place
+    → j.named.player.number ≡ j.first.me
     → IsPut g.journals after j → IsSorted rules files place g
     → IsSorted rules files (place + 1)
-    (record { journals = after; empty = g.empty; first = Some (unwrap_or g.first j.named); mismatch = earlier_mismatch g.mismatch (clash_of g.first (all_named g.journals j.named.player.number) j.named) })
+    (record { journals = after; empty = g.empty; first = Some (unwrap_or g.first j.named);
+        mismatch = earlier_mismatch g.mismatch (clash_of g.first (all_named g.journals j.named.player.number) j.named) })
 sorted_next rules files place file g after j at some read same names head here mine put is =
-    let keeps_it : keeps_nothing file ≡ false = ⊎_elim (λ yes_it. absurd (some yes_it.1)) (λ no_it. no_it.0) (eqb_tells (length (kept (first_bytes file))) 0) in
+    let keeps_it : keeps_nothing file ≡ false =
+        ⊎_elim (λ yes_it. absurd (some yes_it.1)) (λ no_it. no_it.0) (eqb_tells (length (kept (first_bytes file))) 0) in
     let named : Names rules files j.named = record { file = file; file_is = ap (slice_get files) here ∙ at; head = head } in
-    let before : IsRoster rules files j.named.place g.journals g.first g.mismatch = subst (λ (n : ℕ). IsRoster rules files n g.journals g.first g.mismatch) (sym here) is.roster in
+    let before : IsRoster rules files j.named.place g.journals g.first g.mismatch =
+        subst (λ (n : ℕ). IsRoster rules files n g.journals g.first g.mismatch) (sym here) is.roster in
     record {
       gathered = evidence_next rules files place file after at
-          (one_in rules (evidence_in (take place (map first_bytes files)) (take place (map later_bytes files))) (first_bytes file) (later_bytes file) g.journals after j j.named.room is.gathered read same names put.seen);
+          (one_in rules (evidence_in (take place (map first_bytes files)) (take place (map later_bytes files))) (first_bytes file)
+              (later_bytes file) g.journals after j j.named.room is.gathered read same names put.seen);
       sound = sound_next rules files place file is.sound at (inr (j.named.room, j.first.me, read));
       empty = is.empty ∙ sym (count_no files place file at keeps_it);
-      roster = subst (λ (n : ℕ). IsRoster rules files (n + 1) after (Some (unwrap_or g.first j.named)) (earlier_mismatch g.mismatch (clash_of g.first (all_named g.journals j.named.player.number) j.named))) here
+      roster = subst (λ (n : ℕ). IsRoster rules files (n + 1) after (Some (unwrap_or g.first j.named))
+          (earlier_mismatch g.mismatch (clash_of g.first (all_named g.journals j.named.player.number) j.named))) here
           (roster_next rules files j.named g.journals after g.first g.mismatch before named
           (λ p one. put.named p one ∙ ap (λ (q : ℕ). named_or (all_named g.journals p) (q == p) j.named) (sym mine)));
     }
 
 -- ---- all files
 
-pub sorted_none : (rules : Rules) (files : List Twice) → IsSorted rules files 0 (record { journals = None ∷ None ∷ None ∷ None ∷ []; empty = 0; first = None; mismatch = None })
+pub sorted_none : (rules : Rules) (files : List Twice)
+    → IsSorted rules files 0 (record { journals = None ∷ None ∷ None ∷ None ∷ []; empty = 0; first = None; mismatch = None })
 sorted_none rules files = record {
   gathered = gathered_none rules;
   sound = λ n file within at. absurd (omega (arith, within));
@@ -112,7 +135,8 @@ sorted_none rules files = record {
     nobody_named (suc (suc (suc (suc n)))) = refl
 
 module _ (rules : Rules) (files : List Twice) (g : Gathered) (is : IsSorted rules files (length files) g) where
-  pub all_gathered : rules.players ≤ 4 → (one : Named) → all_named g.journals 1 ≡ Some one → AreGathered rules (evidence_in (map first_bytes files) (map later_bytes files)) g.journals
+  pub all_gathered : rules.players ≤ 4 → (one : Named) → all_named g.journals 1 ≡ Some one
+      → AreGathered rules (evidence_in (map first_bytes files) (map later_bytes files)) g.journals
   all_gathered four one at =
       let firsts : List (List ℕ) = map first_bytes files in
       let laters : List (List ℕ) = map later_bytes files in
@@ -120,7 +144,8 @@ module _ (rules : Rules) (files : List Twice) (g : Gathered) (is : IsSorted rule
       let others : take (length files) laters ≡ laters = take_all (length files) laters (omega (arith, length-map files later_bytes)) in
       let here = seen_at_seat (slice_get g.journals 0) one at in
       gathered_all rules (evidence_in firsts laters) g.journals four
-      (subst (λ (xs : List (List ℕ)). IsGathered rules (evidence_in xs laters) g.journals) all (subst (λ (ys : List (List ℕ)). IsGathered rules (evidence_in (take (length files) firsts) ys) g.journals) others is.gathered))
+      (subst (λ (xs : List (List ℕ)). IsGathered rules (evidence_in xs laters) g.journals) all
+          (subst (λ (ys : List (List ℕ)). IsGathered rules (evidence_in (take (length files) firsts) ys) g.journals) others is.gathered))
       (seen here.0) here.1
 
   pub all_one_match : g.mismatch ≡ None → (one : Named) → all_named g.journals 1 ≡ Some one → AreOneMatch rules files

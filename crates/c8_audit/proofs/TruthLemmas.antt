@@ -13,7 +13,8 @@ some_same : {X : Type 0} (x y : X) → Some x ≡ Some y → x ≡ y
 some_same x y same = cc
 
 -- the last checkpoint is true, if it is
-pub true_at : (rules : Rules) (s : Seen) (from : Origin) (b : Bool) → Some from ≡ s.last → (b ≡ true) ↔ IsOnTheWay rules s.first from → (b ≡ true) ↔ IsTrueAt rules (Some s)
+pub true_at : (rules : Rules) (s : Seen) (from : Origin) (b : Bool) → Some from ≡ s.last → (b ≡ true) ↔ IsOnTheWay rules s.first from
+    → (b ≡ true) ↔ IsTrueAt rules (Some s)
 true_at rules s from b last is = (
   λ yes other at. subst (λ (o : Origin). IsOnTheWay rules s.first o) (some_same from other (last ∙ at)) (is.0 yes),
   λ holds. is.1 (holds from (sym last)),
@@ -24,7 +25,8 @@ pub true_at_end : (rules : Rules) (all : AllSeen) → AreOfGame rules all → ((
 true_at_end rules all of_game holds p s given from last =
     let four = of_game.at_most_four in
     let within = of_game.players p s given in
-    let here : IsTrueAt rules (Some s) = subst (λ (o : Option Seen). IsTrueAt rules o) given.is (holds p given.from_one (omega (arith, four, within))) in
+    let here : IsTrueAt rules (Some s) = subst (λ (o : Option Seen). IsTrueAt rules o) given.is
+        (holds p given.from_one (omega (arith, four, within))) in
     here from last
 
 -- a checkpoint that is not true is no fault of a player before, if those before are true

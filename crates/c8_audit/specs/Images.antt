@@ -71,7 +71,8 @@ IsUnreadLater rules room first later (Journal error) = IsRefusalOfJournal rules 
 IsUnreadLater rules room first later Changed = Begins (kept first) (kept later) → ⊥
 
 abbrev pub IsUnreadAgain : Rules → List ℕ → List ℕ → Unread → Type 0
-IsUnreadAgain rules first later why = (player room : ℕ) × BeginsWithHead (kept first) player (id_of rules) room × IsUnreadLater rules room first later why
+IsUnreadAgain rules first later why = (player room : ℕ) × BeginsWithHead (kept first) player (id_of rules) room
+    × IsUnreadLater rules room first later why
 
 -- why a file is at fault: the first reading is refused; or it is not, and the second one is refused, in the room that the
 -- first one names

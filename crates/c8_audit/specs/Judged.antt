@@ -30,7 +30,8 @@ pub record TellOneStory (rules : Rules) (e : Evidence) (earlier later : World) :
   pub entered : (p q frame : ℕ) (by own : Readings) → e p ≡ Some by → e q ≡ Some own → frame < confirmed (known_by rules earlier p)
       → IsEntered rules later q frame (input_of (player_in (known_by rules earlier p) q) frame)
   pub checks : (p : ℕ) (by : Readings) → e p ≡ Some by → HasTrueLast rules p (journal_of earlier p)
-  pub agree : (p r : ℕ) (one other : Readings) → e p ≡ Some one → e r ≡ Some other → IsUndropped later p → IsUndropped later r → AgreeUpTo rules earlier earlier p r
+  pub agree : (p r : ℕ) (one other : Readings) → e p ≡ Some one → e r ≡ Some other → IsUndropped later p → IsUndropped later r
+      → AgreeUpTo rules earlier earlier p r
 
 -- in all worlds whose journals these readings are
 abbrev pub AlwaysTellOneStory : Rules → Evidence → Type 0

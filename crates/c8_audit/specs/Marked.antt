@@ -12,7 +12,8 @@ use Rattle.c8_audit.specs.Journals.{Seen}
 
 -- These bytes are the marks after `frames` frames. If they have a mark for `frame`, it is this one.
 abbrev pub HasMark : ℕ → List ℕ → ℕ → List ℕ → Type 0
-HasMark frames marks frame mark = (k : ℕ) → k < marks_after frames → mark_step * (forgotten_after frames + k) ≡ frame → take mark_length (drop (mark_length * k) marks) ≡ mark
+HasMark frames marks frame mark = (k : ℕ) → k < marks_after frames → mark_step * (forgotten_after frames + k) ≡ frame
+    → take mark_length (drop (mark_length * k) marks) ≡ mark
 
 -- the marks for frames below a number are those of the serial run
 abbrev pub HaveMarksBelow : Rules → KnownValue → ℕ → List ℕ → ℕ → Type 0

@@ -19,27 +19,31 @@ IsFault Agreed all frame one other = IsDifference all frame one other
 -- the first frame in which the answer for two players is no; none, if there is no such frame
 abbrev pub IsFirstFrame : Question → AllSeen → ℕ → ℕ → Option ℕ → Type 0
 IsFirstFrame question all one other None = (frame : ℕ) → IsFault question all frame one other → ⊥
-IsFirstFrame question all one other (Some first) = IsFault question all first one other × ((frame : ℕ) → IsFault question all frame one other → first ≤ frame)
+IsFirstFrame question all one other (Some first) =
+    IsFault question all first one other × ((frame : ℕ) → IsFault question all frame one other → first ≤ frame)
 
 -- the first fault of two players
 abbrev pub IsFirstOf : Question → AllSeen → ℕ → ℕ → Option Fault → Type 0
 IsFirstOf question all one other None = (frame : ℕ) → IsFault question all frame one other → ⊥
 IsFirstOf question all one other (Some first) =
-    (first.one.number ≡ one) × (first.other.number ≡ other) × IsFault question all first.frame one other × ((frame : ℕ) → IsFault question all frame one other → first.frame ≤ frame)
+    (first.one.number ≡ one) × (first.other.number ≡ other) × IsFault question all first.frame one other
+        × ((frame : ℕ) → IsFault question all frame one other → first.frame ≤ frame)
 
 -- the least fault of a player with other players below a number
 abbrev pub IsLeastOf : Question → AllSeen → ℕ → ℕ → Option Fault → Type 0
 IsLeastOf question all one end None = (frame other : ℕ) → other < end → IsFault question all frame one other → ⊥
 IsLeastOf question all one end (Some least) =
     (least.one.number ≡ one) × (least.other.number < end) × IsFault question all least.frame one least.other.number
-    × ((frame other : ℕ) → other < end → IsFault question all frame one other → (least.frame < frame) ⊎ ((least.frame ≡ frame) × (least.other.number ≤ other)))
+    × ((frame other : ℕ) → other < end → IsFault question all frame one other
+    → (least.frame < frame) ⊎ ((least.frame ≡ frame) × (least.other.number ≤ other)))
 
 -- the least fault of all players below a number
 abbrev pub IsLeastBelow : Question → AllSeen → ℕ → Option Fault → Type 0
 IsLeastBelow question all end None = (frame one other : ℕ) → one < end → IsFault question all frame one other → ⊥
 IsLeastBelow question all end (Some least) =
     (least.one.number < end) × IsFault question all least.frame least.one.number least.other.number
-    × ((frame one other : ℕ) → one < end → IsFault question all frame one other → IsUpTo least.frame least.one.number least.other.number frame one other)
+    × ((frame one other : ℕ) → one < end → IsFault question all frame one other
+    → IsUpTo least.frame least.one.number least.other.number frame one other)
 
 -- the least fault of all
 abbrev pub IsLeast : Question → AllSeen → Option Fault → Type 0

@@ -82,7 +82,8 @@ IsNoGame text fault = (error : GameError) × IsRefused text error × (fault ≡ 
 -- Why nothing is judged: a file or memory is missing, the text spells no game, or the readings of the files are refused.
 abbrev pub IsUnjudged : AuditFault → Type 0
 IsUnjudged fault =
-    IsWithout fault ⊎ ((text : List ℕ) × IsNoGame text fault) ⊎ ((text : List ℕ) × (rules : Rules) × (files : List Twice) × Spells text rules × AreRefused rules files fault)
+    IsWithout fault ⊎ ((text : List ℕ) × IsNoGame text fault)
+        ⊎ ((text : List ℕ) × (rules : Rules) × (files : List Twice) × Spells text rules × AreRefused rules files fault)
 
 -- a text spells a game, and readings of files are judged by it
 abbrev pub HasJudged : Result Verdicts AuditFault → Type 0
@@ -92,4 +93,5 @@ HasJudged outcome = (text : List ℕ) × (rules : Rules) × (files : List Twice)
 -- nothing is judged, decides.
 abbrev pub HasAudited : Status → Type 0
 HasAudited status =
-    (outcome : Result Verdicts AuditFault) × (HasJudged outcome ⊎ ((fault : AuditFault) × IsUnjudged fault × (outcome ≡ Err fault))) × (status ≡ status_of_outcome audit_part outcome)
+    (outcome : Result Verdicts AuditFault) × (HasJudged outcome ⊎ ((fault : AuditFault) × IsUnjudged fault × (outcome ≡ Err fault)))
+        × (status ≡ status_of_outcome audit_part outcome)

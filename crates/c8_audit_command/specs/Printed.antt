@@ -12,7 +12,8 @@ line [] = 10 ∷ []
 line (part ∷ parts) = part ++ line parts
 
 abbrev pub entered_text : Option Fault → List ℕ
-entered_text (Some fault) = line (codes "entered no " ∷ decimal fault.one.number ∷ codes " " ∷ decimal fault.frame ∷ codes " " ∷ decimal fault.other.number ∷ [])
+entered_text (Some fault) = line (codes "entered no " ∷ decimal fault.one.number ∷ codes " " ∷ decimal fault.frame ∷ codes " " ∷ decimal
+    fault.other.number ∷ [])
 entered_text None = codes "entered yes\n"
 
 -- the record that ends the player's last checkpoint has this number
@@ -21,7 +22,8 @@ checks_text (Some player) check = line (codes "checks no " ∷ decimal player.nu
 checks_text None check = codes "checks yes\n"
 
 abbrev pub agree_text : Option Fault → ℕ → List ℕ
-agree_text (Some fault) count = line (codes "agree no " ∷ decimal fault.frame ∷ codes " " ∷ decimal fault.one.number ∷ codes " " ∷ decimal fault.other.number ∷ [])
+agree_text (Some fault) count = line (codes "agree no " ∷ decimal fault.frame ∷ codes " " ∷ decimal fault.one.number ∷ codes " " ∷ decimal
+    fault.other.number ∷ [])
 agree_text None count = line (codes "agree yes " ∷ decimal count ∷ [])
 
 abbrev pub verdicts_text : Verdicts → ℕ → List ℕ

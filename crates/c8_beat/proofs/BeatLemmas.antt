@@ -14,5 +14,6 @@ all_are_half counts last long =
     subst (λ (xs : List ℕ). sum counts ≤ 2 * sum xs) (sym all) (omega arith)
 
 -- so if no smaller number is enough, the last one is the least
-pub last_is_median : (counts : List ℕ) (last : ℕ) → length counts ≡ last + 1 → ((fewer : ℕ) → fewer < last → IsHalf counts fewer → ⊥) → IsMedian counts last
+pub last_is_median : (counts : List ℕ) (last : ℕ) → length counts ≡ last + 1 → ((fewer : ℕ) → fewer < last → IsHalf counts fewer → ⊥)
+    → IsMedian counts last
 last_is_median counts last long none = record { half = all_are_half counts last long; least = none }

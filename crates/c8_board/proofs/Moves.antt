@@ -1,5 +1,6 @@
 -- Each step keeps the board's invariant.
-use Rattle.std.proofs.Common.{◌≡◌, ◌≢◌, ◌⊎◌, bit_or, ℕ, zero, suc, ◌+◌, List, [], ◌∷◌, ◌++◌, set, false, true≢false, refl, sym, ap, ◌∙◌, subst, inl, inr, ⊎_elim, append-nil, append_assoc}
+use Rattle.std.proofs.Common.{◌≡◌, ◌≢◌, ◌⊎◌, bit_or, ℕ, zero, suc, ◌+◌, List, [], ◌∷◌, ◌++◌, set, false, true≢false, refl, sym, ap, ◌∙◌,
+  subst, inl, inr, ⊎_elim, append-nil, append_assoc}
 use Rattle.std.specs.Prelude.{slice_set, slice_index}
 use mathlib.Core.Option.{some, some-injective, some-ne-none}
 use lib.ListN.{get_elem?}
@@ -22,11 +23,14 @@ begins_more : (xs ys zs : List Row) → Begins xs ys → Begins ys zs → Begins
 begins_more xs ys zs a b = record { rest = a.rest ++ b.rest; is = b.is ∙ ap (λ (l : List Row). l ++ b.rest) a.is ∙ append_assoc xs a.rest b.rest }
 
 -- a viewer still fits after more is published
-fits_more : (game : Rules) (from : StartValue) (old rows : List Row) (stop : ℕ) (w : Watch) → Begins old rows → FitsWatch game from old stop w → FitsWatch game from rows stop w
-fits_more game from old rows stop w later fits = record { game_is = fits.game_is; from_is = fits.from_is; begins = begins_more w.seen old rows fits.begins later; has_asked = fits.has_asked }
+fits_more : (game : Rules) (from : StartValue) (old rows : List Row) (stop : ℕ) (w : Watch) → Begins old rows
+    → FitsWatch game from old stop w → FitsWatch game from rows stop w
+fits_more game from old rows stop w later fits =
+    record { game_is = fits.game_is; from_is = fits.from_is; begins = begins_more w.seen old rows fits.begins later; has_asked = fits.has_asked }
 
 -- no view but the pen's changes when it publishes
-others_fit : (game : Rules) (from : StartValue) (old rows : List Row) (stop seat : ℕ) (v : View) → Begins old rows → seat ≢ 0 → Fits game from old stop seat v → Fits game from rows stop seat v
+others_fit : (game : Rules) (from : StartValue) (old rows : List Row) (stop seat : ℕ) (v : View) → Begins old rows → seat ≢ 0
+    → Fits game from old stop seat v → Fits game from rows stop seat v
 others_fit game from old rows stop seat (Blank g) later apart fits = absurd fits
 others_fit game from old rows stop seat (Alone g f r) later apart fits = absurd (apart fits.0)
 others_fit game from old rows stop seat (Joined g f r w) later apart fits = absurd (apart fits.0)
@@ -38,7 +42,8 @@ AllFit game from rows stop views = (seat : ℕ) (v : View) → get_elem? views s
 
 -- one view is written
 fit_set : (game : Rules) (from : StartValue) (rows : List Row) (stop : ℕ) (views : List View) (id : ℕ) (w : View)
-    → ((seat : ℕ) (v : View) → seat ≢ id → get_elem? views seat ≡ some v → Fits game from rows stop seat v) → Fits game from rows stop id w → AllFit game from rows stop (set views id w)
+    → ((seat : ℕ) (v : View) → seat ≢ id → get_elem? views seat ≡ some v → Fits game from rows stop seat v) → Fits game from rows stop id w
+    → AllFit game from rows stop (set views id w)
 fit_set game from rows stop views id w others mine seat v e =
     ⊎_elim
     (λ (x : (seat ≡ id) × (w ≡ v)). subst (λ (y : ℕ × View). Fits game from rows stop y.0 y.1) (λ i. (sym x.0 i, x.1 i)) mine)
@@ -46,16 +51,20 @@ fit_set game from rows stop views id w others mine seat v e =
     (at_set views id seat w v e)
 
 -- one seat is added
-fit_snoc : (game : Rules) (from : StartValue) (rows : List Row) (stop : ℕ) (views : List View) (w : View) → AllFit game from rows stop views → ((seat : ℕ) → Fits game from rows stop seat w)
+fit_snoc : (game : Rules) (from : StartValue) (rows : List Row) (stop : ℕ) (views : List View) (w : View) → AllFit game from rows stop views
+    → ((seat : ℕ) → Fits game from rows stop seat w)
     → AllFit game from rows stop (views ++ w ∷ [])
 fit_snoc game from rows stop views w others mine seat v e =
-    ⊎_elim (λ (x : get_elem? views seat ≡ some v). others seat v x) (λ (x : w ≡ v). subst (λ (y : View). Fits game from rows stop seat y) x (mine seat)) (at_snoc views w v seat e)
+    ⊎_elim (λ (x : get_elem? views seat ≡ some v). others seat v x)
+        (λ (x : w ≡ v). subst (λ (y : View). Fits game from rows stop seat y) x (mine seat)) (at_snoc views w v seat e)
 
-asked_watch : (game : Rules) (from : StartValue) (rows : List Row) (stop : ℕ) (w : Watch) → FitsWatch game from rows stop w → FitsWatch game from rows 1 w
+asked_watch : (game : Rules) (from : StartValue) (rows : List Row) (stop : ℕ) (w : Watch) → FitsWatch game from rows stop w
+    → FitsWatch game from rows 1 w
 asked_watch game from rows stop w fits = record { game_is = fits.game_is; from_is = fits.from_is; begins = fits.begins; has_asked = λ _. refl }
 
 -- each view fits a stop word of 1
-asked_fit : (game : Rules) (from : StartValue) (rows : List Row) (stop seat : ℕ) (v : View) → Fits game from rows stop seat v → Fits game from rows 1 seat v
+asked_fit : (game : Rules) (from : StartValue) (rows : List Row) (stop seat : ℕ) (v : View) → Fits game from rows stop seat v
+    → Fits game from rows 1 seat v
 asked_fit game from rows stop seat (Blank g) fits = fits
 asked_fit game from rows stop seat (Alone g f r) fits = fits
 asked_fit game from rows stop seat (Joined g f r w) fits = (fits.0, fits.1, fits.2, fits.3, asked_watch game from rows stop w fits.4)
@@ -78,11 +87,13 @@ IsTold (Watching w) = Unit
 IsTold Spent = Unit
 
 -- the only seat of a board with nothing published
-only_blank : (game : Rules) (views : List View) (seat : ℕ) (v : View) → views ≡ Blank game ∷ [] → get_elem? views seat ≡ some v → (seat ≡ 0) × (Blank game ≡ v)
+only_blank : (game : Rules) (views : List View) (seat : ℕ) (v : View) → views ≡ Blank game ∷ [] → get_elem? views seat ≡ some v
+    → (seat ≡ 0) × (Blank game ≡ v)
 only_blank game views zero v is at = (refl, some-injective _ _ (ap (λ (l : List View). get_elem? l 0) (sym is) ∙ at))
 only_blank game views (suc seat) v is at = absurd (some-ne-none v (sym at ∙ ap (λ (l : List View). get_elem? l (suc seat)) is))
 
-word_is : (game g : Rules) (from f : StartValue) (rows : List Row) → g ≡ game → f ≡ from → word g (origin_from f) rows ≡ word game (origin_from from) rows
+word_is : (game g : Rules) (from f : StartValue) (rows : List Row) → g ≡ game → f ≡ from
+    → word g (origin_from f) rows ≡ word game (origin_from from) rows
 word_is game g from f rows same_game same_from = λ i. word (same_game i) (origin_from (same_from i)) rows
 
 module _ {S : Type 0} where
@@ -121,7 +132,8 @@ module _ {S : Type 0} where
       holds
 
   -- the pen publishes
-  pub publishes : (slots id : ℕ) (game : Rules) (from : StartValue) (old rows : List Row) (found : ℕ) → Begins old rows → found ≡ word game (origin_from from) rows
+  pub publishes : (slots id : ℕ) (game : Rules) (from : StartValue) (old rows : List Row) (found : ℕ) → Begins old rows
+      → found ≡ word game (origin_from from) rows
       → Allows {S = S} Keeps slots id (Alone game from old, []) 0 (λ _. found) (λ _ after. after ≡ (Alone game from rows, []))
   publishes slots id game from old rows found later is s holds homes at room =
       let k = shown s id (Alone game from old) holds at tt in
@@ -134,10 +146,12 @@ module _ {S : Type 0} where
           from = k.from;
           rows = rows;
           stop = k.stop;
-          words = ap (λ (ws : List ℕ). slice_set ws 0 found) k.words ∙ ap (λ (n : ℕ). n ∷ k.stop ∷ []) (is ∙ word_is k.game game k.from from rows mine.1 mine.2);
+          words = ap (λ (ws : List ℕ). slice_set ws 0 found) k.words
+              ∙ ap (λ (n : ℕ). n ∷ k.stop ∷ []) (is ∙ word_is k.game game k.from from rows mine.1 mine.2);
           stops = k.stops;
           fits = fit_set k.game k.from rows k.stop s.views id (Alone game from rows)
-              (λ seat v apart e. others_fit k.game k.from k.rows rows k.stop seat v (subst (λ (r : List Row). Begins r rows) mine.3 later) (λ z. apart (z ∙ sym mine.0)) (k.fits seat v e))
+              (λ seat v apart e. others_fit k.game k.from k.rows rows k.stop seat v (subst (λ (r : List Row). Begins r rows) mine.3 later)
+                  (λ z. apart (z ∙ sym mine.0)) (k.fits seat v e))
               (mine.0, mine.1, mine.2, refl);
         }),
         refl,
@@ -177,12 +191,14 @@ module _ {S : Type 0} where
       )
 
   -- a new viewer is split off the pen
-  pub enlists : (id : ℕ) (game : Rules) (from : StartValue) (rows : List Row) → Splits {S = S} Keeps id (Alone game from rows) (Alone game from rows) (newcomer_of (Alone game from rows))
+  pub enlists : (id : ℕ) (game : Rules) (from : StartValue) (rows : List Row)
+      → Splits {S = S} Keeps id (Alone game from rows) (Alone game from rows) (newcomer_of (Alone game from rows))
   enlists id game from rows s holds at =
       let k = shown s id (Alone game from rows) holds at tt in
       let mine = k.fits id (Alone game from rows) at in
       let new : FitsWatch k.game k.from k.rows k.stop (record { game = game; from = from; seen = rows; asked = false; loads = 0 }) =
-      record { game_is = mine.1; from_is = mine.2; begins = subst (λ (r : List Row). Begins rows r) mine.3 (begins_same rows); has_asked = λ e. absurd (true≢false (sym e)) } in
+      record { game_is = mine.1; from_is = mine.2; begins = subst (λ (r : List Row). Begins rows r) mine.3 (begins_same rows);
+          has_asked = λ e. absurd (true≢false (sym e)) } in
       inr (record {
         game = k.game;
         from = k.from;
@@ -196,7 +212,8 @@ module _ {S : Type 0} where
       })
 
   -- the pen takes a viewer's view
-  pub joins : (id : ℕ) (game : Rules) (from : StartValue) (rows : List Row) (other : ℕ) (w : Watch) → Joins {S = S} Keeps id (Alone game from rows) other (Watching w) (Joined game from rows w) Spent
+  pub joins : (id : ℕ) (game : Rules) (from : StartValue) (rows : List Row) (other : ℕ) (w : Watch)
+      → Joins {S = S} Keeps id (Alone game from rows) other (Watching w) (Joined game from rows w) Spent
   joins id game from rows other w s holds at apart there =
       let k = shown s id (Alone game from rows) holds at tt in
       let mine = k.fits id (Alone game from rows) at in
@@ -212,12 +229,14 @@ module _ {S : Type 0} where
         words = k.words;
         stops = k.stops;
         fits = fit_set k.game k.from k.rows k.stop (set s.views id (Joined game from rows w)) other Spent
-            (λ seat v away e. fit_set k.game k.from k.rows k.stop s.views id (Joined game from rows w) (λ seat' v' _ e'. k.fits seat' v' e') (mine.0, mine.1, mine.2, mine.3, theirs) seat v e)
+            (λ seat v away e. fit_set k.game k.from k.rows k.stop s.views id (Joined game from rows w) (λ seat' v' _ e'. k.fits seat' v' e')
+                (mine.0, mine.1, mine.2, mine.3, theirs) seat v e)
             tt;
       })
 
   -- the pen with a viewer looks
-  pub compares : (slots id : ℕ) (game : Rules) (from : StartValue) (rows : List Row) (w : Watch) → Allows {S = S} Keeps slots id (Joined game from rows w, []) 0 (λ n. n) (Compares (Joined game from rows w, []))
+  pub compares : (slots id : ℕ) (game : Rules) (from : StartValue) (rows : List Row) (w : Watch)
+      → Allows {S = S} Keeps slots id (Joined game from rows w, []) 0 (λ n. n) (Compares (Joined game from rows w, []))
   compares slots id game from rows w s holds homes at room =
       let k = shown s id (Joined game from rows w) holds at tt in
       let mine = k.fits id (Joined game from rows w) at in (
@@ -245,12 +264,14 @@ module _ {S : Type 0} where
       )
 
   -- the viewer is split off the pen again
-  pub parts : (id : ℕ) (game : Rules) (from : StartValue) (rows : List Row) (w : Watch) → Splits {S = S} Keeps id (Joined game from rows w) (Alone game from rows) (viewer_of (Joined game from rows w))
+  pub parts : (id : ℕ) (game : Rules) (from : StartValue) (rows : List Row) (w : Watch)
+      → Splits {S = S} Keeps id (Joined game from rows w) (Alone game from rows) (viewer_of (Joined game from rows w))
   parts id game from rows w s holds at =
       let k = shown s id (Joined game from rows w) holds at tt in
       let mine = k.fits id (Joined game from rows w) at in
       let new : FitsWatch k.game k.from k.rows k.stop (record { game = game; from = from; seen = rows; asked = w.asked; loads = w.loads }) =
-      record { game_is = mine.1; from_is = mine.2; begins = subst (λ (r : List Row). Begins rows r) mine.3 (begins_same rows); has_asked = mine.4.has_asked } in
+      record { game_is = mine.1; from_is = mine.2; begins = subst (λ (r : List Row). Begins rows r) mine.3 (begins_same rows);
+          has_asked = mine.4.has_asked } in
       inr (record {
         game = k.game;
         from = k.from;
@@ -259,12 +280,14 @@ module _ {S : Type 0} where
         words = k.words;
         stops = k.stops;
         fits = fit_snoc k.game k.from k.rows k.stop (set s.views id (Alone game from rows)) (viewer_of (Joined game from rows w))
-            (fit_set k.game k.from k.rows k.stop s.views id (Alone game from rows) (λ seat v apart e. k.fits seat v e) (mine.0, mine.1, mine.2, mine.3))
+            (fit_set k.game k.from k.rows k.stop s.views id (Alone game from rows) (λ seat v apart e. k.fits seat v e)
+                (mine.0, mine.1, mine.2, mine.3))
             (λ seat. new);
       })
 
   -- a viewer asks for the end of the match
-  pub asks : (slots id : ℕ) (w : Watch) → Allows {S = S} Keeps slots id (Watching w, []) 1 (λ n. bit_or n 1) (λ _ after. after ≡ (ask_view (Watching w), []))
+  pub asks : (slots id : ℕ) (w : Watch) → Allows {S = S} Keeps slots id (Watching w, []) 1 (λ n. bit_or n 1)
+      (λ _ after. after ≡ (ask_view (Watching w), []))
   asks slots id w s holds homes at room =
       let k = shown s id (Watching w) holds at tt in
       let mine = k.fits id (Watching w) at in (
@@ -276,9 +299,11 @@ module _ {S : Type 0} where
           from = k.from;
           rows = k.rows;
           stop = 1;
-          words = ap (λ (ws : List ℕ). slice_set ws 1 (bit_or (slice_index ws 1) 1)) k.words ∙ ap (λ (n : ℕ). word k.game (origin_from k.from) k.rows ∷ n ∷ []) (or_one k.stop k.stops);
+          words = ap (λ (ws : List ℕ). slice_set ws 1 (bit_or (slice_index ws 1) 1)) k.words
+              ∙ ap (λ (n : ℕ). word k.game (origin_from k.from) k.rows ∷ n ∷ []) (or_one k.stop k.stops);
           stops = inr refl;
-          fits = fit_set k.game k.from k.rows 1 s.views id (ask_view (Watching w)) (λ seat v apart e. asked_fit k.game k.from k.rows k.stop seat v (k.fits seat v e))
+          fits = fit_set k.game k.from k.rows 1 s.views id (ask_view (Watching w))
+              (λ seat v apart e. asked_fit k.game k.from k.rows k.stop seat v (k.fits seat v e))
               (record { game_is = mine.game_is; from_is = mine.from_is; begins = mine.begins; has_asked = λ _. refl });
         }),
         refl,
@@ -299,7 +324,8 @@ module _ {S : Type 0} where
           stop = k.stop;
           words = ap (λ (ws : List ℕ). slice_set ws 1 (slice_index ws 1)) k.words;
           stops = k.stops;
-          fits = fit_set k.game k.from k.rows k.stop s.views id (Alone game from rows) (λ seat v apart e. k.fits seat v e) (k.fits id (Alone game from rows) at);
+          fits = fit_set k.game k.from k.rows k.stop s.views id (Alone game from rows) (λ seat v apart e. k.fits seat v e)
+              (k.fits id (Alone game from rows) at);
         }),
         refl,
       )

@@ -1,5 +1,6 @@
 -- States with the same bytes are equal.
-use Rattle.std.proofs.Common.{◌≡◌, inl, inr, ⊎_elim, ℕ, zero, suc, ◌+◌, ◌-◌, ◌*◌, ◌^◌, ◌<◌, ◌≤◌, List, [], ◌∷◌, ◌++◌, length, take, drop, map, Bool, true, false, Option, Some, None, refl, sym, ap, ◌∙◌, arith}
+use Rattle.std.proofs.Common.{◌≡◌, inl, inr, ⊎_elim, ℕ, zero, suc, ◌+◌, ◌-◌, ◌*◌, ◌^◌, ◌<◌, ◌≤◌, List, [], ◌∷◌, ◌++◌, length, take, drop,
+  map, Bool, true, false, Option, Some, None, refl, sym, ap, ◌∙◌, arith}
 use Rattle.std.specs.Prelude.{slice_index, replicate, if◌then◌else◌, IfSome}
 use Rattle.std.specs.List.{flat_map, range_with_len}
 use Rattle.std.specs.Int.{to_be_bytes, from_be_bytes, w16, w64}
@@ -36,7 +37,8 @@ short_same a b low small same = sym (from_be_bytes-to_be_bytes_2 a low) ∙ ap (
 long_same : (a b : ℕ) → a < 2 ^ 64 → b < 2 ^ 64 → to_be_bytes w64 a ≡ to_be_bytes w64 b → a ≡ b
 long_same a b low small same = sym (from_be_bytes-to_be_bytes_8 a low) ∙ ap (from_be_bytes w64) same ∙ from_be_bytes-to_be_bytes_8 b small
 
-words_same : (xs ys : List ℕ) → length xs ≡ length ys → ((k : ℕ) → slice_index xs k < 2 ^ 16) → ((k : ℕ) → slice_index ys k < 2 ^ 16) → flat_map (to_be_bytes w16) xs ≡ flat_map (to_be_bytes w16) ys → xs ≡ ys
+words_same : (xs ys : List ℕ) → length xs ≡ length ys → ((k : ℕ) → slice_index xs k < 2 ^ 16) → ((k : ℕ) → slice_index ys k < 2 ^ 16)
+    → flat_map (to_be_bytes w16) xs ≡ flat_map (to_be_bytes w16) ys → xs ≡ ys
 words_same [] [] long low small same = refl
 words_same [] (y ∷ ys) long low small same = absurd (omega (arith, long))
 words_same (x ∷ xs) [] long low small same = absurd (omega (arith, long))
@@ -50,7 +52,8 @@ words_same (x ∷ xs) (y ∷ ys) long low small same =
 
 stack_same : (s t : List ℕ) → length s ≡ length t → places s ≡ places t → s ≡ t
 stack_same s t long same =
-    sym (take-append_seam s (replicate (16 - length s) 0)) ∙ ap (λ (n : ℕ). take n (places s)) long ∙ ap (take (length t)) same ∙ take-append_seam t (replicate (16 - length t) 0)
+    sym (take-append_seam s (replicate (16 - length s) 0)) ∙ ap (λ (n : ℕ). take n (places s)) long ∙ ap (take (length t)) same
+        ∙ take-append_seam t (replicate (16 - length t) 0)
 
 -- ---- the screen
 
@@ -79,12 +82,14 @@ unfolding columns
 columns_lt p y zero = omega arith
 columns_lt p y (suc n) = omega (arith, columns_lt p y n, pow-suc 2 n, one_bit (p n y))
 
-rows_same : (p q : Points) (a n : ℕ) → flat_map (λ y. to_be_bytes w64 (columns p y 64)) (range_with_len a n) ≡ flat_map (λ y. to_be_bytes w64 (columns q y 64)) (range_with_len a n)
+rows_same : (p q : Points) (a n : ℕ) → flat_map (λ y. to_be_bytes w64 (columns p y 64)) (range_with_len a n)
+    ≡ flat_map (λ y. to_be_bytes w64 (columns q y 64)) (range_with_len a n)
     → (y : ℕ) → a ≤ y → y < a + n → columns p y 64 ≡ columns q y 64
 rows_same p q a zero same y from to = absurd (omega (arith, from, to))
 rows_same p q a (suc n) same y from to =
     let both =
-    split (to_be_bytes w64 (columns p a 64)) (to_be_bytes w64 (columns q a 64)) (flat_map (λ k. to_be_bytes w64 (columns p k 64)) (range_with_len (a + 1) n))
+    split (to_be_bytes w64 (columns p a 64)) (to_be_bytes w64 (columns q a 64))
+        (flat_map (λ k. to_be_bytes w64 (columns p k 64)) (range_with_len (a + 1) n))
     (flat_map (λ k. to_be_bytes w64 (columns q k 64)) (range_with_len (a + 1) n)) refl same in
     let first : columns p a 64 ≡ columns q a 64 = long_same (columns p a 64) (columns q a 64) (columns_lt p a 64) (columns_lt q a 64) both.0 in
     elim (cases_eq y a) [
@@ -131,10 +136,12 @@ stop_same (Some StackEmpty) (Some UnknownInstruction) same = absurd (omega (arit
 stop_same (Some StackEmpty) (Some StackFull) same = absurd (omega (arith, same))
 stop_same (Some StackEmpty) (Some StackEmpty) same = refl
 
-memory_same : (s t : State) → IsState s → IsState t → map s.memory (range_with_len 0 4096) ≡ map t.memory (range_with_len 0 4096) → (at : ℕ) → s.memory at ≡ t.memory at
+memory_same : (s t : State) → IsState s → IsState t → map s.memory (range_with_len 0 4096) ≡ map t.memory (range_with_len 0 4096) → (at : ℕ)
+    → s.memory at ≡ t.memory at
 memory_same s t is us same at =
     elim (cases_lt at 4096) [
-      | inl within ↦ sym (get_or-map-range_with_len s.memory 0 4096 at at 0 within (omega arith)) ∙ ap (λ (bytes : List ℕ). slice_index bytes at) same ∙ get_or-map-range_with_len t.memory 0 4096 at at 0 within (omega arith)
+      | inl within ↦ sym (get_or-map-range_with_len s.memory 0 4096 at at 0 within (omega arith))
+      ∙ ap (λ (bytes : List ℕ). slice_index bytes at) same ∙ get_or-map-range_with_len t.memory 0 4096 at at 0 within (omega arith)
       | inr past ↦ is.no_more_bytes at past ∙ sym (us.no_more_bytes at past)
     ]
 
@@ -204,7 +211,8 @@ state_same s t is at same =
     let address = short_same s.address t.address (omega (arith, is.address)) (omega (arith, at.address)) parts.address in
     let counter = short_same s.counter t.counter (omega (arith, is.counter)) (omega (arith, at.counter)) parts.counter in
     let depth : length s.stack ≡ length t.stack = ap (λ (bytes : List ℕ). slice_index bytes 0) parts.depth in
-    let all = words_same (places s.stack) (places t.stack) (sixteen s.stack is.depth ∙ sym (sixteen t.stack at.depth)) (low_places s is) (low_places t at) parts.stack in
+    let all = words_same (places s.stack) (places t.stack) (sixteen s.stack is.depth ∙ sym (sixteen t.stack at.depth)) (low_places s is)
+        (low_places t at) parts.stack in
     let stack = stack_same s.stack t.stack depth all in
     let screen = points_same s.screen t.screen is.points at.points parts.screen in
     let timer = rest.timer in

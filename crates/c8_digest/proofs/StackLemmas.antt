@@ -22,7 +22,8 @@ sixteen stack few = omega (arith, length-append stack (replicate (16 - length st
 
 -- the places before one, and that one
 places_more : (before : List ℕ) (stack : List ℕ) (n place : ℕ) → length stack ≤ 16 → n < 16 → place ≡ slice_index stack n
-    → (before ++ flat_map (to_be_bytes w16) (take n (places stack))) ++ to_be_bytes w16 place ≡ before ++ flat_map (to_be_bytes w16) (take (n + 1) (places stack))
+    → (before ++ flat_map (to_be_bytes w16) (take n (places stack))) ++ to_be_bytes w16 place
+    ≡ before ++ flat_map (to_be_bytes w16) (take (n + 1) (places stack))
 places_more before stack n place few within is =
     let all : List ℕ = places stack in
     let front : List ℕ = flat_map (to_be_bytes w16) (take n all) in

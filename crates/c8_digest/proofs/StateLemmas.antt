@@ -6,7 +6,8 @@ use Rattle.std.proofs.lemmas.List.FromFn.{length-map-range_with_len, get_or-map-
 use Rattle.std.proofs.lemmas.Grind.{same_number_lists}
 
 -- parts that were appended one after another
-pub appended : (m r a c d st sc re b1 b2 b3 b4 b5 b6 b7 : List ℕ) → b1 ≡ [] ++ m → b2 ≡ b1 ++ r → b3 ≡ b2 ++ a → b4 ≡ b3 ++ c → b5 ≡ b4 ++ d ++ st → b6 ≡ b5 ++ sc → b7 ≡ b6 ++ re
+pub appended : (m r a c d st sc re b1 b2 b3 b4 b5 b6 b7 : List ℕ) → b1 ≡ [] ++ m → b2 ≡ b1 ++ r → b3 ≡ b2 ++ a → b4 ≡ b3 ++ c
+    → b5 ≡ b4 ++ d ++ st → b6 ≡ b5 ++ sc → b7 ≡ b6 ++ re
     → b7 ≡ m ++ r ++ a ++ c ++ d ++ st ++ sc ++ re
 appended m r a c d st sc re b1 b2 b3 b4 b5 b6 b7 p1 p2 p3 p4 p5 p6 p7 =
     let two = p2 ∙ ap (λ (b : List ℕ). b ++ r) p1 in

@@ -1,5 +1,6 @@
 -- One call of a list.
-use Rattle.std.proofs.Common.{◌≡◌, inl, inr, if◌then◌else◌, length-take-le, take-append-drop, ◌≤◌, ◌<◌, ℕ, suc, ◌+◌, nat_le, nat_lt, ◌&&◌, true, List, [], ◌∷◌, ◌++◌, length, take, drop, get_or, refl, sym, ◌∙◌, ap, subst, arith}
+use Rattle.std.proofs.Common.{◌≡◌, inl, inr, if◌then◌else◌, length-take-le, take-append-drop, ◌≤◌, ◌<◌, ℕ, suc, ◌+◌, nat_le, nat_lt, ◌&&◌,
+  true, List, [], ◌∷◌, ◌++◌, length, take, drop, get_or, refl, sym, ◌∙◌, ap, subst, arith}
 use Rattle.std.proofs.lemmas.Bool.{cases_Bool, and_parts, and_from, leb-true, le-leb, cond-true, cond-false, lt-ltb}
 use Rattle.std.proofs.lemmas.List.{drop_more, take_more}
 use Rattle.c8_disk.specs.Disk.{overwritten}
@@ -10,7 +11,8 @@ use Rattle.c8_disk.specs.declared.call.Call.{Call}
 use Rattle.c8_disk.specs.declared.call.Call.TheVariants.{Write, Sync}
 
 -- the list from a call on
-pub rest : (calls : List Call) (i : ℕ) (call : Call) → i < length calls → get_or calls i (Write 0 0 []) ≡ call → drop i calls ≡ call ∷ drop (i + 1) calls
+pub rest : (calls : List Call) (i : ℕ) (call : Call) → i < length calls → get_or calls i (Write 0 0 []) ≡ call
+    → drop i calls ≡ call ∷ drop (i + 1) calls
 rest calls i call lt is = drop_more calls i (Write 0 0 []) lt ∙ ap (λ (c : Call). c ∷ drop (i + 1) calls) is
 
 pub others_fit : (capacity : ℕ) (call : Call) (calls : List Call) → fit capacity (call ∷ calls) ≡ true → fit capacity calls ≡ true
@@ -25,14 +27,16 @@ fit_more less more (Write at count written ∷ calls) le fits =
     and_from _ _ (and_from _ _ places.0 (le-leb _ _ (omega (arith, leb-true _ _ places.1)))) (fit_more less more calls le parts.1)
 fit_more less more (Sync ∷ calls) le fits = fit_more less more calls le fits
 
-pub torn_cons : (call : Call) (calls : List Call) (old mid new : List ℕ) → TornBy (call ∷ []) old mid → TornBy calls mid new → TornBy (call ∷ calls) old new
+pub torn_cons : (call : Call) (calls : List Call) (old mid new : List ℕ) → TornBy (call ∷ []) old mid → TornBy calls mid new
+    → TornBy (call ∷ calls) old new
 torn_cons (Write at count written) calls old mid new one others = (one.0, one.1, subst (λ (l : List ℕ). TornBy calls l new) one.2 others)
 torn_cons Sync calls old mid new one others = subst (λ (l : List ℕ). TornBy calls l new) one others
 
 -- how many calls there are up to the last sync, with one more call
 synced_count-write : (calls : List Call) (at count : ℕ) (written : List ℕ) → synced_count (calls ++ Write at count written ∷ []) ≡ synced_count calls
 synced_count-write [] at count written = refl
-synced_count-write (Write a n w ∷ calls) at count written = ap (λ (k : ℕ). if nat_lt 0 k then suc k else 0) (synced_count-write calls at count written)
+synced_count-write (Write a n w ∷ calls) at count written =
+    ap (λ (k : ℕ). if nat_lt 0 k then suc k else 0) (synced_count-write calls at count written)
 synced_count-write (Sync ∷ calls) at count written = ap (λ (k : ℕ). suc k) (synced_count-write calls at count written)
 
 synced_count-sync : (calls : List Call) → synced_count (calls ++ Sync ∷ []) ≡ length calls + 1
@@ -41,20 +45,26 @@ synced_count-sync (Write a n w ∷ calls) =
     let more = length calls + 1 in
     let some : 0 < length calls + 1 = omega arith in
     let last : suc (length calls + 1) ≡ suc (length calls) + 1 = omega arith in
-    ap (λ (k : ℕ). if nat_lt 0 k then suc k else 0) (synced_count-sync calls) ∙ cond-true (nat_lt 0 (length calls + 1)) (suc (length calls + 1)) 0 (lt-ltb _ _ some) ∙ last
-synced_count-sync (Sync ∷ calls) = let last : suc (length calls + 1) ≡ suc (length calls) + 1 = omega arith in ap (λ (k : ℕ). suc k) (synced_count-sync calls) ∙ last
+    ap (λ (k : ℕ). if nat_lt 0 k then suc k else 0) (synced_count-sync calls)
+        ∙ cond-true (nat_lt 0 (length calls + 1)) (suc (length calls + 1)) 0 (lt-ltb _ _ some) ∙ last
+synced_count-sync (Sync ∷ calls) = let last : suc (length calls + 1) ≡ suc (length calls) + 1 = omega arith in
+    ap (λ (k : ℕ). suc k) (synced_count-sync calls) ∙ last
 
-one_more : (calls : List Call) (i : ℕ) (call : Call) → i < length calls → get_or calls i (Write 0 0 []) ≡ call → take (i + 1) calls ≡ take i calls ++ call ∷ []
+one_more : (calls : List Call) (i : ℕ) (call : Call) → i < length calls → get_or calls i (Write 0 0 []) ≡ call
+    → take (i + 1) calls ≡ take i calls ++ call ∷ []
 one_more calls i call lt is = take_more calls i (Write 0 0 []) lt ∙ ap (λ (c : Call). take i calls ++ c ∷ []) is
 
-pub passed_write : (calls : List Call) (i at count : ℕ) (written : List ℕ) → i < length calls → get_or calls i (Write 0 0 []) ≡ Write at count written → synced_count (take (i + 1) calls) ≡ synced_count (take i calls)
-passed_write calls i at count written lt is = ap synced_count (one_more calls i (Write at count written) lt is) ∙ synced_count-write (take i calls) at count written
+pub passed_write : (calls : List Call) (i at count : ℕ) (written : List ℕ) → i < length calls
+    → get_or calls i (Write 0 0 []) ≡ Write at count written → synced_count (take (i + 1) calls) ≡ synced_count (take i calls)
+passed_write calls i at count written lt is =
+    ap synced_count (one_more calls i (Write at count written) lt is) ∙ synced_count-write (take i calls) at count written
 
 pub passed_sync : (calls : List Call) (i : ℕ) → i < length calls → get_or calls i (Write 0 0 []) ≡ Sync → synced_count (take (i + 1) calls) ≡ i + 1
 passed_sync calls i lt is =
     ap synced_count (one_more calls i Sync lt is) ∙ synced_count-sync (take i calls) ∙ ap (λ (k : ℕ). k + 1) (length-take-le i calls (omega arith))
 
-torn_leaves : (images : List ℕ → Type 0) (bytes : List ℕ) (calls : List Call) (old new : List ℕ) → none_synced calls → images old → TornBy calls old new → Leaves images bytes calls new
+torn_leaves : (images : List ℕ → Type 0) (bytes : List ℕ) (calls : List Call) (old new : List ℕ) → none_synced calls → images old
+    → TornBy calls old new → Leaves images bytes calls new
 torn_leaves images bytes [] old new none here torn = subst images (sym torn) here
 torn_leaves images bytes (Write at count written ∷ calls) old new none here torn =
     torn_leaves _ (overwritten bytes at (take count written)) calls torn.0 new none (old, here, torn.1) torn.2
@@ -77,8 +87,10 @@ module _ (first : List ℕ) (calls : List Call) (lawful : are_lawful first calls
   torn_is_image new torn =
       let front = take (synced_count calls) calls in
       let here = reads (λ image. image ≡ first) first front synced_lawful refl in
-      let later = torn_leaves (IsImage first front) (content first front) (drop (synced_count calls) calls) (content first front) new (none_behind calls) here torn in
-      subst (λ (l : List Call). IsImage first l new) parts_of (join_leaves (λ image. image ≡ first) first front (drop (synced_count calls) calls) new later)
+      let later = torn_leaves (IsImage first front) (content first front) (drop (synced_count calls) calls) (content first front) new
+          (none_behind calls) here torn in
+      subst (λ (l : List Call). IsImage first l new) parts_of
+          (join_leaves (λ image. image ≡ first) first front (drop (synced_count calls) calls) new later)
 
   pub synced_is_image : IsImage first calls (synced first calls)
   synced_is_image = torn_is_image (synced first calls) (untorn (drop (synced_count calls) calls) (synced first calls))

@@ -33,7 +33,8 @@ Sync calls answer = calls ≡ Syncing answer ∷ []
 abbrev pub Reads : ℕ → Run
 Reads zero calls answer = Nothing calls answer
 Reads (suc more) [] answer = ⊥
-Reads (suc more) (Reading at count result ∷ calls) answer = ((result ≡ Ok tt) × Reads more calls answer) ⊎ ((why : DiskError) × (result ≡ Err why) × (answer ≡ Err why) × (calls ≡ []))
+Reads (suc more) (Reading at count result ∷ calls) answer =
+    ((result ≡ Ok tt) × Reads more calls answer) ⊎ ((why : DiskError) × (result ≡ Err why) × (answer ≡ Err why) × (calls ≡ []))
 Reads (suc more) (Writing at bytes result ∷ calls) answer = ⊥
 Reads (suc more) (Syncing result ∷ calls) answer = ⊥
 

@@ -24,4 +24,5 @@ unsynced calls = drop (synced_count calls) calls
 pub record IsBetweenSyncs (first : List ℕ) (calls : List Call) (image : List ℕ) : Type 0 where
   pub no_shorter : length (synced first calls) ≤ length image
   pub no_longer : length image ≤ length (content first calls)
-  pub same : (i : ℕ) → i < length (synced first calls) → is_touched (unsynced calls) i ≡ false → slice_index image i ≡ slice_index (synced first calls) i
+  pub same : (i : ℕ) → i < length (synced first calls) → is_touched (unsynced calls) i ≡ false
+      → slice_index image i ≡ slice_index (synced first calls) i

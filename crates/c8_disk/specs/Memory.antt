@@ -115,7 +115,8 @@ after_read (Err Failed) v = failed v
 after_read (Err Full) v = v
 
 abbrev pub IsWritten : ℕ → List ℕ → Result (Unit {0}) DiskError → MemValue → MemValue → Type 0
-IsWritten at bytes (Ok _) v w = (call : Call) × IsWriteOf at bytes call × (w ≡ record (served (asked v)) { bytes = overwritten v.bytes at bytes; calls = v.calls ++ call ∷ [] })
+IsWritten at bytes (Ok _) v w = (call : Call) × IsWriteOf at bytes call
+    × (w ≡ record (served (asked v)) { bytes = overwritten v.bytes at bytes; calls = v.calls ++ call ∷ [] })
 IsWritten at bytes (Err Failed) v w = w ≡ failed (asked v)
 IsWritten at bytes (Err Full) v w = w ≡ asked v
 
@@ -134,7 +135,8 @@ abbrev pub IsMemoryCall : MemValue → DiskCall → MemValue → Type 0
 IsMemoryCall v (Reading at count result) w = (IsErrOf result Failed ↔ (is_refusing v ≡ true)) × (IsErrOf result Full → ⊥) × (w ≡ after_read result v)
 IsMemoryCall v (Writing at bytes result) w =
     (at ≤ length v.bytes) × (length bytes ≤ longest_write)
-    × (IsErrOf result Failed ↔ (is_refusing v ≡ true)) × (IsErrOf result Full ↔ ((is_refusing v ≡ false) × (v.room < at + length bytes))) × IsWritten at bytes result v w
+    × (IsErrOf result Failed ↔ (is_refusing v ≡ true)) × (IsErrOf result Full ↔ ((is_refusing v ≡ false) × (v.room < at + length bytes)))
+    × IsWritten at bytes result v w
 IsMemoryCall v (Syncing result) w = (IsErrOf result Failed ↔ (is_refusing v ≡ true)) × (IsErrOf result Full → ⊥) × (w ≡ after_sync result v)
 
 -- after `arm`

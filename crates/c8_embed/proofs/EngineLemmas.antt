@@ -14,7 +14,8 @@ use Rattle.c8_embed.specs.Engine.{IsEngine}
 use Rattle.c8_embed.proofs.StepsLemmas.{best_confirmed, best_length, best_take}
 
 -- what was given stays true if the confirmed rows stay
-pub true_later : (old new : KnownValue) (s : StepsValue) → confirmed old ≤ confirmed new → ((n : ℕ) → n ≤ confirmed old → rows_below new n ≡ rows_below old n) → IsTrueTo old s → IsTrueTo new s
+pub true_later : (old new : KnownValue) (s : StepsValue) → confirmed old ≤ confirmed new
+    → ((n : ℕ) → n ≤ confirmed old → rows_below new n ≡ rows_below old n) → IsTrueTo old s → IsTrueTo new s
 true_later old new s rises rows is =
     let within = is.confirmed_is in
     let later : s.settled ≤ confirmed new = omega (arith, within, rises) in
@@ -26,9 +27,11 @@ true_later old new s rises rows is =
 
 -- the law of this crate, as its engine uses it
 abbrev pub Stays : {D : Type 0} → Ghosts D → Type 0
-Stays {D} disk = (old new : PeerValue D) (call : Call) (reply : Reply) (s : StepsValue) → IsSound disk old → IsCall call → IsAnswered disk old call reply new → IsTrueTo (known_by old) s → IsTrueTo (known_by new) s
+Stays {D} disk = (old new : PeerValue D) (call : Call) (reply : Reply) (s : StepsValue) → IsSound disk old → IsCall call
+    → IsAnswered disk old call reply new → IsTrueTo (known_by old) s → IsTrueTo (known_by new) s
 
-pub engine_after : {D : Type 0} (disk : Ghosts D) → Stays disk → (old new : PeerValue D) (call : Call) (reply : Reply) (s : StepsValue) (is_told : Bool)
+pub engine_after : {D : Type 0} (disk : Ghosts D) → Stays disk
+    → (old new : PeerValue D) (call : Call) (reply : Reply) (s : StepsValue) (is_told : Bool)
     → IsSound disk old → IsCall call → IsAnswered disk old call reply new → IsEngine old s is_told → IsEngine new s false
 engine_after disk stays old new call reply s is_told sound is answered engine = record {
   true_to = stays old new call reply s sound is answered engine.true_to;

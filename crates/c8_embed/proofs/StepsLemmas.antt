@@ -12,7 +12,8 @@ use Rattle.c8_known.specs.checked.ConfirmedLaws.{map_same, best_of_confirmed, co
 use Rattle.c8_embed.specs.Steps.{StepsValue, IsTrueTo, run, states, goes_back, IsStepped}
 
 -- the state at a frame is the run of the rows before it
-pub state_at : {S : Type 0} (step : S → Row → S) (s : S) (rows : List Row) (n : ℕ) → n ≤ length rows → slice_get (states step s rows) n ≡ Some (run step s (take n rows))
+pub state_at : {S : Type 0} (step : S → Row → S) (s : S) (rows : List Row) (n : ℕ) → n ≤ length rows
+    → slice_get (states step s rows) n ≡ Some (run step s (take n rows))
 state_at step s [] zero within = refl
 state_at step s (row ∷ rows) zero within = refl
 state_at step s [] (suc n) within = absurd (omega (arith, within))
@@ -50,7 +51,8 @@ step_resumes step start k most from count before after is =
     resumed step start before after from is.first.within (omega (arith, long)) (is.first.same ∙ sym front)
 
 pub state_now : {S : Type 0} (step : S → Row → S) (start : S) (k : KnownValue) (most from count n : ℕ) (before after : List Row)
-    → IsStepped k most before after from count → n ≤ length after → slice_get (states step start after) n ≡ Some (run step start (best_rows_below k n))
+    → IsStepped k most before after from count → n ≤ length after
+    → slice_get (states step start after) n ≡ Some (run step start (best_rows_below k n))
 state_now step start k most from count n before after is within =
     let long : length after ≡ from + count = ap (λ (rows : List Row). length rows) is.given ∙ best_length k (from + count) in
     let front : take n after ≡ best_rows_below k n = ap (take n) is.given ∙ best_take k n (from + count) (omega (arith, long, within)) in
@@ -61,7 +63,8 @@ state_now step start k most from count n before after is within =
 pub best_next : (k : KnownValue) (n : ℕ) → best_rows_below k (n + 1) ≡ best_rows_below k n ++ best_row k n ∷ []
 best_next k n = map-range_with_len_more (best_row k) 0 n n (omega arith)
 
-pub same_next : (k : KnownValue) (given : List Row) (n : ℕ) (d : Row) → n < length given → take n given ≡ best_rows_below k n → get_or given n d ≡ best_row k n → take (n + 1) given ≡ best_rows_below k (n + 1)
+pub same_next : (k : KnownValue) (given : List Row) (n : ℕ) (d : Row) → n < length given → take n given ≡ best_rows_below k n
+    → get_or given n d ≡ best_row k n → take (n + 1) given ≡ best_rows_below k (n + 1)
 same_next k given n d within same here =
     let more : n + 1 ≡ suc n = omega arith in
     ap (λ (m : ℕ). take m given) more ∙ take-suc given n d within

@@ -21,7 +21,8 @@ pub record IsEngine {D : Type 0} (peer : PeerValue D) (steps : StepsValue) (is_t
 -- the calls of the peer, one after another, each answered as its contract says
 abbrev pub AreAnswered : {D : Type 0} → Ghosts D → List Call → PeerValue D → PeerValue D → Type 0
 AreAnswered disk [] old new = new ≡ old
-AreAnswered {D} disk (call ∷ calls) old new = (middle : PeerValue D) × (reply : Reply) × IsAnswered disk old call reply middle × AreAnswered disk calls middle new
+AreAnswered {D} disk (call ∷ calls) old new =
+    (middle : PeerValue D) × (reply : Reply) × IsAnswered disk old call reply middle × AreAnswered disk calls middle new
 
 -- the calls of a turn, except for hearing and ticking
 abbrev pub IsOfTurn : Call → Type 0

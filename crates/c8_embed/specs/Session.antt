@@ -45,7 +45,8 @@ pub record IsFirstSealer (session : Session) (secrets : Secrets) (s : SealerValu
 
 -- the session gets a sealer, unless it has one
 abbrev pub HasSealing : Session → Secrets → Bool → Session → Type 0
-HasSealing old secrets true new = (s : SealerValue) × IsFirstSealer old secrets s × (old.sealer ≡ None) × (new.sealer ≡ Some s) × (new.engine ≡ old.engine) × (new.number ≡ old.number)
+HasSealing old secrets true new = (s : SealerValue) × IsFirstSealer old secrets s × (old.sealer ≡ None) × (new.sealer ≡ Some s)
+    × (new.engine ≡ old.engine) × (new.number ≡ old.number)
 HasSealing old secrets false new = IsSome old.sealer × (new.sealer ≡ old.sealer) × (new.engine ≡ old.engine) × (new.number ≡ old.number)
 
 -- ---- what comes
@@ -64,7 +65,8 @@ pub record IsHeard (old new : EngineOf) (datagram : List ℕ) (answer : Result H
 abbrev pub IsOpenedAs : Option SealerValue → List ℕ → Result (List ℕ) NotTaken → Option SealerValue → Type 0
 IsOpenedAs None bytes (Ok datagram) after = (datagram ≡ bytes) × (after ≡ None)
 IsOpenedAs None bytes (Err why) after = ⊥
-IsOpenedAs (Some before) bytes (Ok datagram) after = (given : GivenValue) × (sealer : SealerValue) × IsTaking before bytes (Ok given) sealer × (datagram ≡ given.datagram) × (after ≡ Some sealer)
+IsOpenedAs (Some before) bytes (Ok datagram) after =
+    (given : GivenValue) × (sealer : SealerValue) × IsTaking before bytes (Ok given) sealer × (datagram ≡ given.datagram) × (after ≡ Some sealer)
 IsOpenedAs (Some before) bytes (Err why) after = (sealer : SealerValue) × IsTaking before bytes (Err why) sealer × (after ≡ Some sealer)
 
 -- a datagram is delivered, and nothing else

@@ -6,7 +6,8 @@ use Rattle.std.proofs.Math.Seq.{get_or-append_right}
 use Rattle.hex.specs.Hex.{decode_of}
 use Rattle.hex.proofs.HexLemmas.{decode_of-ok}
 
-bytes_joined : (some more : List ℕ) → ((place : ℕ) → slice_index some place < 2 ^ 8) → ((place : ℕ) → slice_index more place < 2 ^ 8) → (place : ℕ) → slice_index (some ++ more) place < 2 ^ 8
+bytes_joined : (some more : List ℕ) → ((place : ℕ) → slice_index some place < 2 ^ 8) → ((place : ℕ) → slice_index more place < 2 ^ 8)
+    → (place : ℕ) → slice_index (some ++ more) place < 2 ^ 8
 bytes_joined some more first second place =
     elim (cases_lt place (length some)) [
       | inl within ↦ rw (get_or-append some more 0 place within) (first place)
@@ -14,7 +15,8 @@ bytes_joined some more first second place =
     ]
 
 -- the bytes are joined, or what was there stays
-pub bytes_grown : (joined : Bool) (some more : List ℕ) → ((place : ℕ) → slice_index some place < 2 ^ 8) → ((place : ℕ) → slice_index more place < 2 ^ 8) → (place : ℕ) → slice_index (cond joined (some ++ more) some) place < 2 ^ 8
+pub bytes_grown : (joined : Bool) (some more : List ℕ) → ((place : ℕ) → slice_index some place < 2 ^ 8)
+    → ((place : ℕ) → slice_index more place < 2 ^ 8) → (place : ℕ) → slice_index (cond joined (some ++ more) some) place < 2 ^ 8
 bytes_grown true some more first second = bytes_joined some more first second
 bytes_grown false some more first second = first
 

@@ -1,10 +1,12 @@
 -- How one more line changes a draft.
-use Rattle.std.proofs.Common.{◌≡◌, ℕ, ◌⊎◌, Bool, true, false, not, cond, length, List, [], ◌∷◌, ◌++◌, Option, Some, None, Result, Ok, Err, refl, ap, sym, ◌∙◌, inl, inr, ◌&&◌, ◌||◌, ◌==◌, ◌<◌, ◌≤◌, nat_lt, get_or, arith}
+use Rattle.std.proofs.Common.{◌≡◌, ℕ, ◌⊎◌, Bool, true, false, not, cond, length, List, [], ◌∷◌, ◌++◌, Option, Some, None, Result, Ok, Err,
+  refl, ap, sym, ◌∙◌, inl, inr, ◌&&◌, ◌||◌, ◌==◌, ◌<◌, ◌≤◌, nat_lt, get_or, arith}
 use Rattle.std.specs.Prelude.{slice_set, codes, MatchResult, OnOk, IfErr, is_ok, is_some, is_none, nat_le, slice_index, unwrap_or}
 use Rattle.std.specs.List.{list_any, AllZip}
 use Rattle.std.specs.Result.{result_unwrap_or}
 use Rattle.std.specs.Str.{bytes_eq}
-use Rattle.std.proofs.lemmas.Bool.{cases_Bool, cases_eq, both_ways, false_from_ne_true, eq-eqb, ne_eqb, eqb-false, or_right, and_from, lt-ltb, le-ltb, le-leb, ltb-true, ltb-false}
+use Rattle.std.proofs.lemmas.Bool.{cases_Bool, cases_eq, both_ways, false_from_ne_true, eq-eqb, ne_eqb, eqb-false, or_right, and_from,
+  lt-ltb, le-ltb, le-leb, ltb-true, ltb-false}
 use Rattle.std.proofs.lemmas.List.Folds.{list_any_at}
 use Rattle.std.proofs.lemmas.List.Concat.{flat_map-append}
 use Rattle.std.proofs.lemmas.List.{append-nil}
@@ -16,22 +18,27 @@ use Rattle.c8_game.specs.declared.text.field.Field.{Field}
 use Rattle.c8_game.specs.declared.text.field.Field.TheVariants.{Players, Ipf, Frames, Delay, Window, Seed, Wire, Mask1, Mask2, Mask3, Mask4}
 use Rattle.c8_game.specs.Fields.{fields, owner_of, default_of, field_named, number_of}
 use Rattle.c8_game.specs.GameText.{Item, Blank, Number, Code, Says, is_skipped, number_in, numbers_for, code_in, code_of, rule_of, Tell, Give}
-use Rattle.c8_game.specs.GameFaults.{is_name_and_value, name_in, value_in, names, is_told, field_fault, named_fault, code_fault, line_fault, players_in, is_lacking, is_stray, end_fault}
+use Rattle.c8_game.specs.GameFaults.{is_name_and_value, name_in, value_in, names, is_told, field_fault, named_fault, code_fault, line_fault,
+  players_in, is_lacking, is_stray, end_fault}
 use Rattle.c8_game.specs.checked.Draft.{Holds, AddsLine, AreFirst, first_for}
 use Rattle.c8_game.specs.Rules.{Rules, most_program}
 use Rattle.c8_game.specs.checked.Places.{index_of, number_at, untold_number, told_by, listed}
 use Rattle.c8_game.proofs.FieldLemmas.{same_field, index_of-small, itself, apart, number_at-set_same, number_at-set_other}
 use Rattle.c8_game.proofs.ItemLemmas.{fault_blank, says_number, says_code, named_told}
 
-pub numbers_more : (field : Field) (items : List Item) (item : Item) → numbers_for field (items ++ item ∷ []) ≡ numbers_for field items ++ number_in field item
-numbers_more field items item = flat_map-append (number_in field) items (item ∷ []) ∙ ap (λ more. numbers_for field items ++ more) (append-nil (number_in field item))
+pub numbers_more : (field : Field) (items : List Item) (item : Item)
+    → numbers_for field (items ++ item ∷ []) ≡ numbers_for field items ++ number_in field item
+numbers_more field items item = flat_map-append (number_in field) items (item ∷ [])
+    ∙ ap (λ more. numbers_for field items ++ more) (append-nil (number_in field item))
 
 code_more : (items : List Item) (item : Item) → code_of (items ++ item ∷ []) ≡ code_of items ++ code_in item
 code_more items item = flat_map-append code_in items (item ∷ []) ∙ ap (λ more. code_of items ++ more) (append-nil (code_in item))
 
 -- an item that is not a number changes no numbers
-numbers_stay : (field : Field) (items : List Item) (item : Item) → number_in field item ≡ [] → numbers_for field (items ++ item ∷ []) ≡ numbers_for field items
-numbers_stay field items item none = numbers_more field items item ∙ ap (λ more. numbers_for field items ++ more) none ∙ append-nil (numbers_for field items)
+numbers_stay : (field : Field) (items : List Item) (item : Item) → number_in field item ≡ []
+    → numbers_for field (items ++ item ∷ []) ≡ numbers_for field items
+numbers_stay field items item none = numbers_more field items item ∙ ap (λ more. numbers_for field items ++ more) none
+    ∙ append-nil (numbers_for field items)
 
 code_stays : (items : List Item) (item : Item) → code_in item ≡ [] → code_of items ≡ code_of (items ++ item ∷ [])
 code_stays items item none = sym (code_more items item ∙ ap (λ more. code_of items ++ more) none ∙ append-nil (code_of items))
@@ -39,21 +46,26 @@ code_stays items item none = sym (code_more items item ∙ ap (λ more. code_of 
 pub blank_line : (draft : Draft) (line : List ℕ) → is_skipped line ≡ true → AddsLine draft draft line (Ok tt)
 blank_line draft line skipped before items says holds = (
   fault_blank before line skipped,
-  (Blank, skipped, record { numbers = λ field. numbers_stay field items Blank refl ∙ holds.numbers field; program = holds.program ∙ code_stays items Blank refl }),
+  (Blank, skipped, record { numbers = λ field. numbers_stay field items Blank refl ∙ holds.numbers field;
+      program = holds.program ∙ code_stays items Blank refl }),
 )
 
 pub ok_unwrapped : {E : Type 0} (r : Result (List ℕ) E) → is_ok r ≡ true → r ≡ Ok (result_unwrap_or r [])
 ok_unwrapped (Ok bytes) good = refl
 ok_unwrapped (Err e) good = absurd (cc)
 
-pub fault_coded : (before : List (List ℕ)) (line : List ℕ) → is_skipped line ≡ false → is_name_and_value line ≡ true → bytes_eq (name_in line) (codes "code") ≡ true → line_fault before line ≡ code_fault (value_in line)
+pub fault_coded : (before : List (List ℕ)) (line : List ℕ) → is_skipped line ≡ false → is_name_and_value line ≡ true
+    → bytes_eq (name_in line) (codes "code") ≡ true → line_fault before line ≡ code_fault (value_in line)
 fault_coded before line said shaped coded = rw (said, shaped, coded) refl
 
-pub fault_named : (before : List (List ℕ)) (line : List ℕ) → is_skipped line ≡ false → is_name_and_value line ≡ true → bytes_eq (name_in line) (codes "code") ≡ false → line_fault before line ≡ named_fault before (field_named (name_in line)) (value_in line)
+pub fault_named : (before : List (List ℕ)) (line : List ℕ) → is_skipped line ≡ false → is_name_and_value line ≡ true
+    → bytes_eq (name_in line) (codes "code") ≡ false → line_fault before line ≡ named_fault before (field_named (name_in line)) (value_in line)
 fault_named before line said shaped uncoded = rw (said, shaped, uncoded) refl
 
-pub coded_line : (old new : Draft) (line : List ℕ) (result : Result (Unit {0}) GameError) → is_skipped line ≡ false → is_name_and_value line ≡ true → bytes_eq (name_in line) (codes "code") ≡ true
-    → OnOk result (is_ok (decode_of (value_in line)) ≡ true) → OnOk result (new.program.items ≡ old.program.items ++ result_unwrap_or (decode_of (value_in line)) []) → OnOk result (new.values ≡ old.values)
+pub coded_line : (old new : Draft) (line : List ℕ) (result : Result (Unit {0}) GameError) → is_skipped line ≡ false
+    → is_name_and_value line ≡ true → bytes_eq (name_in line) (codes "code") ≡ true
+    → OnOk result (is_ok (decode_of (value_in line)) ≡ true)
+    → OnOk result (new.program.items ≡ old.program.items ++ result_unwrap_or (decode_of (value_in line)) []) → OnOk result (new.values ≡ old.values)
     → IfErr result (λ e. (e ≡ Memory) ⊎ ((is_ok (decode_of (value_in line)) ≡ false) × (e ≡ Hex))) → AddsLine old new line result
 coded_line old new line (Ok u) said shaped coded good longer same fault before items says holds =
     let bytes : List ℕ = result_unwrap_or (decode_of (value_in line)) [] in (
@@ -62,7 +74,8 @@ coded_line old new line (Ok u) said shaped coded good longer same fault before i
         Code bytes,
         says_code line bytes shaped coded (ok_unwrapped (decode_of (value_in line)) good),
         record {
-          numbers = λ field. numbers_stay field items (Code bytes) refl ∙ holds.numbers field ∙ ap (λ values. listed (number_at values field)) (sym same);
+          numbers = λ field. numbers_stay field items (Code bytes) refl ∙ holds.numbers field
+              ∙ ap (λ values. listed (number_at values field)) (sym same);
           program = longer ∙ ap (λ some. some ++ bytes) holds.program ∙ sym (code_more items (Code bytes));
         },
       ),
@@ -82,39 +95,54 @@ none_listed None none = refl
 none_listed (Some number) none = absurd (cc)
 
 -- an earlier line names the field exactly if the draft has a number for it
-named_before : (draft : Draft) (field : Field) (before : List (List ℕ)) (items : List Item) → AllZip Says before items → Holds draft items → list_any (names field) before ≡ is_some (number_at draft.values field)
-named_before draft field before items says holds = named_told field before items says ∙ ap (λ numbers. nat_lt 0 (length numbers)) (holds.numbers field) ∙ sym (some_listed (number_at draft.values field))
+named_before : (draft : Draft) (field : Field) (before : List (List ℕ)) (items : List Item) → AllZip Says before items → Holds draft items
+    → list_any (names field) before ≡ is_some (number_at draft.values field)
+named_before draft field before items says holds =
+    named_told field before items says ∙ ap (λ numbers. nat_lt 0 (length numbers)) (holds.numbers field)
+    ∙ sym (some_listed (number_at draft.values field))
 
-fault_of_field : (draft : Draft) (before : List (List ℕ)) (items : List Item) (line : List ℕ) (field : Field) → AllZip Says before items → Holds draft items → is_skipped line ≡ false → is_name_and_value line ≡ true
-    → bytes_eq (name_in line) (codes "code") ≡ false → field_named (name_in line) ≡ Some field → line_fault before line ≡ field_fault field (is_some (number_at draft.values field)) (value_in line)
+fault_of_field : (draft : Draft) (before : List (List ℕ)) (items : List Item) (line : List ℕ) (field : Field) → AllZip Says before items
+    → Holds draft items → is_skipped line ≡ false → is_name_and_value line ≡ true
+    → bytes_eq (name_in line) (codes "code") ≡ false → field_named (name_in line) ≡ Some field
+    → line_fault before line ≡ field_fault field (is_some (number_at draft.values field)) (value_in line)
 fault_of_field draft before items line field says holds said shaped uncoded named =
-    fault_named before line said shaped uncoded ∙ ap (λ found. named_fault before found (value_in line)) named ∙ ap (λ again. field_fault field again (value_in line)) (named_before draft field before items says holds)
+    fault_named before line said shaped uncoded ∙ ap (λ found. named_fault before found (value_in line)) named
+        ∙ ap (λ again. field_fault field again (value_in line)) (named_before draft field before items says holds)
 
 -- the field has its first number now, and the others keep theirs
-number_more : (old new : Draft) (items : List Item) (field : Field) (number : ℕ) → length old.values ≡ 11 → Holds old items → is_some (number_at old.values field) ≡ false
-    → new.values ≡ slice_set old.values (index_of field) (Some number) → new.program.items ≡ old.program.items → Holds new (items ++ Number field number ∷ [])
+number_more : (old new : Draft) (items : List Item) (field : Field) (number : ℕ) → length old.values ≡ 11 → Holds old items
+    → is_some (number_at old.values field) ≡ false
+    → new.values ≡ slice_set old.values (index_of field) (Some number) → new.program.items ≡ old.program.items
+    → Holds new (items ++ Number field number ∷ [])
 number_more old new items field number size holds fresh set same = record {
   numbers = λ f. elim (cases_eq (index_of f) (index_of field)) [
     | inl here ↦ let is : f ≡ field = same_field f field here in
-        rw is (numbers_more field items (Number field number) ∙ ap (λ numbers. numbers ++ number_in field (Number field number)) (holds.numbers field ∙ none_listed (number_at old.values field) fresh)
-        ∙ ap (λ same_word. cond same_word (number ∷ []) []) (itself field) ∙ ap listed (sym (ap (λ values. number_at values field) set ∙ number_at-set_same old.values field number size)))
-    | inr differ ↦ numbers_stay f items (Number field number) (ap (λ same_word. cond same_word (number ∷ []) []) (apart f field differ)) ∙ holds.numbers f
+        rw is (numbers_more field items (Number field number)
+            ∙ ap (λ numbers. numbers ++ number_in field (Number field number)) (holds.numbers field ∙ none_listed (number_at old.values field) fresh)
+        ∙ ap (λ same_word. cond same_word (number ∷ []) []) (itself field)
+        ∙ ap listed (sym (ap (λ values. number_at values field) set ∙ number_at-set_same old.values field number size)))
+    | inr differ ↦ numbers_stay f items (Number field number) (ap (λ same_word. cond same_word (number ∷ []) []) (apart f field differ))
+    ∙ holds.numbers f
         ∙ ap listed (sym (ap (λ values. number_at values f) set ∙ number_at-set_other old.values field f number differ))
   ];
   program = same ∙ holds.program ∙ code_stays items (Number field number) refl;
 }
 
-pub named_line : (old new : Draft) (line : List ℕ) (field : Field) (result : Result (Unit {0}) GameError) → length old.values ≡ 11 → is_skipped line ≡ false → is_name_and_value line ≡ true
+pub named_line : (old new : Draft) (line : List ℕ) (field : Field) (result : Result (Unit {0}) GameError) → length old.values ≡ 11
+    → is_skipped line ≡ false → is_name_and_value line ≡ true
     → bytes_eq (name_in line) (codes "code") ≡ false → field_named (name_in line) ≡ Some field
-    → MatchResult result (λ _. field_fault field (is_some (number_at old.values field)) (value_in line) ≡ None) (λ e. field_fault field (is_some (number_at old.values field)) (value_in line) ≡ Some e)
-    → OnOk result (new.values ≡ slice_set old.values (index_of field) (Some (number_of field (value_in line)))) → OnOk result (new.program.items ≡ old.program.items) → AddsLine old new line result
+    → MatchResult result (λ _. field_fault field (is_some (number_at old.values field)) (value_in line) ≡ None)
+    (λ e. field_fault field (is_some (number_at old.values field)) (value_in line) ≡ Some e)
+    → OnOk result (new.values ≡ slice_set old.values (index_of field) (Some (number_of field (value_in line))))
+    → OnOk result (new.program.items ≡ old.program.items) → AddsLine old new line result
 named_line old new line field (Ok u) size said shaped uncoded named fault set same before items says holds =
     let number = number_of field (value_in line) in
     let meant = says_number line field (is_some (number_at old.values field)) shaped named fault in (
       fault_of_field old before items line field says holds said shaped uncoded named ∙ fault,
       (Number field number, meant.0, number_more old new items field number size holds meant.1 set same),
     )
-named_line old new line field (Err e) size said shaped uncoded named fault set same before items says holds = inr (fault_of_field old before items line field says holds said shaped uncoded named ∙ fault)
+named_line old new line field (Err e) size said shaped uncoded named fault set same before items says holds =
+    inr (fault_of_field old before items line field says holds said shaped uncoded named ∙ fault)
 
 -- ---- the end
 
@@ -130,9 +158,11 @@ first_listed None untold = refl
 first_listed (Some number) untold = refl
 
 pub first_same : (draft : Draft) (items : List Item) → Holds draft items → (field : Field) → told_by draft.values field ≡ first_for items field
-first_same draft items holds field = sym (ap (λ numbers. get_or numbers 0 (untold_number field)) (holds.numbers field) ∙ first_listed (number_at draft.values field) (untold_number field))
+first_same draft items holds field = sym (ap (λ numbers. get_or numbers 0 (untold_number field)) (holds.numbers field)
+    ∙ first_listed (number_at draft.values field) (untold_number field))
 
-pub four_same : (draft : Draft) (items : List Item) → Holds draft items → told_by draft.values Mask1 ∷ told_by draft.values Mask2 ∷ told_by draft.values Mask3 ∷ told_by draft.values Mask4 ∷ []
+pub four_same : (draft : Draft) (items : List Item) → Holds draft items
+    → told_by draft.values Mask1 ∷ told_by draft.values Mask2 ∷ told_by draft.values Mask3 ∷ told_by draft.values Mask4 ∷ []
     ≡ first_for items Mask1 ∷ first_for items Mask2 ∷ first_for items Mask3 ∷ first_for items Mask4 ∷ []
 four_same draft items holds =
     let same = first_same draft items holds in
@@ -146,10 +176,13 @@ pub some_bytes : (size : ℕ) → (size == 0) ≡ false → 0 < size
 some_bytes size some = let not_0 = eqb-false size 0 some in omega arith
 
 lacks_same : (draft : Draft) (items : List Item) (players : ℕ) → Holds draft items → players ≡ told_by draft.values Players
-    → list_any (λ field. nat_le (owner_of field) players && is_none (default_of field) && not (is_some (number_at draft.values field))) fields ≡ list_any (is_lacking items) fields
+    → list_any (λ field. nat_le (owner_of field) players && is_none (default_of field) && not (is_some (number_at draft.values field)))
+    fields ≡ list_any (is_lacking items) fields
 lacks_same draft items players holds told =
-    any_same (λ field. nat_le (owner_of field) players && is_none (default_of field) && not (is_some (number_at draft.values field))) (is_lacking items) fields (λ field.
-    ap (λ count. nat_le (owner_of field) count && is_none (default_of field) && not (is_some (number_at draft.values field))) (told ∙ first_same draft items holds Players)
+    any_same (λ field. nat_le (owner_of field) players && is_none (default_of field) && not (is_some (number_at draft.values field)))
+        (is_lacking items) fields (λ field.
+    ap (λ count. nat_le (owner_of field) count && is_none (default_of field) && not (is_some (number_at draft.values field)))
+        (told ∙ first_same draft items holds Players)
     ∙ ap (λ some. nat_le (owner_of field) (players_in items) && is_none (default_of field) && not some) (sym (told_same draft items field holds)))
 
 strays_same : (draft : Draft) (items : List Item) (players : ℕ) → Holds draft items → players ≡ told_by draft.values Players
@@ -163,7 +196,8 @@ size_same : (draft : Draft) (items : List Item) → Holds draft items → length
 size_same draft items holds = ap length holds.program
 
 pub finds_missing : (draft : Draft) (items : List Item) (players : ℕ) (lacks : Bool) → Holds draft items → players ≡ told_by draft.values Players
-    → lacks ≡ list_any (λ field. nat_le (owner_of field) players && is_none (default_of field) && not (is_some (number_at draft.values field))) fields → (lacks ≡ true) ⊎ (length draft.program.items ≡ 0) → end_fault items ≡ Some Missing
+    → lacks ≡ list_any (λ field. nat_le (owner_of field) players && is_none (default_of field) && not
+    (is_some (number_at draft.values field))) fields → (lacks ≡ true) ⊎ (length draft.program.items ≡ 0) → end_fault items ≡ Some Missing
 finds_missing draft items players lacks holds told is either =
     let lacking = sym (lacks_same draft items players holds told) ∙ sym is in
     elim either [
@@ -173,25 +207,34 @@ finds_missing draft items players lacks holds told is either =
     ]
 
 pub finds_range : (draft : Draft) (items : List Item) (players : ℕ) (lacks strays : Bool) → Holds draft items → players ≡ told_by draft.values Players
-    → lacks ≡ list_any (λ field. nat_le (owner_of field) players && is_none (default_of field) && not (is_some (number_at draft.values field))) fields → lacks ≡ false → 0 < length draft.program.items
-    → (most_program < length draft.program.items) ⊎ ((strays ≡ list_any (λ field. nat_lt players (owner_of field) && is_some (number_at draft.values field)) fields) × (strays ≡ true)) → end_fault items ≡ Some Range
+    → lacks ≡ list_any (λ field. nat_le (owner_of field) players && is_none (default_of field) && not
+    (is_some (number_at draft.values field))) fields → lacks ≡ false → 0 < length draft.program.items
+    → (most_program < length draft.program.items)
+    ⊎ ((strays ≡ list_any (λ field. nat_lt players (owner_of field) && is_some (number_at draft.values field)) fields) × (strays ≡ true))
+    → end_fault items ≡ Some Range
 finds_range draft items players lacks strays holds told is none some either =
     let lacking : list_any (is_lacking items) fields ≡ false = sym (lacks_same draft items players holds told) ∙ sym is ∙ none in
     let nonempty : (length (code_of items) == 0) ≡ false = ne_eqb (length (code_of items)) 0 (λ empty. omega (arith, size_same draft items holds)) in
     elim either [
-      | inl long ↦ let past : nat_lt most_program (length (code_of items)) ≡ true = lt-ltb most_program (length (code_of items)) (omega (arith, size_same draft items holds)) in
+      | inl long ↦ let past : nat_lt most_program (length (code_of items)) ≡ true =
+      lt-ltb most_program (length (code_of items)) (omega (arith, size_same draft items holds)) in
           rw (lacking, nonempty, past) refl
-      | inr stray ↦ let straying : list_any (is_stray items) fields ≡ true = sym (strays_same draft items players holds told) ∙ sym stray.0 ∙ stray.1 in
+      | inr stray ↦ let straying : list_any (is_stray items) fields ≡ true =
+      sym (strays_same draft items players holds told) ∙ sym stray.0 ∙ stray.1 in
           rw (lacking, nonempty, or_right (nat_lt most_program (length (code_of items))) (list_any (is_stray items) fields) straying) refl
     ]
 
 pub finds_none : (draft : Draft) (items : List Item) (players : ℕ) (lacks strays : Bool) → Holds draft items → players ≡ told_by draft.values Players
-    → lacks ≡ list_any (λ field. nat_le (owner_of field) players && is_none (default_of field) && not (is_some (number_at draft.values field))) fields → lacks ≡ false → 0 < length draft.program.items
-    → length draft.program.items ≤ most_program → strays ≡ list_any (λ field. nat_lt players (owner_of field) && is_some (number_at draft.values field)) fields → strays ≡ false → end_fault items ≡ None
+    → lacks ≡ list_any (λ field. nat_le (owner_of field) players && is_none (default_of field) && not
+    (is_some (number_at draft.values field))) fields → lacks ≡ false → 0 < length draft.program.items
+    → length draft.program.items ≤ most_program
+    → strays ≡ list_any (λ field. nat_lt players (owner_of field) && is_some (number_at draft.values field)) fields → strays ≡ false
+    → end_fault items ≡ None
 finds_none draft items players lacks strays holds told is none some fits stray straight =
     let lacking : list_any (is_lacking items) fields ≡ false = sym (lacks_same draft items players holds told) ∙ sym is ∙ none in
     let nonempty : (length (code_of items) == 0) ≡ false = ne_eqb (length (code_of items)) 0 (λ empty. omega (arith, size_same draft items holds)) in
-    let within : nat_lt most_program (length (code_of items)) ≡ false = le-ltb most_program (length (code_of items)) (omega (arith, size_same draft items holds)) in
+    let within : nat_lt most_program (length (code_of items)) ≡ false =
+        le-ltb most_program (length (code_of items)) (omega (arith, size_same draft items holds)) in
     let straying : list_any (is_stray items) fields ≡ false = sym (strays_same draft items players holds told) ∙ sym stray ∙ straight in
     rw (lacking, nonempty, within, straying) refl
 
@@ -208,7 +251,8 @@ length_listed (Some number) = omega arith
 pub holds_once : (draft : Draft) (items : List Item) → Holds draft items → AreOnce items
 holds_once draft items holds field = rw (holds.numbers field) (length_listed (number_at draft.values field))
 
-end_tests : (lacks empty long strays : Bool) → cond (lacks || empty) (Some Missing) (cond (long || strays) (Some Range) None) ≡ None → (lacks ≡ false) × (empty ≡ false) × (long ≡ false) × (strays ≡ false)
+end_tests : (lacks empty long strays : Bool) → cond (lacks || empty) (Some Missing) (cond (long || strays) (Some Range) None) ≡ None
+    → (lacks ≡ false) × (empty ≡ false) × (long ≡ false) × (strays ≡ false)
 end_tests false false false false fine = (refl, refl, refl, refl)
 end_tests true empty long strays fine = absurd (cc)
 end_tests false true long strays fine = absurd (cc)
@@ -260,11 +304,13 @@ has_default : (default : Option ℕ) → is_none default ≡ false → default �
 has_default None none = absurd (cc)
 has_default (Some number) none = refl
 
-untold_default : (owner players : ℕ) (default : Option ℕ) (told : Bool) → nat_le owner players && is_none default && not told ≡ false → owner ≤ players → told ≡ false → default ≡ Some (unwrap_or default 0)
+untold_default : (owner players : ℕ) (default : Option ℕ) (told : Bool) → nat_le owner players && is_none default && not told ≡ false
+    → owner ≤ players → told ≡ false → default ≡ Some (unwrap_or default 0)
 untold_default owner players default told lacking there untold =
     has_default default (false_from_ne_true (is_none default) (λ none.
     both_ways (nat_le owner players && is_none default && not told) lacking
-    (and_from (nat_le owner players && is_none default) (not told) (and_from (nat_le owner players) (is_none default) (le-leb owner players there) none) (rw untold refl))))
+    (and_from (nat_le owner players && is_none default) (not told)
+        (and_from (nat_le owner players) (is_none default) (le-leb owner players there) none) (rw untold refl))))
 
 -- no mask has a default
 untold_mask : (field : Field) → 0 < owner_of field → untold_number field ≡ 0
@@ -283,27 +329,33 @@ untold_mask Mask4 mask = refl
 first_untold : (items : List Item) (field : Field) → numbers_for field items ≡ [] → first_for items field ≡ untold_number field
 first_untold items field none = ap (λ numbers. get_or numbers 0 (untold_number field)) none
 
-tells_rule : (items : List Item) (rules : Rules) (field : Field) → AreFirst items rules → length (numbers_for field items) ≤ 1 → is_lacking items field ≡ false → owner_of field ≤ players_in items → Tell (numbers_for field items) field (rule_of field rules)
+tells_rule : (items : List Item) (rules : Rules) (field : Field) → AreFirst items rules → length (numbers_for field items) ≤ 1
+    → is_lacking items field ≡ false → owner_of field ≤ players_in items → Tell (numbers_for field items) field (rule_of field rules)
 tells_rule items rules field are once fine there =
     elim (cases_Bool (is_told items field)) [
-      | inl told ↦ inl (single (numbers_for field items) (untold_number field) (ltb-true 0 (length (numbers_for field items)) told) once ∙ ap (λ number. number ∷ []) (rule_first items rules are field))
+      | inl told ↦ inl (single (numbers_for field items) (untold_number field) (ltb-true 0 (length (numbers_for field items)) told) once
+      ∙ ap (λ number. number ∷ []) (rule_first items rules are field))
       | inr untold ↦ let none = none_of (numbers_for field items) untold in
           let default = untold_default (owner_of field) (players_in items) (default_of field) (is_told items field) fine there untold in
           inr (none, default ∙ ap Some (sym (first_untold items field none) ∙ rule_first items rules are field))
     ]
 
 stray_untold : (owner players : ℕ) (told : Bool) → nat_lt players owner && told ≡ false → players < owner → told ≡ false
-stray_untold owner players told straying beyond = false_from_ne_true told (λ is. both_ways (nat_lt players owner && told) straying (and_from (nat_lt players owner) told (lt-ltb players owner beyond) is))
+stray_untold owner players told straying beyond =
+    false_from_ne_true told (λ is. both_ways (nat_lt players owner && told) straying
+    (and_from (nat_lt players owner) told (lt-ltb players owner beyond) is))
 
 pub gives_rules : (items : List Item) (rules : Rules) → AreOnce items → end_fault items ≡ None → AreFirst items rules → Give items rules
 gives_rules items rules once fine are =
-    let tests = end_tests (list_any (is_lacking items) fields) (length (code_of items) == 0) (nat_lt most_program (length (code_of items))) (list_any (is_stray items) fields) fine in
+    let tests = end_tests (list_any (is_lacking items) fields) (length (code_of items) == 0) (nat_lt most_program (length (code_of items)))
+        (list_any (is_stray items) fields) fine in
     let some : ¬ (length (code_of items) ≡ 0) = eqb-false (length (code_of items)) 0 tests.1 in
     let fits : length (code_of items) ≤ most_program = ltb-false most_program (length (code_of items)) tests.2 in
     record {
       once = λ field there. tells_rule items rules field are (once field) (fails_each (is_lacking items) tests.0 field) (omega (arith, are.players));
       nowhere = λ field beyond.
-          let untold = stray_untold (owner_of field) (players_in items) (is_told items field) (fails_each (is_stray items) tests.3 field) (omega (arith, are.players)) in
+          let untold = stray_untold (owner_of field) (players_in items) (is_told items field) (fails_each (is_stray items) tests.3 field)
+              (omega (arith, are.players)) in
           let none = none_of (numbers_for field items) untold in
           (none, sym (rule_first items rules are field) ∙ first_untold items field none ∙ untold_mask field (omega arith));
       masks = ap length are.masks;

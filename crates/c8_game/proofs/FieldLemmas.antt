@@ -1,5 +1,6 @@
 -- Numbers by field, after one of them is set.
-use Rattle.std.proofs.Common.{◌≡◌, ◌≢◌, ℕ, ◌<◌, nat_eq, cond, length, Bool, true, false, List, [], ◌∷◌, Option, Some, None, refl, ap, sym, ◌∙◌, arith, get_or-set_same, get_or-set_other, inl, inr}
+use Rattle.std.proofs.Common.{◌≡◌, ◌≢◌, ℕ, ◌<◌, nat_eq, cond, length, Bool, true, false, List, [], ◌∷◌, Option, Some, None, refl, ap, sym,
+  ◌∙◌, arith, get_or-set_same, get_or-set_other, inl, inr}
 use Rattle.std.proofs.lemmas.Bool.{cases_Bool, cases_eq, cond-true, cond-false, false_from_ne_true}
 use Rattle.std.proofs.lemmas.Option.{same_Some}
 use Rattle.std.proofs.lemmas.Slice.Eq.{bytes_eq-Decides}
@@ -47,18 +48,24 @@ index_of-small Mask3 = omega arith
 index_of-small Mask4 = omega arith
 
 -- the field has the number that was set, and the others keep theirs
-pub number_at-set_same : (values : List (Option ℕ)) (field : Field) (number : ℕ) → length values ≡ 11 → number_at (slice_set values (index_of field) (Some number)) field ≡ Some number
-number_at-set_same values field number size = let within : index_of field < length values = omega (arith, index_of-small field) in get_or-set_same values (index_of field) (Some number) None within
+pub number_at-set_same : (values : List (Option ℕ)) (field : Field) (number : ℕ) → length values ≡ 11
+    → number_at (slice_set values (index_of field) (Some number)) field ≡ Some number
+number_at-set_same values field number size = let within : index_of field < length values = omega (arith, index_of-small field) in
+    get_or-set_same values (index_of field) (Some number) None within
 
-pub number_at-set_other : (values : List (Option ℕ)) (field other : Field) (number : ℕ) → index_of other ≢ index_of field → number_at (slice_set values (index_of field) (Some number)) other ≡ number_at values other
+pub number_at-set_other : (values : List (Option ℕ)) (field other : Field) (number : ℕ) → index_of other ≢ index_of field
+    → number_at (slice_set values (index_of field) (Some number)) other ≡ number_at values other
 number_at-set_other values field other number apart = get_or-set_other values (index_of field) (index_of other) (Some number) None apart
 
 -- all numbers stay in their ranges
-pub ranges_kept : (values : List (Option ℕ)) (field : Field) (number : ℕ) → length values ≡ 11 → ((f : Field) (n : ℕ) → number_at values f ≡ Some n → IsWithin f n) → IsWithin field number → (f : Field) (n : ℕ) → number_at (slice_set values (index_of field) (Some number)) f ≡ Some n → IsWithin f n
+pub ranges_kept : (values : List (Option ℕ)) (field : Field) (number : ℕ) → length values ≡ 11
+    → ((f : Field) (n : ℕ) → number_at values f ≡ Some n → IsWithin f n) → IsWithin field number → (f : Field) (n : ℕ)
+    → number_at (slice_set values (index_of field) (Some number)) f ≡ Some n → IsWithin f n
 ranges_kept values field number size kept within f n has =
     elim (cases_eq (index_of f) (index_of field)) [
       | inl same ↦ let is : f ≡ field = same_field f field same in
-          let set_here : number_at (slice_set values (index_of field) (Some number)) f ≡ Some number = rw is (number_at-set_same values field number size) in
+          let set_here : number_at (slice_set values (index_of field) (Some number)) f ≡ Some number =
+              rw is (number_at-set_same values field number size) in
           let value : Some number ≡ Some n = sym set_here ∙ has in
           let number_is : number ≡ n = cc in
           rw (is, ← number_is) within
@@ -84,7 +91,8 @@ found_passes : {X : Type 0} (p : X → Bool) (xs : List X) (x : X) → find p xs
 found_passes p [] x found = absurd (cc)
 found_passes p (first ∷ more) x found =
     elim (cases_Bool (p first)) [
-      | inl passes ↦ let is : first ≡ x = same_Some first x (sym (cond-true (p first) (Some first) (find p more) passes) ∙ found) in ap p (sym is) ∙ passes
+      | inl passes ↦ let is : first ≡ x = same_Some first x (sym (cond-true (p first) (Some first) (find p more) passes) ∙ found) in
+      ap p (sym is) ∙ passes
       | inr fails ↦ found_passes p more x (sym (cond-false (p first) (Some first) (find p more) fails) ∙ found)
     ]
 

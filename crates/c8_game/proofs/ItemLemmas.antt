@@ -1,10 +1,12 @@
 -- What a line says, compared with the name and the value that are read from it.
-use Rattle.std.proofs.Common.{◌≡◌, ℕ, ◌+◌, ◌<◌, Bool, true, false, not, cond, length, List, [], ◌∷◌, ◌++◌, ◌&&◌, ◌||◌, Some, None, Ok, refl, ap, sym, ◌∙◌, arith, add_comm, add-one, take, drop, get_or, length-append}
+use Rattle.std.proofs.Common.{◌≡◌, ℕ, ◌+◌, ◌<◌, Bool, true, false, not, cond, length, List, [], ◌∷◌, ◌++◌, ◌&&◌, ◌||◌, Some, None, Ok, refl,
+  ap, sym, ◌∙◌, arith, add_comm, add-one, take, drop, get_or, length-append}
 use Rattle.std.specs.Prelude.{codes, is_some, nat_lt, nat_le, position}
 use Rattle.std.specs.Char.{is_ascii_digit}
 use Rattle.std.specs.List.{position_or_len, list_any, list_all, AllZip, AllPass}
 use Rattle.std.specs.Str.{bytes_eq}
-use Rattle.std.proofs.lemmas.Bool.{eqb-true, and_parts, or_parts, and_from, or_left, both_ways, false_from_ne_true, lt-ltb, ltb-true, le-leb, leb-true}
+use Rattle.std.proofs.lemmas.Bool.{eqb-true, and_parts, or_parts, and_from, or_left, both_ways, false_from_ne_true, lt-ltb, ltb-true,
+  le-leb, leb-true}
 use Rattle.std.proofs.lemmas.List.Folds.{Any-from_list_any}
 use Rattle.std.proofs.lemmas.List.Sums.{AllPass-from_list_all, split_at_first, passes_at_first}
 use Rattle.std.proofs.lemmas.Slice.Eq.{bytes_eq-Decides}
@@ -18,7 +20,8 @@ use Rattle.c8_game.specs.GameText.{Item, Blank, Number, Code, Says, is_skipped, 
 use Rattle.c8_game.specs.declared.error.GameError.TheVariants.{Line, Range, Twice, Hex}
 use Rattle.c8_game.proofs.FieldLemmas.{named_itself, named_word}
 use Rattle.c8_game.proofs.LineLemmas.{within_if_some}
-use Rattle.c8_game.specs.GameFaults.{is_space, name_in, value_in, is_name_and_value, names, is_told, is_within, field_fault, named_fault, code_fault, line_fault}
+use Rattle.c8_game.specs.GameFaults.{is_space, name_in, value_in, is_name_and_value, names, is_told, is_within, field_fault, named_fault,
+  code_fault, line_fault}
 
 -- ---- a name, one space and a value
 
@@ -59,10 +62,12 @@ value_of name value spaceless = rw (space_after name value spaceless) (drop_fron
 -- a line with a space is its name, a space and its value
 pub in_two : (line : List ℕ) → is_name_and_value line ≡ true → line ≡ name_in line ++ 32 ∷ value_in line
 in_two line shaped =
-    let both = (and_parts (is_some (position is_space line) && nat_lt 0 (length (value_in line))) (not (list_any is_space (value_in line))) shaped).0 in
+    let both = (and_parts (is_some (position is_space line) && nat_lt 0 (length (value_in line))) (not (list_any is_space (value_in line)))
+        shaped).0 in
     let found = (and_parts (is_some (position is_space line)) (nat_lt 0 (length (value_in line))) both).0 in
     let within : position_or_len is_space line < length line = within_if_some is_space line found in
-    let space : get_or line (position_or_len is_space line) 0 ≡ 32 = eqb-true (get_or line (position_or_len is_space line) 0) 32 (passes_at_first is_space line 0 within) in
+    let space : get_or line (position_or_len is_space line) 0 ≡ 32 =
+        eqb-true (get_or line (position_or_len is_space line) 0) 32 (passes_at_first is_space line 0 within) in
     split_at_first is_space line 0 within ∙ ap (λ byte. name_in line ++ byte ∷ value_in line) space
 
 -- ---- values have no space in them, and are not empty
@@ -74,7 +79,8 @@ spaceless p value other all =
     let space : any.1 ≡ 32 = eqb-true any.1 32 any.4 in
     both_ways (p 32) other (sym (ap p (any.3 ∙ space)) ∙ all any.0 any.1 any.2))
 
-number_shape : (mask : Bool) (value : List ℕ) → cond mask (is_keys_text value) (is_decimal value) ≡ true → (0 < length value) × (list_any is_space value ≡ false)
+number_shape : (mask : Bool) (value : List ℕ) → cond mask (is_keys_text value) (is_decimal value) ≡ true
+    → (0 < length value) × (list_any is_space value ≡ false)
 number_shape true value is = let digits = (IsOk-decode_sized value 2).0 is in (omega (arith, digits.0), spaceless is_hex_digit value refl digits.1)
 number_shape false value is =
     let parts = and_parts (nat_lt 0 (length value) && nat_le (length value) 20) (list_all is_ascii_digit value) is in
@@ -84,13 +90,16 @@ number_shape false value is =
 code_shape : (value bytes : List ℕ) → decode_of value ≡ Ok bytes → 0 < length bytes → (0 < length value) × (list_any is_space value ≡ false)
 code_shape value bytes is some = let digits = decode_of-ok value bytes is in (omega (arith, digits.2), spaceless is_hex_digit value refl digits.1)
 
-pair_shaped : (name value : List ℕ) → list_any is_space name ≡ false → (0 < length value) × (list_any is_space value ≡ false) → is_name_and_value (name ++ 32 ∷ value) ≡ true
+pair_shaped : (name value : List ℕ) → list_any is_space name ≡ false → (0 < length value) × (list_any is_space value ≡ false)
+    → is_name_and_value (name ++ 32 ∷ value) ≡ true
 pair_shaped name value plain shape =
-    let within : nat_lt (length name) (length (name ++ 32 ∷ value)) ≡ true = lt-ltb (length name) (length (name ++ 32 ∷ value)) (omega (arith, length-append name (32 ∷ value))) in
+    let within : nat_lt (length name) (length (name ++ 32 ∷ value)) ≡ true =
+        lt-ltb (length name) (length (name ++ 32 ∷ value)) (omega (arith, length-append name (32 ∷ value))) in
     let found : is_some (position is_space (name ++ 32 ∷ value)) ≡ true = rw (space_after name value plain, within) refl in
     let some : nat_lt 0 (length (value_in (name ++ 32 ∷ value))) ≡ true = rw (value_of name value plain) (lt-ltb 0 (length value) shape.0) in
     let bare : not (list_any is_space (value_in (name ++ 32 ∷ value))) ≡ true = rw (value_of name value plain, shape.1) refl in
-    and_from (is_some (position is_space (name ++ 32 ∷ value)) && nat_lt 0 (length (value_in (name ++ 32 ∷ value)))) (not (list_any is_space (value_in (name ++ 32 ∷ value))))
+    and_from (is_some (position is_space (name ++ 32 ∷ value)) && nat_lt 0 (length (value_in (name ++ 32 ∷ value))))
+        (not (list_any is_space (value_in (name ++ 32 ∷ value))))
     (and_from (is_some (position is_space (name ++ 32 ∷ value))) (nat_lt 0 (length (value_in (name ++ 32 ∷ value)))) found some) bare
 
 -- ---- the judge on a line that says an item
@@ -122,13 +131,18 @@ word_uncoded Mask3 = refl
 word_uncoded Mask4 = refl
 
 -- a judge's tests of a field's value
-field_faultless : (mask number within again : Bool) → number ≡ true → within ≡ true → cond (not mask && not number) (Some Line) (cond again (Some Twice) (cond (not number) (Some Hex) (cond (not within) (Some Range) None))) ≡ cond again (Some Twice) None
+field_faultless : (mask number within again : Bool) → number ≡ true → within ≡ true
+    → cond (not mask && not number) (Some Line)
+    (cond again (Some Twice) (cond (not number) (Some Hex) (cond (not within) (Some Range) None))) ≡ cond again (Some Twice) None
 field_faultless true true true again is lies = refl
 field_faultless false true true again is lies = refl
 field_faultless mask false within again is lies = absurd (cc)
 field_faultless mask number false again is lies = absurd (cc)
 
-field_tests : (mask number within again : Bool) → cond (not mask && not number) (Some Line) (cond again (Some Twice) (cond (not number) (Some Hex) (cond (not within) (Some Range) None))) ≡ None → (number ≡ true) × (within ≡ true) × (again ≡ false)
+field_tests : (mask number within again : Bool)
+    → cond (not mask && not number) (Some Line)
+    (cond again (Some Twice) (cond (not number) (Some Hex) (cond (not within) (Some Range) None))) ≡ None
+    → (number ≡ true) × (within ≡ true) × (again ≡ false)
 field_tests true true true false fine = (refl, refl, refl)
 field_tests false true true false fine = (refl, refl, refl)
 field_tests false false within again fine = absurd (cc)
@@ -139,24 +153,31 @@ field_tests false true within true fine = absurd (cc)
 field_tests false true false false fine = absurd (cc)
 
 within_range : (field : Field) (number : ℕ) → IsWithin field number → is_within field number ≡ true
-within_range field number lies = and_from (nat_le (least_of field) number) (nat_le number (greatest_of field)) (le-leb (least_of field) number lies.0) (le-leb number (greatest_of field) lies.1)
+within_range field number lies = and_from (nat_le (least_of field) number) (nat_le number (greatest_of field))
+    (le-leb (least_of field) number lies.0) (le-leb number (greatest_of field) lies.1)
 
 range_within : (field : Field) (number : ℕ) → is_within field number ≡ true → IsWithin field number
-range_within field number lies = let parts = and_parts (nat_le (least_of field) number) (nat_le number (greatest_of field)) lies in (leb-true (least_of field) number parts.0, leb-true number (greatest_of field) parts.1)
+range_within field number lies = let parts = and_parts (nat_le (least_of field) number) (nat_le number (greatest_of field)) lies in
+    (leb-true (least_of field) number parts.0, leb-true number (greatest_of field) parts.1)
 
-fault_pair : (before : List (List ℕ)) (name value : List ℕ) → is_skipped (name ++ 32 ∷ value) ≡ false → list_any is_space name ≡ false → (0 < length value) × (list_any is_space value ≡ false)
+fault_pair : (before : List (List ℕ)) (name value : List ℕ) → is_skipped (name ++ 32 ∷ value) ≡ false → list_any is_space name ≡ false
+    → (0 < length value) × (list_any is_space value ≡ false)
     → line_fault before (name ++ 32 ∷ value) ≡ cond (bytes_eq name (codes "code")) (code_fault value) (named_fault before (field_named name) value)
-fault_pair before name value said plain shape = rw (said, pair_shaped name value plain shape, name_of name value plain, value_of name value plain) refl
+fault_pair before name value said plain shape =
+    rw (said, pair_shaped name value plain shape, name_of name value plain, value_of name value plain) refl
 
-pub fault_number : (before : List (List ℕ)) (line : List ℕ) (field : Field) (number : ℕ) → Says line (Number field number) → line_fault before line ≡ cond (list_any (names field) before) (Some Twice) None
+pub fault_number : (before : List (List ℕ)) (line : List ℕ) (field : Field) (number : ℕ) → Says line (Number field number)
+    → line_fault before line ≡ cond (list_any (names field) before) (Some Twice) None
 fault_number before line field number (value, is, spelled, spells, lies) =
     let within : is_within field (number_of field value) ≡ true = rw spells (within_range field number lies) in
-    rw (is, fault_pair before (word_of field) value (word_said field value) (word_spaceless field) (number_shape (is_mask field) value spelled), word_uncoded field, named_itself field)
+    rw (is, fault_pair before (word_of field) value (word_said field value) (word_spaceless field)
+        (number_shape (is_mask field) value spelled), word_uncoded field, named_itself field)
     (field_faultless (is_mask field) (is_number field value) (is_within field (number_of field value)) (list_any (names field) before) spelled within)
 
 pub fault_code : (before : List (List ℕ)) (line bytes : List ℕ) → Says line (Code bytes) → line_fault before line ≡ None
 fault_code before line bytes (value, is, decoded, some) =
-    let pair : line_fault before (codes "code" ++ 32 ∷ value) ≡ code_fault value = fault_pair before (codes "code") value refl refl (code_shape value bytes decoded some) in
+    let pair : line_fault before (codes "code" ++ 32 ∷ value) ≡ code_fault value =
+        fault_pair before (codes "code") value refl refl (code_shape value bytes decoded some) in
     let fine : code_fault value ≡ None = rw decoded refl in
     ap (line_fault before) is ∙ pair ∙ fine
 
@@ -165,20 +186,25 @@ fault_blank before line skipped = rw skipped refl
 
 -- ---- what a line without a fault says
 
-pub says_number : (line : List ℕ) (field : Field) (again : Bool) → is_name_and_value line ≡ true → field_named (name_in line) ≡ Some field → field_fault field again (value_in line) ≡ None
+pub says_number : (line : List ℕ) (field : Field) (again : Bool) → is_name_and_value line ≡ true → field_named (name_in line) ≡ Some field
+    → field_fault field again (value_in line) ≡ None
     → Says line (Number field (number_of field (value_in line))) × (again ≡ false)
 says_number line field again shaped named fine =
     let tests = field_tests (is_mask field) (is_number field (value_in line)) (is_within field (number_of field (value_in line))) again fine in
     let word : name_in line ≡ word_of field = named_word (name_in line) field named in (
-      (value_in line, in_two line shaped ∙ ap (λ name. name ++ 32 ∷ value_in line) word, tests.0, refl, range_within field (number_of field (value_in line)) tests.1),
+      (value_in line, in_two line shaped ∙ ap (λ name. name ++ 32 ∷ value_in line) word, tests.0, refl,
+          range_within field (number_of field (value_in line)) tests.1),
       tests.2,
     )
 
-pub says_code : (line bytes : List ℕ) → is_name_and_value line ≡ true → bytes_eq (name_in line) (codes "code") ≡ true → decode_of (value_in line) ≡ Ok bytes → Says line (Code bytes)
+pub says_code : (line bytes : List ℕ) → is_name_and_value line ≡ true → bytes_eq (name_in line) (codes "code") ≡ true
+    → decode_of (value_in line) ≡ Ok bytes → Says line (Code bytes)
 says_code line bytes shaped coded decoded =
     let word : name_in line ≡ codes "code" = (bytes_eq-Decides (name_in line) (codes "code")).0 coded in
-    let both = (and_parts (is_some (position is_space line) && nat_lt 0 (length (value_in line))) (not (list_any is_space (value_in line))) shaped).0 in
-    let some : 0 < length (value_in line) = ltb-true 0 (length (value_in line)) (and_parts (is_some (position is_space line)) (nat_lt 0 (length (value_in line))) both).1 in
+    let both = (and_parts (is_some (position is_space line) && nat_lt 0 (length (value_in line))) (not (list_any is_space (value_in line)))
+        shaped).0 in
+    let some : 0 < length (value_in line) = ltb-true 0 (length (value_in line))
+        (and_parts (is_some (position is_space line)) (nat_lt 0 (length (value_in line))) both).1 in
     let digits = decode_of-ok (value_in line) bytes decoded in
     (value_in line, in_two line shaped ∙ ap (λ name. name ++ 32 ∷ value_in line) word, decoded, omega (arith, digits.2))
 
@@ -216,7 +242,8 @@ starts_with_hash more = rw add_comm (rw add-one refl)
 
 blank_unnamed : (field : Field) (line : List ℕ) → is_skipped line ≡ true → names field line ≡ false
 blank_unnamed field [] skipped = empty_apart field
-blank_unnamed field (first ∷ more) skipped = let hash : first ≡ 35 = eqb-true first 35 skipped in rw (hash, starts_with_hash more) (hash_apart field (name_in more))
+blank_unnamed field (first ∷ more) skipped = let hash : first ≡ 35 = eqb-true first 35 skipped in
+    rw (hash, starts_with_hash more) (hash_apart field (name_in more))
 
 is_some_number : (same : Bool) (number : ℕ) → same ≡ nat_lt 0 (length (cond same (number ∷ []) []))
 is_some_number true number = refl
@@ -224,18 +251,22 @@ is_some_number false number = refl
 
 names_said : (field : Field) (line : List ℕ) (item : Item) → Says line item → names field line ≡ nat_lt 0 (length (number_in field item))
 names_said field line Blank says = blank_unnamed field line says
-names_said field line (Number named number) says = rw (says.1, name_of (word_of named) says.0 (word_spaceless named)) (is_some_number (is_same field named) number)
+names_said field line (Number named number) says =
+    rw (says.1, name_of (word_of named) says.0 (word_spaceless named)) (is_some_number (is_same field named) number)
 names_said field line (Code bytes) says =
     let name : name_in (codes "code" ++ 32 ∷ says.0) ≡ codes "code" = name_of (codes "code") says.0 refl in
     rw says.1 (rw name (word_uncoded field))
 
 some_joined : (one other : List ℕ) → (nat_lt 0 (length one) || nat_lt 0 (length other)) ≡ nat_lt 0 (length (one ++ other))
 some_joined [] other = refl
-some_joined (first ∷ more) other = or_left (nat_lt 0 (length (first ∷ more))) (nat_lt 0 (length other)) (lt-ltb 0 (length (first ∷ more)) (omega arith)) ∙ sym (lt-ltb 0 (length (first ∷ (more ++ other))) (omega arith))
+some_joined (first ∷ more) other = or_left (nat_lt 0 (length (first ∷ more))) (nat_lt 0 (length other))
+    (lt-ltb 0 (length (first ∷ more)) (omega arith)) ∙ sym (lt-ltb 0 (length (first ∷ (more ++ other))) (omega arith))
 
 -- a line names a field exactly if an item has a number for it
-pub named_told : (field : Field) (text_lines : List (List ℕ)) (items : List Item) → AllZip Says text_lines items → list_any (names field) text_lines ≡ is_told items field
+pub named_told : (field : Field) (text_lines : List (List ℕ)) (items : List Item) → AllZip Says text_lines items
+    → list_any (names field) text_lines ≡ is_told items field
 named_told field [] [] says = refl
 named_told field [] (item ∷ items) says = absurd says
 named_told field (line ∷ more) [] says = absurd says
-named_told field (line ∷ more) (item ∷ items) says = rw (names_said field line item says.0, named_told field more items says.1) (some_joined (number_in field item) (numbers_for field items))
+named_told field (line ∷ more) (item ∷ items) says =
+    rw (names_said field line item says.0, named_told field more items says.1) (some_joined (number_in field item) (numbers_for field items))

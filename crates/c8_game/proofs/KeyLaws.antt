@@ -21,7 +21,8 @@ in_right : (one other key : ℕ) → HasKey other key → HasKey (bit_or one oth
 in_right one other key has = omega (arith, bit_at_or one other key, bit_at-lt one key)
 
 in_both : (one other key : ℕ) → HasKey (bit_and one other) key → HasKey one key × HasKey other key
-in_both one other key has = (omega (arith, bit_at_and one other key, bit_at-lt one key, bit_at-lt other key), omega (arith, bit_at_and one other key, bit_at-lt one key, bit_at-lt other key))
+in_both one other key has = (omega (arith, bit_at_and one other key, bit_at-lt one key, bit_at-lt other key),
+    omega (arith, bit_at_and one other key, bit_at-lt one key, bit_at-lt other key))
 
 from_both : (one other key : ℕ) → HasKey one key → HasKey other key → HasKey (bit_and one other) key
 from_both one other key first second = omega (arith, bit_at_and one other key)
@@ -32,7 +33,8 @@ held_at rules row key place ranges has =
     let both = in_both (set_at row place) (slice_index rules.masks place) key has in
     elim (cases_lt place rules.players) [
       | inl there ↦ record { place = place; in_game = there; held = both.0; counts = both.1 }
-      | inr beyond ↦ let none : bit_at (slice_index rules.masks place) key ≡ 0 = ap (λ mask. bit_at mask key) (ranges.absent place beyond) ∙ bit_at-zero key in absurd (omega (arith, both.1))
+      | inr beyond ↦ let none : bit_at (slice_index rules.masks place) key ≡ 0 =
+      ap (λ mask. bit_at mask key) (ranges.absent place beyond) ∙ bit_at-zero key in absurd (omega (arith, both.1))
     ]
 
 joined_is_held : (rules : Rules) (row : Row) (key : ℕ) → AreInRange rules → HasKey (joined rules row) key → IsHeld rules row key
@@ -41,7 +43,8 @@ joined_is_held rules row key ranges has =
       | inl one ↦ held_at rules row key 0 ranges one
       | inr more ↦ elim (in_either (masked rules row 1) (bit_or (masked rules row 2) (masked rules row 3)) key more) [
         | inl two ↦ held_at rules row key 1 ranges two
-        | inr last ↦ elim (in_either (masked rules row 2) (masked rules row 3) key last) [ inl three ↦ held_at rules row key 2 ranges three | inr four ↦ held_at rules row key 3 ranges four ]
+        | inr last ↦ elim (in_either (masked rules row 2) (masked rules row 3) key last)
+        [ inl three ↦ held_at rules row key 2 ranges three | inr four ↦ held_at rules row key 3 ranges four ]
       ]
     ]
 
@@ -58,14 +61,16 @@ has_at rules row key place there has =
         | inl is ↦ in_left (masked rules row 1) three_four key (rw is at has)
         | inr later ↦ in_right (masked rules row 1) three_four key (elim (cases_eq place 2) [
           | inl is ↦ in_left (masked rules row 2) (masked rules row 3) key (rw is at has)
-          | inr last ↦ let is : place ≡ 3 = last_place place there past later last in in_right (masked rules row 2) (masked rules row 3) key (rw is at has)
+          | inr last ↦ let is : place ≡ 3 = last_place place there past later last in
+          in_right (masked rules row 2) (masked rules row 3) key (rw is at has)
         ])
       ])
     ]
 
 held_is_joined : (rules : Rules) (row : Row) (key : ℕ) → AreInRange rules → IsHeld rules row key → HasKey (joined rules row) key
 held_is_joined rules row key ranges held =
-    has_at rules row key held.place (omega (arith, held.in_game, ranges.at_most_four)) (from_both (set_at row held.place) (slice_index rules.masks held.place) key held.held held.counts)
+    has_at rules row key held.place (omega (arith, held.in_game, ranges.at_most_four))
+        (from_both (set_at row held.place) (slice_index rules.masks held.place) key held.held held.counts)
 
 pub joined_holds : (rules : Rules) (row : Row) (key : ℕ) → AreInRange rules → HasKey (joined rules row) key ↔ IsHeld rules row key
 joined_holds rules row key ranges = (joined_is_held rules row key ranges, held_is_joined rules row key ranges)

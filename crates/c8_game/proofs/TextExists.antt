@@ -1,5 +1,6 @@
 -- Rules in range have a text that spells them: one line for each field and one line of code, each with a line feed.
-use Rattle.std.proofs.Common.{◌≡◌, ℕ, zero, suc, ◌+◌, ◌-◌, ◌*◌, ◌/◌, ◌%◌, ◌^◌, ◌<◌, ◌≤◌, Bool, true, false, cond, length, List, [], ◌∷◌, ◌++◌, get_or, refl, ap, sym, ◌∙◌, inl, inr, arith, nat_lt, ◌&&◌, ◌==◌}
+use Rattle.std.proofs.Common.{◌≡◌, ℕ, zero, suc, ◌+◌, ◌-◌, ◌*◌, ◌/◌, ◌%◌, ◌^◌, ◌<◌, ◌≤◌, Bool, true, false, cond, length, List, [], ◌∷◌,
+  ◌++◌, get_or, refl, ap, sym, ◌∙◌, inl, inr, arith, nat_lt, ◌&&◌, ◌==◌}
 use Rattle.std.specs.Prelude.{codes, nat_le, flat_map, map, slice_index}
 use Rattle.std.specs.Char.{is_ascii_digit}
 use Rattle.std.specs.Int.{to_be_bytes, w16}
@@ -56,7 +57,8 @@ padded_digits (suc places) number small =
     let digit = first_digit places number small in
     let less : number % 10 ^ places < 10 ^ places = let some = some_power places in omega arith in
     and_from (is_ascii_digit (number / 10 ^ places + 48)) (list_all is_ascii_digit (padded places (number % 10 ^ places)))
-    (and_from (nat_le 48 (number / 10 ^ places + 48)) (nat_le (number / 10 ^ places + 48) 57) (le-leb 48 (number / 10 ^ places + 48) (omega arith)) (le-leb (number / 10 ^ places + 48) 57 (omega arith)))
+    (and_from (nat_le 48 (number / 10 ^ places + 48)) (nat_le (number / 10 ^ places + 48) 57)
+        (le-leb 48 (number / 10 ^ places + 48) (omega arith)) (le-leb (number / 10 ^ places + 48) 57 (omega arith)))
     (padded_digits places (number % 10 ^ places) less)
 
 padded_number : (places number : ℕ) → number < 10 ^ places → decimal_number (padded places number) ≡ number
@@ -73,7 +75,8 @@ padded_number (suc places) number small =
 decimal_fine : (number : ℕ) → number < 10 ^ 20 → (is_decimal (padded 20 number) ≡ true) × (decimal_number (padded 20 number) ≡ number)
 decimal_fine number small =
     let size = length-padded 20 number in (
-      and_from (nat_lt 0 (length (padded 20 number)) && nat_le (length (padded 20 number)) 20) (list_all is_ascii_digit (padded 20 number)) (rw size refl) (padded_digits 20 number small),
+      and_from (nat_lt 0 (length (padded 20 number)) && nat_le (length (padded 20 number)) 20) (list_all is_ascii_digit (padded 20 number))
+          (rw size refl) (padded_digits 20 number small),
       padded_number 20 number small,
     )
 
@@ -82,7 +85,8 @@ pair_bytes number small zero = omega arith
 pair_bytes number small (suc zero) = omega arith
 pair_bytes number small (suc (suc i)) = omega arith
 
-mask_fine : (number : ℕ) → number < 2 ^ 16 → (is_keys_text (encode_lower (to_be_bytes w16 number)) ≡ true) × (keys_number (encode_lower (to_be_bytes w16 number)) ≡ number)
+mask_fine : (number : ℕ) → number < 2 ^ 16
+    → (is_keys_text (encode_lower (to_be_bytes w16 number)) ≡ true) × (keys_number (encode_lower (to_be_bytes w16 number)) ≡ number)
 mask_fine number small =
     let decoded = decode_sized-encode_lower (to_be_bytes w16 number) 2 refl (pair_bytes number small) in
     (rw decoded refl, rw decoded (from_be_bytes-to_be_bytes_2 number small))
@@ -129,22 +133,27 @@ code_said bytes some each = (encode_lower bytes, refl, decode_of-encode_lower by
 abbrev is_inner : ℕ → Bool
 is_inner byte = nat_lt 13 byte
 
-all_inner : (p : ℕ → Bool) → ((byte : ℕ) → p byte ≡ true → is_inner byte ≡ true) → (value : List ℕ) → list_all p value ≡ true → list_all is_inner value ≡ true
+all_inner : (p : ℕ → Bool) → ((byte : ℕ) → p byte ≡ true → is_inner byte ≡ true) → (value : List ℕ) → list_all p value ≡ true
+    → list_all is_inner value ≡ true
 all_inner p each [] all = refl
-all_inner p each (byte ∷ more) all = let parts = and_parts (p byte) (list_all p more) all in and_from (is_inner byte) (list_all is_inner more) (each byte parts.0) (all_inner p each more parts.1)
+all_inner p each (byte ∷ more) all = let parts = and_parts (p byte) (list_all p more) all in
+    and_from (is_inner byte) (list_all is_inner more) (each byte parts.0) (all_inner p each more parts.1)
 
 digit_inner : (byte : ℕ) → is_ascii_digit byte ≡ true → is_inner byte ≡ true
-digit_inner byte digit = let ends = and_parts (nat_le 48 byte) (nat_le byte 57) digit in let low = leb-true 48 byte ends.0 in lt-ltb 13 byte (omega arith)
+digit_inner byte digit = let ends = and_parts (nat_le 48 byte) (nat_le byte 57) digit in let low = leb-true 48 byte ends.0 in
+    lt-ltb 13 byte (omega arith)
 
 no_hex_digit : (byte : ℕ) → byte ≤ 13 → is_hex_digit byte ≡ false
 no_hex_digit byte small = rw (lt-leb 65 byte (omega arith), lt-leb 97 byte (omega arith), lt-leb 48 byte (omega arith)) refl
 
 hex_inner : (byte : ℕ) → is_hex_digit byte ≡ true → is_inner byte ≡ true
-hex_inner byte digit = elim (cases_lt 13 byte) [ inl above ↦ lt-ltb 13 byte above | inr small ↦ absurd (both_ways (is_hex_digit byte) (no_hex_digit byte small) digit) ]
+hex_inner byte digit = elim (cases_lt 13 byte)
+    [ inl above ↦ lt-ltb 13 byte above | inr small ↦ absurd (both_ways (is_hex_digit byte) (no_hex_digit byte small) digit) ]
 
 number_inner : (mask : Bool) (value : List ℕ) → cond mask (is_keys_text value) (is_decimal value) ≡ true → list_all is_inner value ≡ true
 number_inner true value is = all_inner is_hex_digit hex_inner value (list_all-from_AllPass is_hex_digit value ((IsOk-decode_sized value 2).0 is).1)
-number_inner false value is = all_inner is_ascii_digit digit_inner value (and_parts (nat_lt 0 (length value) && nat_le (length value) 20) (list_all is_ascii_digit value) is).1
+number_inner false value is = all_inner is_ascii_digit digit_inner value
+    (and_parts (nat_lt 0 (length value) && nat_le (length value) 20) (list_all is_ascii_digit value) is).1
 
 word_inner : (field : Field) → list_all is_inner (word_of field) ≡ true
 word_inner Players = refl
@@ -160,13 +169,17 @@ word_inner Mask3 = refl
 word_inner Mask4 = refl
 
 pair_inner : (name value : List ℕ) → list_all is_inner name ≡ true → list_all is_inner value ≡ true → list_all is_inner (name ++ 32 ∷ value) ≡ true
-pair_inner name value first second = list_all-append is_inner name (32 ∷ value) ∙ and_from (list_all is_inner name) (list_all is_inner (32 ∷ value)) first second
+pair_inner name value first second = list_all-append is_inner name (32 ∷ value)
+    ∙ and_from (list_all is_inner name) (list_all is_inner (32 ∷ value)) first second
 
 said_inner : (item : Item) → Says (line_for item) item → list_all is_inner (line_for item) ≡ true
 unfolding line_for
 said_inner Blank says = refl
-said_inner (Number field number) says = ap (list_all is_inner) says.1 ∙ (pair_inner (word_of field) says.0 (word_inner field) (number_inner (is_mask field) says.0 says.2))
-said_inner (Code bytes) says = ap (list_all is_inner) says.1 ∙ (pair_inner (codes "code") says.0 refl (all_inner is_hex_digit hex_inner says.0 (list_all-from_AllPass is_hex_digit says.0 (decode_of-ok says.0 bytes says.2).1)))
+said_inner (Number field number) says = ap (list_all is_inner) says.1
+    ∙ (pair_inner (word_of field) says.0 (word_inner field) (number_inner (is_mask field) says.0 says.2))
+said_inner (Code bytes) says = ap (list_all is_inner) says.1
+    ∙ (pair_inner (codes "code") says.0 refl (all_inner is_hex_digit hex_inner says.0
+    (list_all-from_AllPass is_hex_digit says.0 (decode_of-ok says.0 bytes says.2).1)))
 
 no_feed : (line : List ℕ) → list_all is_inner line ≡ true → All (λ byte. (byte == 10) ≡ false) line
 no_feed line inner place other within =
@@ -178,7 +191,8 @@ stripped line inner =
     let last = get_or line (length line - 1) 0 in
     let other : (get_or line (length line - 1) 0 == 13) ≡ false =
     elim (cases_lt (length line - 1) (length line)) [
-      | inl within ↦ let above = ltb-true 13 (get_or line (length line - 1) 0) (AllPass-from_list_all is_inner line inner (length line - 1) 0 within) in
+      | inl within ↦ let above = ltb-true 13 (get_or line (length line - 1) 0)
+      (AllPass-from_list_all is_inner line inner (length line - 1) 0 within) in
           ne_eqb (get_or line (length line - 1) 0) 13 (λ return. omega arith)
       | inr past ↦ rw (get_or_past line (length line - 1) 0 past) refl
     ] in
@@ -205,7 +219,8 @@ lines_ended (item ∷ items) says =
 -- ---- the items of a game
 
 abbrev front : Rules → List Item → List Item
-front rules more = Number Players rules.players ∷ Number Ipf rules.ipf ∷ Number Frames rules.frames ∷ Number Delay rules.delay ∷ Number Window rules.window ∷ Number Seed rules.seed ∷ Number Wire (version_number rules.wire) ∷ more
+front rules more = Number Players rules.players ∷ Number Ipf rules.ipf ∷ Number Frames rules.frames ∷ Number Delay rules.delay ∷ Number
+    Window rules.window ∷ Number Seed rules.seed ∷ Number Wire (version_number rules.wire) ∷ more
 
 spelled : (items : List Item) (rules : Rules) → AllZip Says (map line_for items) items → Give items rules → (text : List ℕ) × Spells text rules
 spelled items rules says gives = (ended (map line_for items), (items, rw (lines_ended items says) says, gives))
@@ -216,7 +231,8 @@ four_left players low high not_2 not_3 = omega arith
 abbrev items_2 : Rules → List Item
 items_2 rules = front rules (Number Mask1 (slice_index rules.masks 0) ∷ Number Mask2 (slice_index rules.masks 1) ∷ Code rules.program ∷ [])
 
-once_2 : (rules : Rules) → rules.players ≡ 2 → (field : Field) → owner_of field ≤ rules.players → Tell (numbers_for field (items_2 rules)) field (rule_of field rules)
+once_2 : (rules : Rules) → rules.players ≡ 2 → (field : Field) → owner_of field ≤ rules.players
+    → Tell (numbers_for field (items_2 rules)) field (rule_of field rules)
 once_2 rules players Players there = inl refl
 once_2 rules players Ipf there = inl refl
 once_2 rules players Frames there = inl refl
@@ -229,7 +245,8 @@ once_2 rules players Mask2 there = inl refl
 once_2 rules players Mask3 there = absurd (omega arith)
 once_2 rules players Mask4 there = absurd (omega arith)
 
-nowhere_2 : (rules : Rules) → AreInRange rules → rules.players ≡ 2 → (field : Field) → rules.players < owner_of field → (numbers_for field (items_2 rules) ≡ []) × (rule_of field rules ≡ 0)
+nowhere_2 : (rules : Rules) → AreInRange rules → rules.players ≡ 2 → (field : Field) → rules.players < owner_of field
+    → (numbers_for field (items_2 rules) ≡ []) × (rule_of field rules ≡ 0)
 nowhere_2 rules ranges players Players beyond = absurd (omega arith)
 nowhere_2 rules ranges players Ipf beyond = absurd (omega arith)
 nowhere_2 rules ranges players Frames beyond = absurd (omega arith)
@@ -244,14 +261,27 @@ nowhere_2 rules ranges players Mask4 beyond = (refl, ranges.absent 3 (omega arit
 
 text_2 : (rules : Rules) → AreInRange rules → rules.players ≡ 2 → (text : List ℕ) × Spells text rules
 text_2 rules ranges players =
-    let says : AllZip Says (map line_for (items_2 rules)) (items_2 rules) = (number_said Players rules.players (ranges.at_least_two, ranges.at_most_four), (number_said Ipf rules.ipf (ranges.some_instructions, ranges.instructions), (number_said Frames rules.frames (ranges.some_frames, ranges.frames), (number_said Delay rules.delay (omega arith, ranges.delay), (number_said Window rules.window (ranges.some_window, ranges.window), (number_said Seed rules.seed (omega arith, omega (arith, ranges.seed)), (number_said Wire (version_number rules.wire) (version_within rules.wire), (number_said Mask1 (slice_index rules.masks 0) (omega arith, omega (arith, ranges.key_sets 0)), (number_said Mask2 (slice_index rules.masks 1) (omega arith, omega (arith, ranges.key_sets 1)), (code_said rules.program ranges.some_program ranges.bytes, tt)))))))))) in
-    let gives : Give (items_2 rules) rules = record { once = once_2 rules players; nowhere = nowhere_2 rules ranges players; masks = ranges.masks; program = sym (append-nil rules.program); some_code = ranges.some_program; most_code = ranges.program } in
+    let says : AllZip Says (map line_for (items_2 rules)) (items_2 rules) =
+        (number_said Players rules.players (ranges.at_least_two, ranges.at_most_four),
+        (number_said Ipf rules.ipf (ranges.some_instructions, ranges.instructions),
+        (number_said Frames rules.frames (ranges.some_frames, ranges.frames),
+        (number_said Delay rules.delay (omega arith, ranges.delay),
+        (number_said Window rules.window (ranges.some_window, ranges.window),
+        (number_said Seed rules.seed (omega arith, omega (arith, ranges.seed)),
+        (number_said Wire (version_number rules.wire) (version_within rules.wire),
+        (number_said Mask1 (slice_index rules.masks 0) (omega arith, omega (arith, ranges.key_sets 0)),
+        (number_said Mask2 (slice_index rules.masks 1) (omega arith, omega (arith, ranges.key_sets 1)),
+        (code_said rules.program ranges.some_program ranges.bytes, tt)))))))))) in
+    let gives : Give (items_2 rules) rules = record { once = once_2 rules players; nowhere = nowhere_2 rules ranges players;
+        masks = ranges.masks; program = sym (append-nil rules.program); some_code = ranges.some_program; most_code = ranges.program } in
     spelled (items_2 rules) rules says gives
 
 abbrev items_3 : Rules → List Item
-items_3 rules = front rules (Number Mask1 (slice_index rules.masks 0) ∷ Number Mask2 (slice_index rules.masks 1) ∷ Number Mask3 (slice_index rules.masks 2) ∷ Code rules.program ∷ [])
+items_3 rules = front rules (Number Mask1 (slice_index rules.masks 0) ∷ Number Mask2 (slice_index rules.masks 1) ∷ Number Mask3
+    (slice_index rules.masks 2) ∷ Code rules.program ∷ [])
 
-once_3 : (rules : Rules) → rules.players ≡ 3 → (field : Field) → owner_of field ≤ rules.players → Tell (numbers_for field (items_3 rules)) field (rule_of field rules)
+once_3 : (rules : Rules) → rules.players ≡ 3 → (field : Field) → owner_of field ≤ rules.players
+    → Tell (numbers_for field (items_3 rules)) field (rule_of field rules)
 once_3 rules players Players there = inl refl
 once_3 rules players Ipf there = inl refl
 once_3 rules players Frames there = inl refl
@@ -264,7 +294,8 @@ once_3 rules players Mask2 there = inl refl
 once_3 rules players Mask3 there = inl refl
 once_3 rules players Mask4 there = absurd (omega arith)
 
-nowhere_3 : (rules : Rules) → AreInRange rules → rules.players ≡ 3 → (field : Field) → rules.players < owner_of field → (numbers_for field (items_3 rules) ≡ []) × (rule_of field rules ≡ 0)
+nowhere_3 : (rules : Rules) → AreInRange rules → rules.players ≡ 3 → (field : Field) → rules.players < owner_of field
+    → (numbers_for field (items_3 rules) ≡ []) × (rule_of field rules ≡ 0)
 nowhere_3 rules ranges players Players beyond = absurd (omega arith)
 nowhere_3 rules ranges players Ipf beyond = absurd (omega arith)
 nowhere_3 rules ranges players Frames beyond = absurd (omega arith)
@@ -279,14 +310,28 @@ nowhere_3 rules ranges players Mask4 beyond = (refl, ranges.absent 3 (omega arit
 
 text_3 : (rules : Rules) → AreInRange rules → rules.players ≡ 3 → (text : List ℕ) × Spells text rules
 text_3 rules ranges players =
-    let says : AllZip Says (map line_for (items_3 rules)) (items_3 rules) = (number_said Players rules.players (ranges.at_least_two, ranges.at_most_four), (number_said Ipf rules.ipf (ranges.some_instructions, ranges.instructions), (number_said Frames rules.frames (ranges.some_frames, ranges.frames), (number_said Delay rules.delay (omega arith, ranges.delay), (number_said Window rules.window (ranges.some_window, ranges.window), (number_said Seed rules.seed (omega arith, omega (arith, ranges.seed)), (number_said Wire (version_number rules.wire) (version_within rules.wire), (number_said Mask1 (slice_index rules.masks 0) (omega arith, omega (arith, ranges.key_sets 0)), (number_said Mask2 (slice_index rules.masks 1) (omega arith, omega (arith, ranges.key_sets 1)), (number_said Mask3 (slice_index rules.masks 2) (omega arith, omega (arith, ranges.key_sets 2)), (code_said rules.program ranges.some_program ranges.bytes, tt))))))))))) in
-    let gives : Give (items_3 rules) rules = record { once = once_3 rules players; nowhere = nowhere_3 rules ranges players; masks = ranges.masks; program = sym (append-nil rules.program); some_code = ranges.some_program; most_code = ranges.program } in
+    let says : AllZip Says (map line_for (items_3 rules)) (items_3 rules) =
+        (number_said Players rules.players (ranges.at_least_two, ranges.at_most_four),
+        (number_said Ipf rules.ipf (ranges.some_instructions, ranges.instructions),
+        (number_said Frames rules.frames (ranges.some_frames, ranges.frames),
+        (number_said Delay rules.delay (omega arith, ranges.delay),
+        (number_said Window rules.window (ranges.some_window, ranges.window),
+        (number_said Seed rules.seed (omega arith, omega (arith, ranges.seed)),
+        (number_said Wire (version_number rules.wire) (version_within rules.wire),
+        (number_said Mask1 (slice_index rules.masks 0) (omega arith, omega (arith, ranges.key_sets 0)),
+        (number_said Mask2 (slice_index rules.masks 1) (omega arith, omega (arith, ranges.key_sets 1)),
+        (number_said Mask3 (slice_index rules.masks 2) (omega arith, omega (arith, ranges.key_sets 2)),
+        (code_said rules.program ranges.some_program ranges.bytes, tt))))))))))) in
+    let gives : Give (items_3 rules) rules = record { once = once_3 rules players; nowhere = nowhere_3 rules ranges players;
+        masks = ranges.masks; program = sym (append-nil rules.program); some_code = ranges.some_program; most_code = ranges.program } in
     spelled (items_3 rules) rules says gives
 
 abbrev items_4 : Rules → List Item
-items_4 rules = front rules (Number Mask1 (slice_index rules.masks 0) ∷ Number Mask2 (slice_index rules.masks 1) ∷ Number Mask3 (slice_index rules.masks 2) ∷ Number Mask4 (slice_index rules.masks 3) ∷ Code rules.program ∷ [])
+items_4 rules = front rules (Number Mask1 (slice_index rules.masks 0) ∷ Number Mask2 (slice_index rules.masks 1) ∷ Number Mask3
+    (slice_index rules.masks 2) ∷ Number Mask4 (slice_index rules.masks 3) ∷ Code rules.program ∷ [])
 
-once_4 : (rules : Rules) → rules.players ≡ 4 → (field : Field) → owner_of field ≤ rules.players → Tell (numbers_for field (items_4 rules)) field (rule_of field rules)
+once_4 : (rules : Rules) → rules.players ≡ 4 → (field : Field) → owner_of field ≤ rules.players
+    → Tell (numbers_for field (items_4 rules)) field (rule_of field rules)
 once_4 rules players Players there = inl refl
 once_4 rules players Ipf there = inl refl
 once_4 rules players Frames there = inl refl
@@ -299,7 +344,8 @@ once_4 rules players Mask2 there = inl refl
 once_4 rules players Mask3 there = inl refl
 once_4 rules players Mask4 there = inl refl
 
-nowhere_4 : (rules : Rules) → AreInRange rules → rules.players ≡ 4 → (field : Field) → rules.players < owner_of field → (numbers_for field (items_4 rules) ≡ []) × (rule_of field rules ≡ 0)
+nowhere_4 : (rules : Rules) → AreInRange rules → rules.players ≡ 4 → (field : Field) → rules.players < owner_of field
+    → (numbers_for field (items_4 rules) ≡ []) × (rule_of field rules ≡ 0)
 nowhere_4 rules ranges players Players beyond = absurd (omega arith)
 nowhere_4 rules ranges players Ipf beyond = absurd (omega arith)
 nowhere_4 rules ranges players Frames beyond = absurd (omega arith)
@@ -314,8 +360,21 @@ nowhere_4 rules ranges players Mask4 beyond = absurd (omega arith)
 
 text_4 : (rules : Rules) → AreInRange rules → rules.players ≡ 4 → (text : List ℕ) × Spells text rules
 text_4 rules ranges players =
-    let says : AllZip Says (map line_for (items_4 rules)) (items_4 rules) = (number_said Players rules.players (ranges.at_least_two, ranges.at_most_four), (number_said Ipf rules.ipf (ranges.some_instructions, ranges.instructions), (number_said Frames rules.frames (ranges.some_frames, ranges.frames), (number_said Delay rules.delay (omega arith, ranges.delay), (number_said Window rules.window (ranges.some_window, ranges.window), (number_said Seed rules.seed (omega arith, omega (arith, ranges.seed)), (number_said Wire (version_number rules.wire) (version_within rules.wire), (number_said Mask1 (slice_index rules.masks 0) (omega arith, omega (arith, ranges.key_sets 0)), (number_said Mask2 (slice_index rules.masks 1) (omega arith, omega (arith, ranges.key_sets 1)), (number_said Mask3 (slice_index rules.masks 2) (omega arith, omega (arith, ranges.key_sets 2)), (number_said Mask4 (slice_index rules.masks 3) (omega arith, omega (arith, ranges.key_sets 3)), (code_said rules.program ranges.some_program ranges.bytes, tt)))))))))))) in
-    let gives : Give (items_4 rules) rules = record { once = once_4 rules players; nowhere = nowhere_4 rules ranges players; masks = ranges.masks; program = sym (append-nil rules.program); some_code = ranges.some_program; most_code = ranges.program } in
+    let says : AllZip Says (map line_for (items_4 rules)) (items_4 rules) =
+        (number_said Players rules.players (ranges.at_least_two, ranges.at_most_four),
+        (number_said Ipf rules.ipf (ranges.some_instructions, ranges.instructions),
+        (number_said Frames rules.frames (ranges.some_frames, ranges.frames),
+        (number_said Delay rules.delay (omega arith, ranges.delay),
+        (number_said Window rules.window (ranges.some_window, ranges.window),
+        (number_said Seed rules.seed (omega arith, omega (arith, ranges.seed)),
+        (number_said Wire (version_number rules.wire) (version_within rules.wire),
+        (number_said Mask1 (slice_index rules.masks 0) (omega arith, omega (arith, ranges.key_sets 0)),
+        (number_said Mask2 (slice_index rules.masks 1) (omega arith, omega (arith, ranges.key_sets 1)),
+        (number_said Mask3 (slice_index rules.masks 2) (omega arith, omega (arith, ranges.key_sets 2)),
+        (number_said Mask4 (slice_index rules.masks 3) (omega arith, omega (arith, ranges.key_sets 3)),
+        (code_said rules.program ranges.some_program ranges.bytes, tt)))))))))))) in
+    let gives : Give (items_4 rules) rules = record { once = once_4 rules players; nowhere = nowhere_4 rules ranges players;
+        masks = ranges.masks; program = sym (append-nil rules.program); some_code = ranges.some_program; most_code = ranges.program } in
     spelled (items_4 rules) rules says gives
 
 pub text_exists : (rules : Rules) → AreInRange rules → (text : List ℕ) × Spells text rules

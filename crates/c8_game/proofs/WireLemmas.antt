@@ -22,4 +22,5 @@ version_for number = cond (number == 2) Two One
 
 pub version_again : (number : ℕ) → IsWithin Wire number → version_number (version_for number) ≡ number
 unfolding version_for
-version_again number lies = elim (cases_eq number 2) [ inl two ↦ rw two refl | inr other ↦ rw (ne_eqb number 2 other) (omega (arith, lies.0, lies.1)) ]
+version_again number lies = elim (cases_eq number 2)
+    [ inl two ↦ rw two refl | inr other ↦ rw (ne_eqb number 2 other) (omega (arith, lies.0, lies.1)) ]

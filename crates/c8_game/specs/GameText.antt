@@ -1,5 +1,6 @@
 -- Which text spells which game, by the items of its lines.
-use Rattle.std.specs.Prelude.{◌≡◌, ℕ, ◌<◌, ◌≤◌, ◌==◌, ◌⊎◌, Bool, true, List, [], ◌∷◌, ◌++◌, length, codes, flat_map, slice_index, Some, Ok, if◌then◌else◌}
+use Rattle.std.specs.Prelude.{◌≡◌, ℕ, ◌<◌, ◌≤◌, ◌==◌, ◌⊎◌, Bool, true, List, [], ◌∷◌, ◌++◌, length, codes, flat_map, slice_index, Some, Ok,
+  if◌then◌else◌}
 use Rattle.std.specs.List.{AllZip}
 use Rattle.std.specs.Str.Lines.{lines}
 use Rattle.hex.specs.Hex.{decode_of}
@@ -23,7 +24,8 @@ is_skipped (first ∷ more) = first == 35
 -- the line says the item: it is skipped, or a name, one space and a value
 abbrev pub Says : List ℕ → Item → Type 0
 Says line Blank = is_skipped line ≡ true
-Says line (Number field number) = (value : List ℕ) × (line ≡ word_of field ++ 32 ∷ value) × (is_number field value ≡ true) × (number_of field value ≡ number) × IsWithin field number
+Says line (Number field number) = (value : List ℕ) × (line ≡ word_of field ++ 32 ∷ value) × (is_number field value ≡ true)
+    × (number_of field value ≡ number) × IsWithin field number
 Says line (Code bytes) = (value : List ℕ) × (line ≡ codes "code" ++ 32 ∷ value) × (decode_of value ≡ Ok bytes) × (0 < length bytes)
 
 -- the numbers that the items have for a field, in order

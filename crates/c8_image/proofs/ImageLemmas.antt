@@ -24,13 +24,16 @@ consumes_both (Some us) None c xs ys one two = absurd one
 consumes_both (Some us) (Some vs) None xs ys one two = absurd two
 consumes_both (Some us) (Some vs) (Some ws) xs ys one two = one ∙ ap (λ (zs : List ℕ). xs ++ zs) two ∙ sym (append_assoc xs ys ws)
 
-pub consumes_more : (a b c : Option (List ℕ)) (n m end : ℕ) (bytes : List ℕ) → n + m ≡ end → Consumes a b (take n bytes) → Consumes b c (take m (drop n bytes)) → Consumes a c (take end bytes)
-consumes_more a b c n m end bytes ends one two = rw (ap (λ (k : ℕ). take k bytes) (sym ends) ∙ take_add n m bytes) (consumes_both a b c (take n bytes) (take m (drop n bytes)) one two)
+pub consumes_more : (a b c : Option (List ℕ)) (n m end : ℕ) (bytes : List ℕ) → n + m ≡ end → Consumes a b (take n bytes)
+    → Consumes b c (take m (drop n bytes)) → Consumes a c (take end bytes)
+consumes_more a b c n m end bytes ends one two =
+    rw (ap (λ (k : ℕ). take k bytes) (sym ends) ∙ take_add n m bytes) (consumes_both a b c (take n bytes) (take m (drop n bytes)) one two)
 
 pub all_consumed : (a b : Option (List ℕ)) (bytes : List ℕ) → Consumes a b bytes → IsAtEnd b → IfSome a (λ left. left ≡ bytes)
 all_consumed None b bytes one none = tt
 all_consumed (Some us) None bytes one none = absurd one
 all_consumed (Some us) (Some vs) bytes one none = one ∙ ap (λ (zs : List ℕ). bytes ++ zs) none ∙ append-nil bytes
 
-pub consumes_rest : (a b c : Option (List ℕ)) (n : ℕ) (bytes : List ℕ) → Consumes a b (take n bytes) → Consumes b c (drop n bytes) → Consumes a c bytes
+pub consumes_rest : (a b c : Option (List ℕ)) (n : ℕ) (bytes : List ℕ) → Consumes a b (take n bytes) → Consumes b c (drop n bytes)
+    → Consumes a c bytes
 consumes_rest a b c n bytes one two = rw (sym (take-append-drop n bytes)) (consumes_both a b c (take n bytes) (drop n bytes) one two)

@@ -1,5 +1,6 @@
 -- One more place of a line, and the first fault of lines.
-use Rattle.std.proofs.Common.{◌≡◌, ℕ, zero, suc, ◌+◌, ◌-◌, ◌*◌, ◌≤◌, ◌<◌, Bool, true, false, ◌&&◌, nat_eq, Option, None, Some, MatchOption, List, [], ◌∷◌, ◌++◌, length, map, replicate, slice_set, refl, ap, sym, ◌∙◌, arith, inl, inr}
+use Rattle.std.proofs.Common.{◌≡◌, ℕ, zero, suc, ◌+◌, ◌-◌, ◌*◌, ◌≤◌, ◌<◌, Bool, true, false, ◌&&◌, nat_eq, Option, None, Some, MatchOption,
+  List, [], ◌∷◌, ◌++◌, length, map, replicate, slice_set, refl, ap, sym, ◌∙◌, arith, inl, inr}
 use Rattle.std.specs.Prelude.{is_some}
 use Rattle.std.specs.List.{list_all, range_with_len}
 use Rattle.std.proofs.lemmas.Bool.{cases_lt, le-leb, lt-leb}
@@ -36,14 +37,16 @@ range_more : (a n k : ℕ) → a + n ≡ k → range_with_len a (suc n) ≡ rang
 range_more a zero k same = let here : a ≡ k = omega arith in ap (λ i. i ∷ []) here
 range_more a (suc n) k same = ap (λ more. a ∷ more) (range_more (a + 1) n k (omega arith))
 
-pub one_more_set : (line : List ℕ) (n : ℕ) → list_all (are_keys_at line) (range_with_len 0 n) ≡ true → are_keys_at line n ≡ true → list_all (are_keys_at line) (range_with_len 0 (n + 1)) ≡ true
+pub one_more_set : (line : List ℕ) (n : ℕ) → list_all (are_keys_at line) (range_with_len 0 n) ≡ true → are_keys_at line n ≡ true
+    → list_all (are_keys_at line) (range_with_len 0 (n + 1)) ≡ true
 one_more_set line n all here =
     let next : n + 1 ≡ suc n = omega arith in
     ap (λ m. list_all (are_keys_at line) (range_with_len 0 m)) next ∙ ap (list_all (are_keys_at line)) (range_more 0 n n (omega arith))
     ∙ list_all-append (are_keys_at line) (range_with_len 0 n) (n ∷ []) ∙ ap (λ b. b && (are_keys_at line n && true)) all ∙ ap (λ b. b && true) here
 
 -- the set of the next place goes where none was
-pub next_set : (f : ℕ → Keys) (none : Keys) (n : ℕ) → n < 4 → slice_set (map f (range_with_len 0 n) ++ replicate (4 - n) none) n (f n) ≡ map f (range_with_len 0 (n + 1)) ++ replicate (4 - (n + 1)) none
+pub next_set : (f : ℕ → Keys) (none : Keys) (n : ℕ) → n < 4
+    → slice_set (map f (range_with_len 0 n) ++ replicate (4 - n) none) n (f n) ≡ map f (range_with_len 0 (n + 1)) ++ replicate (4 - (n + 1)) none
 next_set f none n within =
     let long : length (map f (range_with_len 0 n)) ≡ n = length-map-range_with_len f 0 n in
     let room : 4 - n ≡ suc (4 - (n + 1)) = omega arith in
@@ -54,11 +57,13 @@ next_set f none n within =
     ∙ ap (λ sets. sets ++ replicate (4 - (n + 1)) none) (sym (map-range_with_len_more f 0 n n (omega arith)))
 
 -- a key line with a frame left for it has no fault
-pub good_line : (rules : Rules) (before : List (List ℕ)) (line : List ℕ) → length before < rules.frames → is_key_line rules.players line ≡ true → key_line_fault rules before line ≡ None
+pub good_line : (rules : Rules) (before : List (List ℕ)) (line : List ℕ) → length before < rules.frames
+    → is_key_line rules.players line ≡ true → key_line_fault rules before line ≡ None
 good_line rules before line left good = rw (lt-leb rules.frames (length before) left, good) refl
 
 -- after faultless lines, the first fault of a text is one line too many, or a line that is no key line
-pub first_long : (rules : Rules) (text : List ℕ) (before : List (List ℕ)) (line : List ℕ) (after : List (List ℕ)) → lines text ≡ before ++ line ∷ after
+pub first_long : (rules : Rules) (text : List ℕ) (before : List (List ℕ)) (line : List ℕ) (after : List (List ℕ))
+    → lines text ≡ before ++ line ∷ after
     → AreFaultless (key_line_fault rules) before → rules.frames ≤ length before → IsFaultOf rules text Long
 first_long rules text before line after cut faultless past =
     let long : key_line_fault rules before line ≡ Some Long = rw (le-leb rules.frames (length before) past) refl in
@@ -71,14 +76,17 @@ first_bad rules text before line after cut faultless left bad =
     rw cut (first_found (key_line_fault rules) before line after Line faultless none)
 
 -- the same with the place of the line
-pub long_here : (rules : Rules) (text : List ℕ) (before : List (List ℕ)) (line : List ℕ) (after : List (List ℕ)) (place : ℕ) → lines text ≡ before ++ line ∷ after → place ≡ length before
+pub long_here : (rules : Rules) (text : List ℕ) (before : List (List ℕ)) (line : List ℕ) (after : List (List ℕ)) (place : ℕ)
+    → lines text ≡ before ++ line ∷ after → place ≡ length before
     → AreFaultless (key_line_fault rules) before → rules.frames ≤ length before → IsFirstPlace (key_line_fault rules) (lines text) place
 long_here rules text before line after place cut here faultless past =
     let long : key_line_fault rules before line ≡ Some Long = rw (le-leb rules.frames (length before) past) refl in
     rw (cut, here) (Long, first_placed (key_line_fault rules) before line after Long faultless long)
 
-pub bad_here : (rules : Rules) (text : List ℕ) (before : List (List ℕ)) (line : List ℕ) (after : List (List ℕ)) (place : ℕ) → lines text ≡ before ++ line ∷ after → place ≡ length before
-    → AreFaultless (key_line_fault rules) before → length before < rules.frames → is_key_line rules.players line ≡ false → IsFirstPlace (key_line_fault rules) (lines text) place
+pub bad_here : (rules : Rules) (text : List ℕ) (before : List (List ℕ)) (line : List ℕ) (after : List (List ℕ)) (place : ℕ)
+    → lines text ≡ before ++ line ∷ after → place ≡ length before
+    → AreFaultless (key_line_fault rules) before → length before < rules.frames → is_key_line rules.players line ≡ false
+    → IsFirstPlace (key_line_fault rules) (lines text) place
 bad_here rules text before line after place cut here faultless left bad =
     let none : key_line_fault rules before line ≡ Some Line = rw (lt-leb rules.frames (length before) left, bad) refl in
     rw (cut, here) (Line, first_placed (key_line_fault rules) before line after Line faultless none)
@@ -89,7 +97,8 @@ unspelt None P Q nothing why = why
 unspelt (Some row) P Q nothing why = absurd (nothing row refl)
 
 -- cases of an option: a property of its value, and one that holds without a value
-pub found_some : {X : Type 0} (found : Option X) (P : Type 0) (Q : X → Type 0) (R : Type 0) → is_some found ≡ true → MatchOption found P Q → ((x : X) → Q x → R) → R
+pub found_some : {X : Type 0} (found : Option X) (P : Type 0) (Q : X → Type 0) (R : Type 0) → is_some found ≡ true → MatchOption found P Q
+    → ((x : X) → Q x → R) → R
 found_some None P Q R some what then = absurd (cc)
 found_some (Some x) P Q R some what then = then x what
 

@@ -1,5 +1,6 @@
 -- What a report adds, part by part: `report` writes it.
-use Rattle.std.proofs.Common.{◌≡◌, ◌<◌, ◌≤◌, ℕ, zero, suc, ◌+◌, List, [], ◌∷◌, ◌++◌, Bool, Option, Some, None, Result, Ok, Err, get_or, length, map, refl, sym, ap, subst, ◌∙◌, inl, inr, arith}
+use Rattle.std.proofs.Common.{◌≡◌, ◌<◌, ◌≤◌, ℕ, zero, suc, ◌+◌, List, [], ◌∷◌, ◌++◌, Bool, Option, Some, None, Result, Ok, Err, get_or,
+  length, map, refl, sym, ap, subst, ◌∙◌, inl, inr, arith}
 use Rattle.std.specs.Fmt.{◌++?◌}
 use Rattle.std.specs.Prelude.{OnOk, IfSome, option_map}
 use Rattle.std.specs.Io.KnownBytes.{Appends}
@@ -24,7 +25,8 @@ grows_no_more a = ([], Appends-nil a)
 pub grows_then : (a b c : Option (List ℕ)) → Grows a b → Grows b c → Grows a c
 grows_then a b c first next = (first.0 ++ next.0, Appends-trans a b c first.0 next.0 first.1 next.1)
 
-pub grows_last : {T E : Type 0} (a b c : Option (List ℕ)) (text : List ℕ) (told : Result T E) → Grows a b → OnOk told (Appends b c text) → OnOk told (Grows a c)
+pub grows_last : {T E : Type 0} (a b c : Option (List ℕ)) (text : List ℕ) (told : Result T E) → Grows a b → OnOk told (Appends b c text)
+    → OnOk told (Grows a c)
 grows_last a b c text (Ok done) first last = grows_then a b c first (text, last)
 grows_last a b c text (Err error) first last = tt
 
@@ -53,23 +55,32 @@ grows_known a b (Some x) is appends = (x, appends)
 grows_known a b None is appends = absurd let no_way : None ≡ Some is.0 = is.1 in cc
 
 -- one number, and two, in a line
-pub grows_hex : (a b : Option (List ℕ)) (style : List ℕ → List ℕ) (before : List ℕ) (digits : Option (List ℕ)) (x : List ℕ) → digits ≡ Some x → IfSome (Some before ++? option_map style digits) (Appends a b) → Grows a b
-grows_hex a b style before digits x is appends = grows_known a b (Some before ++? option_map style digits) (known_then (Some before) (option_map style digits) (known before) (known_styled style digits x is)) appends
+pub grows_hex : (a b : Option (List ℕ)) (style : List ℕ → List ℕ) (before : List ℕ) (digits : Option (List ℕ)) (x : List ℕ)
+    → digits ≡ Some x → IfSome (Some before ++? option_map style digits) (Appends a b) → Grows a b
+grows_hex a b style before digits x is appends =
+    grows_known a b (Some before ++? option_map style digits)
+    (known_then (Some before) (option_map style digits) (known before) (known_styled style digits x is)) appends
 
-module _ (a b : Option (List ℕ)) (style other : List ℕ → List ℕ) (before between : List ℕ) (digits more : Option (List ℕ)) (x y : List ℕ) (is : digits ≡ Some x) (also : more ≡ Some y) where
-  two : (rest : Option (List ℕ)) → IsKnown rest → IsKnown (Some before ++? (option_map style digits ++? (Some between ++? (option_map other more ++? rest))))
+module _ (a b : Option (List ℕ)) (style other : List ℕ → List ℕ) (before between : List ℕ) (digits more : Option (List ℕ)) (x y : List ℕ)
+    (is : digits ≡ Some x) (also : more ≡ Some y) where
+  two : (rest : Option (List ℕ)) → IsKnown rest
+      → IsKnown (Some before ++? (option_map style digits ++? (Some between ++? (option_map other more ++? rest))))
   two rest end =
       known_then (Some before) (option_map style digits ++? (Some between ++? (option_map other more ++? rest))) (known before)
       (known_then (option_map style digits) (Some between ++? (option_map other more ++? rest)) (known_styled style digits x is)
-      (known_then (Some between) (option_map other more ++? rest) (known between) (known_then (option_map other more) rest (known_styled other more y also) end)))
+      (known_then (Some between) (option_map other more ++? rest) (known between)
+          (known_then (option_map other more) rest (known_styled other more y also) end)))
 
-  pub grows_two : (rest : Option (List ℕ)) → IsKnown rest → IfSome (Some before ++? (option_map style digits ++? (Some between ++? (option_map other more ++? rest)))) (Appends a b) → Grows a b
-  grows_two rest end appends = grows_known a b (Some before ++? (option_map style digits ++? (Some between ++? (option_map other more ++? rest)))) (two rest end) appends
+  pub grows_two : (rest : Option (List ℕ)) → IsKnown rest
+      → IfSome (Some before ++? (option_map style digits ++? (Some between ++? (option_map other more ++? rest)))) (Appends a b) → Grows a b
+  grows_two rest end appends = grows_known a b
+      (Some before ++? (option_map style digits ++? (Some between ++? (option_map other more ++? rest)))) (two rest end) appends
 
 -- ---- the screen and the whole report
 
 -- the points of a row, marked one by one
-module _ (lit : Points) (y : ℕ) (text : List ℕ) (size : length text ≡ 65) (marked : (x : ℕ) → x < 64 → get_or text x 0 ≡ mark_of (lit x y)) (end : get_or text 64 0 ≡ 10) where
+module _ (lit : Points) (y : ℕ) (text : List ℕ) (size : length text ≡ 65) (marked : (x : ℕ) → x < 64 → get_or text x 0 ≡ mark_of (lit x y))
+    (end : get_or text 64 0 ≡ 10) where
   abbrev marks : List ℕ
   marks = map (λ x. mark_of (lit x y)) (range_with_len 0 64)
 
@@ -104,7 +115,8 @@ range_next n =
     ap (range_with_len 0) one ∙ range_suc 0 n ∙ ap (λ (m : ℕ). range_with_len 0 n ++ m ∷ []) same
 
 -- one more row of a screen
-pub rows_more : (a b c : Option (List ℕ)) (lit : Points) (y : ℕ) (row : List ℕ) → Appends a b (flat_map (row_text lit) (range_with_len 0 y)) → row ≡ row_text lit y → Appends b c row → Appends a c (flat_map (row_text lit) (range_with_len 0 (y + 1)))
+pub rows_more : (a b c : Option (List ℕ)) (lit : Points) (y : ℕ) (row : List ℕ) → Appends a b (flat_map (row_text lit) (range_with_len 0 y))
+    → row ≡ row_text lit y → Appends b c row → Appends a c (flat_map (row_text lit) (range_with_len 0 (y + 1)))
 rows_more a b c lit y row before is appends =
     let so_far = flat_map (row_text lit) (range_with_len 0 y) in
     let whole : so_far ++ row ≡ flat_map (row_text lit) (range_with_len 0 (y + 1)) =
@@ -113,15 +125,18 @@ rows_more a b c lit y row before is appends =
     subst (λ (text : List ℕ). Appends a c text) whole (Appends-trans a b c so_far row before appends)
 
 -- all rows
-pub rows_all : (a b : Option (List ℕ)) (lit : Points) (y : ℕ) → y ≤ 32 → 32 ≤ y → Appends a b (flat_map (row_text lit) (range_with_len 0 y)) → Appends a b (screen_text lit)
+pub rows_all : (a b : Option (List ℕ)) (lit : Points) (y : ℕ) → y ≤ 32 → 32 ≤ y → Appends a b (flat_map (row_text lit) (range_with_len 0 y))
+    → Appends a b (screen_text lit)
 rows_all a b lit y most least appends =
     let all : y ≡ 32 = omega (arith, most, least) in
     subst (λ (n : ℕ). Appends a b (flat_map (row_text lit) (range_with_len 0 n))) all appends
 
 -- the whole report
-pub reports : {T E : Type 0} (a b c d : Option (List ℕ)) (lit : Points) (played : Played) (told : Result T E) → lit ≡ (state played.machine).screen → Appends a b (frames_text played.frames) → Grows b c → OnOk told (Appends c d (screen_text lit))
+pub reports : {T E : Type 0} (a b c d : Option (List ℕ)) (lit : Points) (played : Played) (told : Result T E)
+    → lit ≡ (state played.machine).screen → Appends a b (frames_text played.frames) → Grows b c → OnOk told (Appends c d (screen_text lit))
     → OnOk told (Reports a d played)
 reports a b c d lit played (Ok done) same frames between screen =
     let shown = subst (λ (points : Points). Appends c d (screen_text points)) same screen in
-    (between.0, Appends-trans a b d (frames_text played.frames) (between.0 ++ screen_text (state played.machine).screen) frames (Appends-trans b c d between.0 (screen_text (state played.machine).screen) between.1 shown))
+    (between.0, Appends-trans a b d (frames_text played.frames) (between.0 ++ screen_text (state played.machine).screen) frames
+        (Appends-trans b c d between.0 (screen_text (state played.machine).screen) between.1 shown))
 reports a b c d lit played (Err error) same frames between screen = tt

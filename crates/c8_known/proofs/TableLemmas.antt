@@ -1,14 +1,17 @@
 -- How one changed table changes what is known.
-use Rattle.std.proofs.Common.{◌≡◌, ◌≢◌, ℕ, ◌+◌, ◌-◌, ◌<◌, ◌≤◌, ◌^◌, List, [], ◌∷◌, ◌++◌, length, map, true, Option, Some, None, refl, sym, ap, subst, ◌∙◌, arith, slice_set, slice_index_or, vec_capacity, All}
+use Rattle.std.proofs.Common.{◌≡◌, ◌≢◌, ℕ, ◌+◌, ◌-◌, ◌<◌, ◌≤◌, ◌^◌, List, [], ◌∷◌, ◌++◌, length, map, true, Option, Some, None, refl, sym,
+  ap, subst, ◌∙◌, arith, slice_set, slice_index_or, vec_capacity, All}
 use Rattle.std.proofs.lemmas.List.{map-set, get_or-map, get_or_past, append-nil, length-map}
 use Rattle.std.proofs.lemmas.List.Elements.{All-set}
 use Rattle.c8_known.specs.declared.table.Table.{Table}
 use Rattle.c8_known.specs.Journal.{Record, Own, Got, Freeze, Leave, Cut}
-use Rattle.c8_known.specs.Known.{PlayerValue, KnownValue, nobody, player_in, count_in, is_frozen_in, with_words, cut_at, with_cut, with_record, Plays, IsKnown}
+use Rattle.c8_known.specs.Known.{PlayerValue, KnownValue, nobody, player_in, count_in, is_frozen_in, with_words, cut_at, with_cut,
+  with_record, Plays, IsKnown}
 use Rattle.c8_known.specs.Growth.{IsStillKnown}
 use Rattle.c8_known.specs.declared.known.Known.TheInside.{Inside}
 use Rattle.c8_known.specs.Tables.{table_value, seen, HasRoom}
-use Rattle.c8_known.specs.checked.KnownLaws.{changed, own_known, own_still, got_known, got_still, freeze_known, freeze_still, leave_known, leave_still, cut_known, cut_still}
+use Rattle.c8_known.specs.checked.KnownLaws.{changed, own_known, own_still, got_known, got_still, freeze_known, freeze_still, leave_known,
+  leave_still, cut_known, cut_still}
 
 -- a table of the code, and its player
 pub record IsTableOf (k : KnownValue) (tables : List Table) (place q : ℕ) (table : Table) : Type 0 where
@@ -23,17 +26,20 @@ table_within k tables place q table t =
     let to = t.plays.in_game in
     omega (arith, t.at, from, to, ap (λ (ps : List PlayerValue). length ps) t.players, length-map tables table_value)
 
-table_player : (k : KnownValue) (tables : List Table) (place q : ℕ) (table : Table) → IsTableOf k tables place q table → table_value table ≡ player_in k q
+table_player : (k : KnownValue) (tables : List Table) (place q : ℕ) (table : Table) → IsTableOf k tables place q table
+    → table_value table ≡ player_in k q
 table_player k tables place q table t =
     rw (t.players, ← t.at) (ap table_value t.is ∙ sym (get_or-map table_value tables place table nobody (table_within k tables place q table t)))
 
-table_changed : (k : KnownValue) (tables : List Table) (place q : ℕ) (old : Table) → IsTableOf k tables place q old → (table : Table) (ticks : ℕ) (p : PlayerValue) → table_value table ≡ p
+table_changed : (k : KnownValue) (tables : List Table) (place q : ℕ) (old : Table) → IsTableOf k tables place q old
+    → (table : Table) (ticks : ℕ) (p : PlayerValue) → table_value table ≡ p
     → seen k.me k.delay k.limit ticks (slice_set tables place table) ≡ changed k ticks q p
 table_changed k tables place q old t table ticks p is =
     ap (λ (players : List PlayerValue). record k { ticks = ticks; players = players })
     (map-set table_value tables place table ∙ rw (t.players, ← t.at, ← is) refl)
 
-pub room_at : (limit : ℕ) (tables : List Table) (place : ℕ) (table : Table) → HasRoom limit tables → place < length tables → table ≡ slice_index_or tables place table → limit ≤ vec_capacity table.inputs
+pub room_at : (limit : ℕ) (tables : List Table) (place : ℕ) (table : Table) → HasRoom limit tables → place < length tables
+    → table ≡ slice_index_or tables place table → limit ≤ vec_capacity table.inputs
 room_at limit tables place table room within is = subst (λ (t : Table). limit ≤ vec_capacity t.inputs) (sym is) (room place table within)
 
 -- a call changes what is known as its record says
@@ -42,23 +48,28 @@ pub record Changes (old new : KnownValue) (r : Record) : Type 0 where
   pub known : IsKnown new
   pub still : IsStillKnown old new
 
-changes : (old new : KnownValue) (r : Record) → new ≡ with_record old r → IsKnown (with_record old r) → IsStillKnown old (with_record old r) → Changes old new r
-changes old new r is known still = record { value = is; known = subst IsKnown (sym is) known; still = subst (λ (k : KnownValue). IsStillKnown old k) (sym is) still }
+changes : (old new : KnownValue) (r : Record) → new ≡ with_record old r → IsKnown (with_record old r) → IsStillKnown old (with_record old r)
+    → Changes old new r
+changes old new r is known still = record { value = is; known = subst IsKnown (sym is) known;
+    still = subst (λ (k : KnownValue). IsStillKnown old k) (sym is) still }
 
 pub owned : (k : KnownValue) (tables : List Table) (place start word : ℕ) (table new : Table) → IsKnown k → IsTableOf k tables place k.me table
     → table_value new ≡ with_words (table_value table) (word ∷ []) → count_in k k.me < k.limit
     → Changes k (seen k.me k.delay k.limit (k.ticks + 1) (slice_set tables place new)) (Own k.me start word)
 owned k tables place start word table new known t is room =
     changes k (seen k.me k.delay k.limit (k.ticks + 1) (slice_set tables place new)) (Own k.me start word)
-    (table_changed k tables place k.me table t new (k.ticks + 1) (with_words (player_in k k.me) (word ∷ [])) (is ∙ ap (λ (p : PlayerValue). with_words p (word ∷ [])) (table_player k tables place k.me table t)))
+    (table_changed k tables place k.me table t new (k.ticks + 1) (with_words (player_in k k.me) (word ∷ []))
+        (is ∙ ap (λ (p : PlayerValue). with_words p (word ∷ [])) (table_player k tables place k.me table t)))
     (own_known k start word known room) (own_still k start word known)
 
-pub took : (k : KnownValue) (tables : List Table) (place q start : ℕ) (words : List ℕ) (table new : Table) → IsKnown k → IsTableOf k tables place q table
+pub took : (k : KnownValue) (tables : List Table) (place q start : ℕ) (words : List ℕ) (table new : Table) → IsKnown k
+    → IsTableOf k tables place q table
     → table_value new ≡ with_words (table_value table) words → q ≢ k.me → (player_in k q).cut ≡ None → count_in k q + length words ≤ k.limit
     → Changes k (seen k.me k.delay k.limit k.ticks (slice_set tables place new)) (Got q start words)
 took k tables place q start words table new known t is other uncut room =
     changes k (seen k.me k.delay k.limit k.ticks (slice_set tables place new)) (Got q start words)
-    (table_changed k tables place q table t new k.ticks (with_words (player_in k q) words) (is ∙ ap (λ (p : PlayerValue). with_words p words) (table_player k tables place q table t)))
+    (table_changed k tables place q table t new k.ticks (with_words (player_in k q) words)
+        (is ∙ ap (λ (p : PlayerValue). with_words p words) (table_player k tables place q table t)))
     (got_known k q start words known t.plays other uncut room) (got_still k q start words t.plays uncut)
 
 pub froze : (k : KnownValue) (tables : List Table) (place q : ℕ) (table new : Table) → IsKnown k → IsTableOf k tables place q table
@@ -66,7 +77,8 @@ pub froze : (k : KnownValue) (tables : List Table) (place q : ℕ) (table new : 
     → Changes k (seen k.me k.delay k.limit k.ticks (slice_set tables place new)) (Freeze q)
 froze k tables place q table new known t is =
     changes k (seen k.me k.delay k.limit k.ticks (slice_set tables place new)) (Freeze q)
-    (table_changed k tables place q table t new k.ticks (record (player_in k q) { frozen = true }) (is ∙ ap (λ (p : PlayerValue). record p { frozen = true }) (table_player k tables place q table t)))
+    (table_changed k tables place q table t new k.ticks (record (player_in k q) { frozen = true })
+        (is ∙ ap (λ (p : PlayerValue). record p { frozen = true }) (table_player k tables place q table t)))
     (freeze_known k q known t.plays) (freeze_still k q t.plays)
 
 pub left : (k : KnownValue) (tables : List Table) (place q : ℕ) (table new : Table) → IsKnown k → IsTableOf k tables place q table
@@ -74,20 +86,23 @@ pub left : (k : KnownValue) (tables : List Table) (place q : ℕ) (table new : T
     → Changes k (seen k.me k.delay k.limit k.ticks (slice_set tables place new)) (Leave q)
 left k tables place q table new known t is =
     changes k (seen k.me k.delay k.limit k.ticks (slice_set tables place new)) (Leave q)
-    (table_changed k tables place q table t new k.ticks (record (player_in k q) { leaving = true }) (is ∙ ap (λ (p : PlayerValue). record p { leaving = true }) (table_player k tables place q table t)))
+    (table_changed k tables place q table t new k.ticks (record (player_in k q) { leaving = true })
+        (is ∙ ap (λ (p : PlayerValue). record p { leaving = true }) (table_player k tables place q table t)))
     (leave_known k q known t.plays) (leave_still k q t.plays)
 
 first_cut : (p : PlayerValue) (K : ℕ) → p.cut ≡ None → ◌≡◌ {A = PlayerValue} (record p { cut = Some K }) (with_cut (with_words p []) K)
 first_cut p K uncut = λ i. record p { held = sym (append-nil p.held) i; cut = ap (λ (o : Option ℕ). cut_at o K) (sym uncut) i }
 
 pub was_cut : (k : KnownValue) (tables : List Table) (place q K start : ℕ) (table new : Table) → IsKnown k → IsTableOf k tables place q table
-    → table_value new ≡ record (table_value table) { cut = Some K } → q ≢ k.me → is_frozen_in k q ≡ true → (player_in k q).cut ≡ None → count_in k q ≡ K
+    → table_value new ≡ record (table_value table) { cut = Some K } → q ≢ k.me → is_frozen_in k q ≡ true → (player_in k q).cut ≡ None
+    → count_in k q ≡ K
     → Changes k (seen k.me k.delay k.limit k.ticks (slice_set tables place new)) (Cut q K start [])
 was_cut k tables place q K start table new known t is other leaves uncut all =
     changes k (seen k.me k.delay k.limit k.ticks (slice_set tables place new)) (Cut q K start [])
     (table_changed k tables place q table t new k.ticks (with_cut (with_words (player_in k q) []) K)
     (is ∙ ap (λ (p : PlayerValue). record p { cut = Some K }) (table_player k tables place q table t) ∙ first_cut (player_in k q) K uncut))
-    (cut_known k q K start [] known t.plays other leaves uncut (omega (arith, all)) (omega (arith, all, known.within q))) (cut_still k q K start [] t.plays uncut)
+    (cut_known k q K start [] known t.plays other leaves uncut (omega (arith, all)) (omega (arith, all, known.within q)))
+        (cut_still k q K start [] t.plays uncut)
 
 -- ---- the calls that change one table
 
@@ -110,11 +125,15 @@ pub record IsDone (i : Inside) (self : KnownValue) (ticks : ℕ) (tables : List 
   pub still : IsStillKnown self (seen i.me.number i.delay i.limit ticks tables)
   pub room : HasRoom i.limit tables
 
-call_table : (i : Inside) (self : KnownValue) (place q : ℕ) (old : Table) → IsCall i self place q old → IsTableOf (seen_of i) i.tables.items place q old
-call_table i self place q old call = record { players = refl; at = call.at; plays = subst (λ (k : KnownValue). Plays k q) (sym call.view) call.plays; is = call.is }
+call_table : (i : Inside) (self : KnownValue) (place q : ℕ) (old : Table) → IsCall i self place q old
+    → IsTableOf (seen_of i) i.tables.items place q old
+call_table i self place q old call = record { players = refl; at = call.at;
+    plays = subst (λ (k : KnownValue). Plays k q) (sym call.view) call.plays; is = call.is }
 
-done : (i : Inside) (self : KnownValue) (place q : ℕ) (old new : Table) (ticks : ℕ) (r : Record) → IsCall i self place q old → vec_capacity old.inputs ≤ vec_capacity new.inputs
-    → Changes (seen_of i) (seen i.me.number i.delay i.limit ticks (slice_set i.tables.items place new)) r → IsDone i self ticks (slice_set i.tables.items place new) r
+done : (i : Inside) (self : KnownValue) (place q : ℕ) (old new : Table) (ticks : ℕ) (r : Record) → IsCall i self place q old
+    → vec_capacity old.inputs ≤ vec_capacity new.inputs
+    → Changes (seen_of i) (seen i.me.number i.delay i.limit ticks (slice_set i.tables.items place new)) r
+    → IsDone i self ticks (slice_set i.tables.items place new) r
 done i self place q old new ticks r call grows made =
     let after : KnownValue = seen i.me.number i.delay i.limit ticks (slice_set i.tables.items place new) in
     let within = table_within (seen_of i) i.tables.items place q old (call_table i self place q old call) in
@@ -158,28 +177,33 @@ pub record HoldsMore (old new : Table) (words : List ℕ) : Type 0 where
 holds_value : (old new : Table) (words : List ℕ) → HoldsMore old new words → table_value new ≡ with_words (table_value old) words
 holds_value old new words h = λ i. record { held = h.items i; frozen = h.frozen i; leaving = h.leaving i; cut = h.cut i }
 
-pub take_call : (i : Inside) (self : KnownValue) (place q : ℕ) (words : List ℕ) (old new : Table) → IsCall i self place q old → HoldsMore old new words
+pub take_call : (i : Inside) (self : KnownValue) (place q : ℕ) (words : List ℕ) (old new : Table) → IsCall i self place q old
+    → HoldsMore old new words
     → q ≢ self.me → (player_in self q).cut ≡ None → count_in self q + length words ≤ self.limit
     → IsDone i self i.ticks (slice_set i.tables.items place new) (Got q (count_in self q) words)
 take_call i self place q words old new call more other uncut room =
     done i self place q old new i.ticks (Got q (count_in self q) words) call more.capacity
-    (took (seen_of i) i.tables.items place q (count_in self q) words old new call.known (call_table i self place q old call) (holds_value old new words more)
+    (took (seen_of i) i.tables.items place q (count_in self q) words old new call.known (call_table i self place q old call)
+        (holds_value old new words more)
     (subst (λ (k : KnownValue). q ≢ k.me) (sym call.view) other) (subst (λ (k : KnownValue). (player_in k q).cut ≡ None) (sym call.view) uncut)
     (subst (λ (k : KnownValue). count_in k q + length words ≤ k.limit) (sym call.view) room))
 
-pub own_call : (i : Inside) (self : KnownValue) (place word : ℕ) (old new : Table) → IsCall i self place self.me old → HoldsMore old new (word ∷ []) → count_in self self.me < self.limit
+pub own_call : (i : Inside) (self : KnownValue) (place word : ℕ) (old new : Table) → IsCall i self place self.me old
+    → HoldsMore old new (word ∷ []) → count_in self self.me < self.limit
     → IsDone i self (i.ticks + 1) (slice_set i.tables.items place new) (Own self.me (count_in self self.me) word)
 own_call i self place word old new call more room =
     let me : i.me.number ≡ self.me = ap (λ (k : KnownValue). k.me) call.view in
     let table = call_table i self place self.me old call in
     subst (λ (q : ℕ). IsDone i self (i.ticks + 1) (slice_set i.tables.items place new) (Own q (count_in self self.me) word)) me
     (done i self place self.me old new (i.ticks + 1) (Own i.me.number (count_in self self.me) word) call more.capacity
-    (owned (seen_of i) i.tables.items place (count_in self self.me) word old new call.known (subst (λ (q : ℕ). IsTableOf (seen_of i) i.tables.items place q old) (sym me) table)
+    (owned (seen_of i) i.tables.items place (count_in self self.me) word old new call.known
+        (subst (λ (q : ℕ). IsTableOf (seen_of i) i.tables.items place q old) (sym me) table)
     (holds_value old new (word ∷ []) more) (subst (λ (k : KnownValue). count_in k k.me < k.limit) (sym call.view) room)))
 
 -- ---- a place beyond all tables
 
-pub nobody_there : (i : Inside) (self : KnownValue) (place : ℕ) → seen_of i ≡ self → length i.tables.items ≤ place → player_in self (place + 1) ≡ nobody
+pub nobody_there : (i : Inside) (self : KnownValue) (place : ℕ) → seen_of i ≡ self → length i.tables.items ≤ place
+    → player_in self (place + 1) ≡ nobody
 nobody_there i self place view past =
     subst (λ (k : KnownValue). player_in k (place + 1) ≡ nobody) view
     (get_or_past (map table_value i.tables.items) (place + 1 - 1) nobody (omega (arith, past, length-map i.tables.items table_value)))

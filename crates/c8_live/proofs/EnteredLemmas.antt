@@ -23,16 +23,19 @@ none_by (Leave leaver) answer other = refl
 none_by (Decide leaver) answer other = refl
 none_by Checkpoint answer other = refl
 
-none_in : (what : Doing) (calls : List (Call × DiskOutcome)) (answers : List (Option Reply)) → (what ≡ Ticks → ⊥) → All (λ (call : Call × DiskOutcome). doing call.0 ≡ what) calls → entered_in calls answers ≡ []
+none_in : (what : Doing) (calls : List (Call × DiskOutcome)) (answers : List (Option Reply)) → (what ≡ Ticks → ⊥)
+    → All (λ (call : Call × DiskOutcome). doing call.0 ≡ what) calls → entered_in calls answers ≡ []
 none_in what [] answers other alike = refl
 none_in what (call ∷ calls) [] other alike = refl
 none_in what (call ∷ calls) (answer ∷ answers) other alike =
     let same : doing call.0 ≡ what = All-head (λ (c : Call × DiskOutcome). doing c.0 ≡ what) call calls alike in
     let here : entered_by call.0 answer ≡ [] = none_by call.0 answer (λ ticks. other (sym same ∙ ticks)) in
-    ap (λ (words : List ℕ). words ++ entered_in calls answers) here ∙ none_in what calls answers other (All-tail (λ (c : Call × DiskOutcome). doing c.0 ≡ what) call calls alike)
+    ap (λ (words : List ℕ). words ++ entered_in calls answers) here
+        ∙ none_in what calls answers other (All-tail (λ (c : Call × DiskOutcome). doing c.0 ≡ what) call calls alike)
 
 -- calls after others, each with its answer
-both_in : (rules : Rules) (room me : ℕ) (s t : State) (calls others : List (Call × DiskOutcome)) (answers more : List (Option Reply)) → IsRun rules room me s (map does calls) answers t
+both_in : (rules : Rules) (room me : ℕ) (s t : State) (calls others : List (Call × DiskOutcome)) (answers more : List (Option Reply))
+    → IsRun rules room me s (map does calls) answers t
     → entered_in (calls ++ others) (answers ++ more) ≡ entered_in calls answers ++ entered_in others more
 both_in rules room me s t [] others [] more run = refl
 both_in rules room me s t [] others (answer ∷ answers) more run = absurd run
@@ -49,10 +52,12 @@ module _ {D : Type 0} (disk : Ghosts D) where
   entered_other what old new other done = record { ran = done.ran; entered = none_in what done.ran.calls done.ran.answers other done.alike }
 
   pub entered_once : (old new : PeerValue D) (call : Call) (reply : Reply) → IsAnswered disk old call reply new
-      → IsDone old.rules old.room old.me old.state (Does call (disk_outcome_of reply)) (Some reply) new.state → HasEntered disk (entered_by call (Some reply)) old new
+      → IsDone old.rules old.room old.me old.state (Does call (disk_outcome_of reply)) (Some reply) new.state
+      → HasEntered disk (entered_by call (Some reply)) old new
   entered_once old new call reply is deed = record { ran = once disk old new call reply is deed; entered = append-nil (entered_by call (Some reply)) }
 
-  pub entered_joined : RunsJoin → (words others : List ℕ) (first middle last : PeerValue D) → HasEntered disk words first middle → HasEntered disk others middle last → HasEntered disk (words ++ others) first last
+  pub entered_joined : RunsJoin → (words others : List ℕ) (first middle last : PeerValue D) → HasEntered disk words first middle
+      → HasEntered disk others middle last → HasEntered disk (words ++ others) first last
   entered_joined join words others first middle last one two = record {
     ran = joined disk join first middle last one.ran two.ran;
     entered =
@@ -61,7 +66,8 @@ module _ {D : Type 0} (disk : Ghosts D) where
   }
 
   -- what calls enter, with calls before and after them that enter nothing
-  pub entered_through : RunsJoin → (words : List ℕ) (first before after last : PeerValue D) → HasEntered disk [] first before → HasEntered disk words before after → HasEntered disk [] after last → HasEntered disk words first last
+  pub entered_through : RunsJoin → (words : List ℕ) (first before after last : PeerValue D) → HasEntered disk [] first before
+      → HasEntered disk words before after → HasEntered disk [] after last → HasEntered disk words first last
   entered_through join words first before after last one entered two =
       subst (λ (all : List ℕ). HasEntered disk all first last) (append-nil words)
       (entered_joined join [] (words ++ []) first before last one (entered_joined join words [] before after last entered two))

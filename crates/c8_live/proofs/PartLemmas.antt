@@ -15,13 +15,18 @@ part_append (first ∷ part) more (one ∷ whole) others (inl (same, is)) rest =
 part_append (first ∷ part) more (one ∷ whole) others (inr is) rest = inr (part_append (first ∷ part) more whole others is rest)
 
 pub handed_none : (from from_now to to_now : List (List ℕ)) → from_now ≡ from → to_now ≡ to → IsHandedOn from from_now to to_now
-handed_none from from_now to to_now same_from same_to = record { came = []; went = []; from_is = same_from ∙ sym (append-nil from); to_is = same_to ∙ sym (append-nil to); part = tt }
+handed_none from from_now to to_now same_from same_to =
+    record { came = []; went = []; from_is = same_from ∙ sym (append-nil from); to_is = same_to ∙ sym (append-nil to); part = tt }
 
-pub handed_one : (from from_now to to_now : List (List ℕ)) (one : List ℕ) → from_now ≡ from ++ one ∷ [] → MayTake to one to_now → IsHandedOn from from_now to to_now
-handed_one from from_now to to_now one came (inl lost) = record { came = one ∷ []; went = []; from_is = came; to_is = lost ∙ sym (append-nil to); part = tt }
-handed_one from from_now to to_now one came (inr took) = record { came = one ∷ []; went = one ∷ []; from_is = came; to_is = took; part = inl (refl, tt) }
+pub handed_one : (from from_now to to_now : List (List ℕ)) (one : List ℕ) → from_now ≡ from ++ one ∷ [] → MayTake to one to_now
+    → IsHandedOn from from_now to to_now
+handed_one from from_now to to_now one came (inl lost) =
+    record { came = one ∷ []; went = []; from_is = came; to_is = lost ∙ sym (append-nil to); part = tt }
+handed_one from from_now to to_now one came (inr took) =
+    record { came = one ∷ []; went = one ∷ []; from_is = came; to_is = took; part = inl (refl, tt) }
 
-pub handed_joined : (from between from_now to among to_now : List (List ℕ)) → IsHandedOn from between to among → IsHandedOn between from_now among to_now → IsHandedOn from from_now to to_now
+pub handed_joined : (from between from_now to among to_now : List (List ℕ)) → IsHandedOn from between to among
+    → IsHandedOn between from_now among to_now → IsHandedOn from from_now to to_now
 handed_joined from between from_now to among to_now first second = record {
   came = first.came ++ second.came;
   went = first.went ++ second.went;

@@ -1,5 +1,6 @@
 -- How runs of one peer join.
-use Rattle.std.proofs.Common.{◌≡◌, ℕ, List, [], ◌∷◌, ◌++◌, length, true, false, Option, Some, None, refl, sym, ap, subst, ◌∙◌, map, append_assoc, arith, suc}
+use Rattle.std.proofs.Common.{◌≡◌, ℕ, List, [], ◌∷◌, ◌++◌, length, true, false, Option, Some, None, refl, sym, ap, subst, ◌∙◌, map,
+  append_assoc, arith, suc}
 use Rattle.std.specs.Prelude.{option_to_list}
 use Rattle.std.proofs.lemmas.List.{map-append, append-nil, length-append}
 use Rattle.c8_game.specs.Rules.{Rules}
@@ -25,10 +26,12 @@ use Rattle.c8_live.specs.declared.error.SessionError.TheVariants.{Disk, Wire}
 use Rattle.c8_live.specs.Runs.{does, HasRunOn, IsEnd}
 
 abbrev pub still : {D : Type 0} (disk : Ghosts D) (p : PeerValue D) → HasRunOn disk p p
-still disk p = record { rules = refl; room = refl; me = refl; calls = []; answers = []; run = refl; disk_is = record { capacity = refl; arms = refl; no_fewer = omega arith } }
+still disk p = record { rules = refl; room = refl; me = refl; calls = []; answers = []; run = refl;
+    disk_is = record { capacity = refl; arms = refl; no_fewer = omega arith } }
 
 -- a run under other names of the same game, match and player
-pub run_of : (rules rules2 : Rules) (room room2 me me2 : ℕ) (s t : State) (deeds : List Deed) (answers : List (Option Reply)) → rules2 ≡ rules → room2 ≡ room → me2 ≡ me
+pub run_of : (rules rules2 : Rules) (room room2 me me2 : ℕ) (s t : State) (deeds : List Deed) (answers : List (Option Reply))
+    → rules2 ≡ rules → room2 ≡ room → me2 ≡ me
     → IsRun rules2 room2 me2 s deeds answers t → IsRun rules room me s deeds answers t
 run_of rules rules2 room room2 me me2 s t deeds answers same_rules same_room same_me run =
     subst (λ (x : Rules). IsRun x room me s deeds answers t) same_rules
@@ -36,13 +39,16 @@ run_of rules rules2 room room2 me me2 s t deeds answers same_rules same_room sam
 
 -- runs join, as c8_peer states it
 abbrev pub RunsJoin : Type 0
-RunsJoin = (rules : Rules) (room me : ℕ) (s t u : State) (deeds more : List Deed) (answers others : List (Option Reply)) → IsRun rules room me s deeds answers t → IsRun rules room me t more others u
+RunsJoin = (rules : Rules) (room me : ℕ) (s t u : State) (deeds more : List Deed) (answers others : List (Option Reply))
+    → IsRun rules room me s deeds answers t → IsRun rules room me t more others u
     → IsRun rules room me s (deeds ++ more) (answers ++ others) u
 
-abbrev pub joined : {D : Type 0} (disk : Ghosts D) → RunsJoin → (first middle last : PeerValue D) → HasRunOn disk first middle → HasRunOn disk middle last → HasRunOn disk first last
+abbrev pub joined : {D : Type 0} (disk : Ghosts D) → RunsJoin → (first middle last : PeerValue D) → HasRunOn disk first middle
+    → HasRunOn disk middle last → HasRunOn disk first last
 joined disk join first middle last one two =
     let answers = one.answers ++ two.answers in
-    let more = run_of first.rules middle.rules first.room middle.room first.me middle.me middle.state last.state (map does two.calls) two.answers one.rules one.room one.me two.run in
+    let more = run_of first.rules middle.rules first.room middle.room first.me middle.me middle.state last.state (map does two.calls)
+        two.answers one.rules one.room one.me two.run in
     record {
       rules = two.rules ∙ one.rules;
       room = two.room ∙ one.room;
@@ -50,8 +56,10 @@ joined disk join first middle last one two =
       calls = one.calls ++ two.calls;
       answers = answers;
       run =
-          subst (λ (deeds : List Deed). IsRun first.rules first.room first.me first.state deeds answers last.state) (sym (map-append does one.calls two.calls))
-          (join first.rules first.room first.me first.state middle.state last.state (map does one.calls) (map does two.calls) one.answers two.answers one.run more);
+          subst (λ (deeds : List Deed). IsRun first.rules first.room first.me first.state deeds answers last.state)
+              (sym (map-append does one.calls two.calls))
+          (join first.rules first.room first.me first.state middle.state last.state (map does one.calls) (map does two.calls) one.answers
+              two.answers one.run more);
       disk_is = same_then disk first.disk middle.disk last.disk one.disk_is two.disk_is;
     }
 
@@ -65,7 +73,8 @@ nothing_left (x ∷ rest) none = absurd (more_than_none (length rest) none)
 
 pub begins_whole : (early late : List Row) → Begins early late → length late ≡ length early → late ≡ early
 begins_whole early late begins same =
-    begins.is ∙ ap (λ (rest : List Row). early ++ rest) (nothing_left begins.rest (omega (arith, same, length-append early begins.rest, ap length begins.is)))
+    begins.is ∙ ap (λ (rest : List Row). early ++ rest)
+        (nothing_left begins.rest (omega (arith, same, length-append early begins.rest, ap length begins.is)))
     ∙ append-nil early
 
 -- one call
@@ -82,7 +91,8 @@ once disk old new call reply is deed = record {
 }
 
 -- a saying, which does not change the peer
-abbrev pub says : {D : Type 0} (disk : Ghosts D) (p : PeerValue D) (call : Call) (reply : Reply) → IsDone p.rules p.room p.me p.state (Does call Works) (Some reply) p.state → HasRunOn disk p p
+abbrev pub says : {D : Type 0} (disk : Ghosts D) (p : PeerValue D) (call : Call) (reply : Reply)
+    → IsDone p.rules p.room p.me p.state (Does call Works) (Some reply) p.state → HasRunOn disk p p
 says disk p call reply deed = record {
   rules = refl;
   room = refl;
@@ -94,7 +104,8 @@ says disk p call reply deed = record {
 }
 
 -- what ends a session after the second part of a run ends it after both
-pub ended : {D : Type 0} (disk : Ghosts D) → RunsJoin → (first middle last : PeerValue D) (error : SessionError) → HasRunOn disk first middle → IsEnd disk middle last error → IsEnd disk first last error
+pub ended : {D : Type 0} (disk : Ghosts D) → RunsJoin → (first middle last : PeerValue D) (error : SessionError)
+    → HasRunOn disk first middle → IsEnd disk middle last error → IsEnd disk first last error
 ended disk join first middle last (Disk why) ran end = record {
   before = end.before;
   ran = joined disk join first middle end.before ran end.ran;
@@ -106,19 +117,22 @@ ended disk join first middle last (Disk why) ran end = record {
 ended disk join first middle last (Wire failed) ran end = tt
 
 -- the machine began where it did before, in terms of the same rules
-pub begun_still : {D : Type 0} (disk : Ghosts D) (old new : PeerValue D) → HasRunOn disk old new → begun_at old.rules new.state.journal ≡ begun_at old.rules old.state.journal → begun_by new ≡ begun_by old
+pub begun_still : {D : Type 0} (disk : Ghosts D) (old new : PeerValue D) → HasRunOn disk old new
+    → begun_at old.rules new.state.journal ≡ begun_at old.rules old.state.journal → begun_by new ≡ begun_by old
 begun_still disk old new ran same = ap (λ (rules : Rules). begun_at rules new.state.journal) ran.rules ∙ same
 
 -- ---- checkpoints
 
 -- what a reading finds if no record is pending
 tells_alone : (rules : Rules) (me : ℕ) (s : State) → s.pending ≡ None → HasTrueChecks rules me s.journal → TellsTruly rules me s
-tells_alone rules me s none are true = subst (HasTrueChecks rules me) (sym (ap (λ (o : Option Record). s.journal ++ option_to_list o) none ∙ append-nil s.journal)) are
+tells_alone rules me s none are true = subst (HasTrueChecks rules me)
+    (sym (ap (λ (o : Option Record). s.journal ++ option_to_list o) none ∙ append-nil s.journal)) are
 tells_alone rules me s none are false = are
 
 -- the journal of an opened peer is what was found and the record of the opening
 pub opened_tells : {D : Type 0} (g : Ghosts D) (disk : D) (rules : Rules) (room me : ℕ) (p : PeerValue D) → IsOpened g disk rules room me p
-    → HasTrueChecks rules me (records_of (bodies_found g disk) ++ opening_record rules room me (records_of (bodies_found g disk)) ∷ []) → TellsTruly p.rules p.me p.state
+    → HasTrueChecks rules me (records_of (bodies_found g disk) ++ opening_record rules room me (records_of (bodies_found g disk)) ∷ [])
+    → TellsTruly p.rules p.me p.state
 opened_tells g disk rules room me p is are =
     let found : List Record = records_of (bodies_found g disk) in
     let same : p.state ≡ (opened rules room me p.state found Stands).state = ap (λ (s : Stepped). s.state) (is.opening p.state) in
@@ -136,8 +150,10 @@ begins_then early middle late first second = record {
 }
 
 -- the confirmed rows of the grown journal begin with those of before
-pub grown_rows : {D : Type 0} (disk : Ghosts D) (old new : PeerValue D) → HasRunOn disk old new → (rest : List Record) → new.state.journal ≡ old.state.journal ++ rest
-    → BeginsKnown (confirmed_rows (known_of old.rules old.me old.state.journal)) (confirmed_rows (known_of old.rules old.me (old.state.journal ++ rest)))
+pub grown_rows : {D : Type 0} (disk : Ghosts D) (old new : PeerValue D) → HasRunOn disk old new → (rest : List Record)
+    → new.state.journal ≡ old.state.journal ++ rest
+    → BeginsKnown (confirmed_rows (known_of old.rules old.me old.state.journal))
+    (confirmed_rows (known_of old.rules old.me (old.state.journal ++ rest)))
     → Begins (confirmed_rows (known_by old)) (confirmed_rows (known_by new))
 grown_rows disk old new ran rest grows begins = record {
   rest = begins.rest;

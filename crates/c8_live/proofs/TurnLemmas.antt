@@ -1,5 +1,6 @@
 -- How the parts of a turn join.
-use Rattle.std.proofs.Common.{◌≡◌, ◌≤◌, inl, inr, ℕ, suc, List, [], ◌∷◌, ◌++◌, Option, Some, Ok, refl, sym, ap, subst, ◌+◌, ◌∙◌, arith, append-nil, append_assoc}
+use Rattle.std.proofs.Common.{◌≡◌, ◌≤◌, inl, inr, ℕ, suc, List, [], ◌∷◌, ◌++◌, Option, Some, Ok, refl, sym, ap, subst, ◌+◌, ◌∙◌, arith,
+  append-nil, append_assoc}
 use Rattle.std.proofs.lemmas.List.{length-append}
 use Rattle.std.proofs.lemmas.List.Elements.{All-nil, All-cons, All-append}
 use Rattle.c8_disk.specs.declared.disk.Disk.{Ghosts as DiskGhosts}
@@ -9,7 +10,8 @@ use Rattle.c8_peer.specs.Peer.{PeerValue, IsAnswered, IsSaid, disk_outcome_of}
 use Rattle.c8_peer.specs.Runs.{Does, IsDone}
 use Rattle.c8_transport.specs.declared.wire.Wire.{Ghosts as WireGhosts}
 use Rattle.c8_live.specs.Runs.{HasRunOn}
-use Rattle.c8_live.specs.Turns.{Doing, Hears, Ticks, LetsGo, Cuts, Saves, Speaks, doing, HasDone, HasDoneOnce, AreDeliveriesOf, HasHeardOf, HasHeard, WereSaid, HasSpoken, IsTurn, AreTurns}
+use Rattle.c8_live.specs.Turns.{Doing, Hears, Ticks, LetsGo, Cuts, Saves, Speaks, doing, HasDone, HasDoneOnce, AreDeliveriesOf, HasHeardOf,
+  HasHeard, WereSaid, HasSpoken, IsTurn, AreTurns}
 use Rattle.c8_transport.specs.Wire.{MayTake, most_packets}
 use Rattle.c8_live.proofs.RunLemmas.{RunsJoin, still, joined, once, says}
 
@@ -19,7 +21,8 @@ module _ {D : Type 0} (disk : DiskGhosts D) where
   abbrev pub done_still : (what : Doing) (p : PeerValue D) → HasDone disk what p p
   done_still what p = record { ran = still disk p; alike = All-nil (λ (call : Call × DiskOutcome). doing call.0 ≡ what) }
 
-  abbrev pub done_joined : RunsJoin → (what : Doing) (first middle last : PeerValue D) → HasDone disk what first middle → HasDone disk what middle last → HasDone disk what first last
+  abbrev pub done_joined : RunsJoin → (what : Doing) (first middle last : PeerValue D) → HasDone disk what first middle
+      → HasDone disk what middle last → HasDone disk what first last
   done_joined join what first middle last one two = record {
     ran = joined disk join first middle last one.ran two.ran;
     alike = All-append (λ (call : Call × DiskOutcome). doing call.0 ≡ what) one.ran.calls two.ran.calls one.alike two.alike;
@@ -29,13 +32,15 @@ module _ {D : Type 0} (disk : DiskGhosts D) where
       → IsDone old.rules old.room old.me old.state (Does call (disk_outcome_of reply)) (Some reply) new.state → HasDone disk (doing call) old new
   done_once old new call reply is deed = record {
     ran = once disk old new call reply is deed;
-    alike = All-cons (λ (c : Call × DiskOutcome). doing c.0 ≡ doing call) (call, disk_outcome_of reply) [] refl (All-nil (λ (c : Call × DiskOutcome). doing c.0 ≡ doing call));
+    alike = All-cons (λ (c : Call × DiskOutcome). doing c.0 ≡ doing call) (call, disk_outcome_of reply) [] refl
+        (All-nil (λ (c : Call × DiskOutcome). doing c.0 ≡ doing call));
   }
 
 -- ---- what was heard
 
 -- deliveries of some packets are deliveries of one more
-heard_after : (given : List (List ℕ)) (calls : List (Call × DiskOutcome)) (bytes : List ℕ) → AreDeliveriesOf given calls → AreDeliveriesOf (bytes ∷ given) calls
+heard_after : (given : List (List ℕ)) (calls : List (Call × DiskOutcome)) (bytes : List ℕ) → AreDeliveriesOf given calls
+    → AreDeliveriesOf (bytes ∷ given) calls
 heard_after given [] bytes heard = tt
 heard_after given (call ∷ calls) bytes heard = inr heard
 
@@ -43,14 +48,16 @@ heard_of_more : (given more : List (List ℕ)) (calls : List (Call × DiskOutcom
 heard_of_more [] more calls heard = heard
 heard_of_more (bytes ∷ given) more calls heard = heard_after (given ++ more) calls bytes (heard_of_more given more calls heard)
 
-pub heard_append : (given more : List (List ℕ)) (calls others : List (Call × DiskOutcome)) → AreDeliveriesOf given calls → AreDeliveriesOf more others → AreDeliveriesOf (given ++ more) (calls ++ others)
+pub heard_append : (given more : List (List ℕ)) (calls others : List (Call × DiskOutcome)) → AreDeliveriesOf given calls
+    → AreDeliveriesOf more others → AreDeliveriesOf (given ++ more) (calls ++ others)
 heard_append given more [] others heard rest = heard_of_more given more others rest
 heard_append [] more (call ∷ calls) others heard rest = absurd heard
 heard_append (bytes ∷ given) more (call ∷ calls) others (inl (delivers, heard)) rest = inl (delivers, heard_append given more calls others heard rest)
 heard_append (bytes ∷ given) more (call ∷ calls) others (inr heard) rest = inr (heard_append given more (call ∷ calls) others heard rest)
 
 module _ {D W : Type 0} (disk : DiskGhosts D) (wire : WireGhosts W) where
-  abbrev pub heard_none : (p : PeerValue D) (before after : W) → wire.received after ≡ wire.received before → wire.sent after ≡ wire.sent before → HasHeard disk wire 0 p p before after
+  abbrev pub heard_none : (p : PeerValue D) (before after : W) → wire.received after ≡ wire.received before
+      → wire.sent after ≡ wire.sent before → HasHeard disk wire 0 p p before after
   heard_none p before after same sent = record {
     given = [];
     received = same ∙ sym (append-nil (wire.received before));
@@ -64,11 +71,13 @@ module _ {D W : Type 0} (disk : DiskGhosts D) (wire : WireGhosts W) where
   heard_given old new before after bytes heard received sent =
       record { given = bytes ∷ []; received = received; few = omega arith; heard = heard; sent = sent }
 
-  abbrev pub heard_up_to : (few most : ℕ) (old new : PeerValue D) (before after : W) → few ≤ most → HasHeard disk wire few old new before after → HasHeard disk wire most old new before after
+  abbrev pub heard_up_to : (few most : ℕ) (old new : PeerValue D) (before after : W) → few ≤ most
+      → HasHeard disk wire few old new before after → HasHeard disk wire most old new before after
   heard_up_to few most old new before after within heard =
       record { given = heard.given; received = heard.received; few = omega (arith, heard.few, within); heard = heard.heard; sent = heard.sent }
 
-  abbrev pub heard_joined : RunsJoin → (most more : ℕ) (first middle last : PeerValue D) (before between after : W) → HasHeard disk wire most first middle before between
+  abbrev pub heard_joined : RunsJoin → (most more : ℕ) (first middle last : PeerValue D) (before between after : W)
+      → HasHeard disk wire most first middle before between
       → HasHeard disk wire more middle last between after → HasHeard disk wire (most + more) first last before after
   heard_joined join most more first middle last before between after one two =
       let counted = length-append one.given two.given in
@@ -76,7 +85,8 @@ module _ {D W : Type 0} (disk : DiskGhosts D) (wire : WireGhosts W) where
         given = one.given ++ two.given;
         received = two.received ∙ ap (λ (l : List (List ℕ)). l ++ two.given) one.received ∙ append_assoc (wire.received before) one.given two.given;
         few = omega (arith, counted, one.few, two.few);
-        heard = (done_joined disk join Hears first middle last one.heard.0 two.heard.0, heard_append one.given two.given one.heard.0.ran.calls two.heard.0.ran.calls one.heard.1 two.heard.1);
+        heard = (done_joined disk join Hears first middle last one.heard.0 two.heard.0,
+            heard_append one.given two.given one.heard.0.ran.calls two.heard.0.ran.calls one.heard.1 two.heard.1);
         sent = two.sent ∙ one.sent;
       }
 
@@ -87,7 +97,8 @@ skip : (bytes : List (List ℕ)) (answer : Option Reply) (answers : List (Option
 skip [] answer answers said = tt
 skip (one ∷ bytes) answer answers said = inr said
 
-pub said_append : (bytes more : List (List ℕ)) (answers others : List (Option Reply)) → WereSaid bytes answers → WereSaid more others → WereSaid (bytes ++ more) (answers ++ others)
+pub said_append : (bytes more : List (List ℕ)) (answers others : List (Option Reply)) → WereSaid bytes answers → WereSaid more others
+    → WereSaid (bytes ++ more) (answers ++ others)
 said_append [] more [] others said rest = rest
 said_append [] more (answer ∷ answers) others said rest = skip more answer (answers ++ others) (said_append [] more answers others tt rest)
 said_append (one ∷ bytes) more [] others said rest = absurd said
@@ -95,10 +106,13 @@ said_append (one ∷ bytes) more (answer ∷ answers) others (inl (spells, said)
 said_append (one ∷ bytes) more (answer ∷ answers) others (inr said) rest = inr (said_append (one ∷ bytes) more answers others said rest)
 
 module _ {D W : Type 0} (disk : DiskGhosts D) (wire : WireGhosts W) where
-  abbrev pub spoken_still : (p : PeerValue D) (before after : W) → wire.sent after ≡ wire.sent before → wire.received after ≡ wire.received before → HasSpoken disk wire p before after
-  spoken_still p before after same received = record { done = done_still disk Speaks p; taken = []; sent = same ∙ sym (append-nil (wire.sent before)); said = tt; received = received }
+  abbrev pub spoken_still : (p : PeerValue D) (before after : W) → wire.sent after ≡ wire.sent before
+      → wire.received after ≡ wire.received before → HasSpoken disk wire p before after
+  spoken_still p before after same received =
+      record { done = done_still disk Speaks p; taken = []; sent = same ∙ sym (append-nil (wire.sent before)); said = tt; received = received }
 
-  abbrev pub spoken_joined : RunsJoin → (p : PeerValue D) (before between after : W) → HasSpoken disk wire p before between → HasSpoken disk wire p between after → HasSpoken disk wire p before after
+  abbrev pub spoken_joined : RunsJoin → (p : PeerValue D) (before between after : W) → HasSpoken disk wire p before between
+      → HasSpoken disk wire p between after → HasSpoken disk wire p before after
   spoken_joined join p before between after one two = record {
     done = done_joined disk join Speaks p p p one.done two.done;
     taken = one.taken ++ two.taken;
@@ -111,14 +125,18 @@ module _ {D W : Type 0} (disk : DiskGhosts D) (wire : WireGhosts W) where
       → IsDone p.rules p.room p.me p.state (Does call Works) (Some (Said (Ok is.packet))) p.state → MayTake (wire.sent before) bytes (wire.sent after)
       → wire.received after ≡ wire.received before → HasSpoken disk wire p before after
   spoken_once p before after call bytes speaks is deed (inl lost) received = record {
-    done = record { ran = says disk p call (Said (Ok is.packet)) deed; alike = All-cons (λ (c : Call × DiskOutcome). doing c.0 ≡ Speaks) (call, Works) [] speaks (All-nil (λ (c : Call × DiskOutcome). doing c.0 ≡ Speaks)) };
+    done = record { ran = says disk p call (Said (Ok is.packet)) deed;
+        alike = All-cons (λ (c : Call × DiskOutcome). doing c.0 ≡ Speaks) (call, Works) [] speaks
+        (All-nil (λ (c : Call × DiskOutcome). doing c.0 ≡ Speaks)) };
     taken = [];
     sent = lost ∙ sym (append-nil (wire.sent before));
     said = tt;
     received = received;
   }
   spoken_once p before after call bytes speaks is deed (inr took) received = record {
-    done = record { ran = says disk p call (Said (Ok is.packet)) deed; alike = All-cons (λ (c : Call × DiskOutcome). doing c.0 ≡ Speaks) (call, Works) [] speaks (All-nil (λ (c : Call × DiskOutcome). doing c.0 ≡ Speaks)) };
+    done = record { ran = says disk p call (Said (Ok is.packet)) deed;
+        alike = All-cons (λ (c : Call × DiskOutcome). doing c.0 ≡ Speaks) (call, Works) [] speaks
+        (All-nil (λ (c : Call × DiskOutcome). doing c.0 ≡ Speaks)) };
     taken = bytes ∷ [];
     sent = took;
     said = inl ((is.packet, refl, is.spelled), tt);
@@ -127,10 +145,12 @@ module _ {D W : Type 0} (disk : DiskGhosts D) (wire : WireGhosts W) where
 
   -- ---- turns
 
-  abbrev pub turn_of : (old heard ticked let_go cut new : PeerValue D) (before between after : W) → HasHeard disk wire most_packets old heard before between → HasDoneOnce disk Ticks heard ticked → HasDone disk LetsGo ticked let_go
+  abbrev pub turn_of : (old heard ticked let_go cut new : PeerValue D) (before between after : W)
+      → HasHeard disk wire most_packets old heard before between → HasDoneOnce disk Ticks heard ticked → HasDone disk LetsGo ticked let_go
       → HasDone disk Cuts let_go cut → HasDoneOnce disk Saves cut new → HasSpoken disk wire new between after → IsTurn disk wire old new before after
   turn_of old heard ticked let_go cut new before between after hears ticks lets_go cuts saves speaks =
-      record { heard = heard; ticked = ticked; let_go = let_go; cut = cut; between = between; hears = hears; ticks = ticks; lets_go = lets_go; cuts = cuts; saves = saves; speaks = speaks }
+      record { heard = heard; ticked = ticked; let_go = let_go; cut = cut; between = between; hears = hears; ticks = ticks;
+          lets_go = lets_go; cuts = cuts; saves = saves; speaks = speaks }
 
   abbrev pub none_done : (what : Doing) (p : PeerValue D) → HasDoneOnce disk what p p
   none_done what p = (done_still disk what p, omega arith)
@@ -143,7 +163,8 @@ module _ {D W : Type 0} (disk : DiskGhosts D) (wire : WireGhosts W) where
       (joined disk join turn.let_go turn.cut new turn.cuts.ran
       (joined disk join turn.cut new new turn.saves.0.ran turn.speaks.done.ran))))
 
-  pub turns_more : (n : ℕ) (old middle new : PeerValue D) (before between after : W) → AreTurns disk wire n old middle before between → IsTurn disk wire middle new between after
+  pub turns_more : (n : ℕ) (old middle new : PeerValue D) (before between after : W) → AreTurns disk wire n old middle before between
+      → IsTurn disk wire middle new between after
       → AreTurns disk wire (n + 1) old new before after
   turns_more n old middle new before between after turns turn =
       let more : suc n ≡ n + 1 = omega arith in

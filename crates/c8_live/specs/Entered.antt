@@ -49,6 +49,7 @@ HasTicked disk None true old new = ⊥
 HasTicked disk None false old new = new ≡ old
 
 -- A turn that enters this key set, or without one does not tick.
-pub record HasHandedIn {D W : Type 0} (disk : DiskGhosts D) (wire : WireGhosts W) (keys : Option Keys) (taken : Bool) (old new : PeerValue D) (before after : W) : Type 0 where
+pub record HasHandedIn {D W : Type 0} (disk : DiskGhosts D) (wire : WireGhosts W) (keys : Option Keys) (taken : Bool)
+    (old new : PeerValue D) (before after : W) : Type 0 where
   pub turn : IsTurn disk wire old new before after
   pub ticked : HasTicked disk keys taken turn.heard turn.ticked

@@ -27,7 +27,8 @@ module _ {D : Type 0} (g : Ghosts D) (reads_now : (disk : D) → g.may_leave dis
   -- one that is up keeps all that a read gives
   all_kept : kept (g.seen old.disk) ≡ journal.bodies
   all_kept =
-      subst (λ pending. KeepsBodies (journal_over g old before).bodies pending (g.seen old.disk)) (is.up old_up) (is.keeps (g.seen old.disk) (reads_now old.disk))
+      subst (λ pending. KeepsBodies (journal_over g old before).bodies pending (g.seen old.disk)) (is.up old_up)
+          (is.keeps (g.seen old.disk) (reads_now old.disk))
       ∙ ap (λ v. v.bodies) view_is
 
   here : LeavesOnly g old.disk new.disk (KeepsWithOrWithout journal.bodies body)
@@ -43,7 +44,8 @@ module _ {D : Type 0} (g : Ghosts D) (reads_now : (disk : D) → g.may_leave dis
   count_is = ap (λ log. log.count) new_is ∙ is.count_is ∙ ap (λ v. length v.bodies) view_is
 
   same : take new.count (kept (g.seen new.disk)) ≡ journal.bodies
-  same = ap (λ n. take n (kept (g.seen new.disk))) count_is ∙ first_of journal.bodies body (g.seen new.disk) (ends (g.seen new.disk) (reads_now new.disk))
+  same = ap (λ n. take n (kept (g.seen new.disk))) count_is
+      ∙ first_of journal.bodies body (g.seen new.disk) (ends (g.seen new.disk) (reads_now new.disk))
 
   pub value_is : journal_over g new after ≡ record journal { disk = new.disk; pending = Some body; is_down = true }
   value_is = ap (journal_over g new) after_is ∙ (λ i. record { disk = new.disk; bodies = same i; pending = Some body; is_down = (new_is i).down })

@@ -1,5 +1,6 @@
 -- What the repair of an image's end leaves.
-use Rattle.std.proofs.Common.{◌≡◌, inl, inr, ◌<◌, ◌≤◌, ℕ, zero, suc, ◌+◌, ◌*◌, ◌^◌, not, true, false, List, [], ◌∷◌, length, get_or, slice_index, refl, sym, ◌∙◌, ap, subst, arith}
+use Rattle.std.proofs.Common.{◌≡◌, inl, inr, ◌<◌, ◌≤◌, ℕ, zero, suc, ◌+◌, ◌*◌, ◌^◌, not, true, false, List, [], ◌∷◌, length, get_or,
+  slice_index, refl, sym, ◌∙◌, ap, subst, arith}
 use Rattle.std.proofs.lemmas.Bool.{cases_Bool, and_from, lt-ltb, ne_eqb, cond-true, cond-false}
 use Rattle.std.proofs.lemmas.List.{get_or-drop}
 use Rattle.c8_disk.specs.Disk.{overwritten, Only}
@@ -45,12 +46,17 @@ module _ (law : WritesLaw) where
 
   pub repairs : (image : List ℕ) → IsRepair image (repaired image)
   repairs image = elim (cases_Bool (has_closed_gate image)) [
-    | inl closed ↦ subst (IsRepair image) (sym (cond-true (has_closed_gate image) image (overwritten image (144 * kept_count image) (0 ∷ [])) closed)) (record { bodies = refl; count = refl; closed = closed })
-    | inr open_or_missing ↦ subst (IsRepair image) (sym (cond-false (has_closed_gate image) image (overwritten image (144 * kept_count image) (0 ∷ [])) open_or_missing)) (closes image open_or_missing)
+    | inl closed ↦ subst (IsRepair image) (sym
+    (cond-true (has_closed_gate image) image (overwritten image (144 * kept_count image) (0 ∷ [])) closed))
+    (record { bodies = refl; count = refl; closed = closed })
+    | inr open_or_missing ↦ subst (IsRepair image)
+    (sym (cond-false (has_closed_gate image) image (overwritten image (144 * kept_count image) (0 ∷ [])) open_or_missing))
+    (closes image open_or_missing)
   ]
 
   -- what was repaired is up
-  pub up_from_repair : {D : Type 0} (g : Ghosts D) (disk : D) (count : ℕ) (image : List ℕ) → g.seen disk ≡ repaired image → count ≡ kept_count image → Only (g.seen disk) (g.may_leave disk) → 144 * count < 2 ^ 32 → IsUp g disk count
+  pub up_from_repair : {D : Type 0} (g : Ghosts D) (disk : D) (count : ℕ) (image : List ℕ) → g.seen disk ≡ repaired image
+      → count ≡ kept_count image → Only (g.seen disk) (g.may_leave disk) → 144 * count < 2 ^ 32 → IsUp g disk count
   up_from_repair g disk count image is counts only fits = record {
     count_is = counts ∙ sym (repairs image).count ∙ sym (ap kept_count is);
     closed = ap has_closed_gate is ∙ (repairs image).closed;
@@ -62,7 +68,8 @@ pub rests : {D : Type 0} (g : Ghosts D) (log : LogValue D) → IsUp g log.disk l
 rests g log up = record { count = up.count_is ∙ sym (length_of_kept (g.seen log.disk)); durable = λ image left. ap kept (up.durable image left) }
 
 -- and stays so while it is only read
-pub still_up : {D : Type 0} (g : Ghosts D) (old new : D) (count : ℕ) → IsUp g old count → g.seen new ≡ g.seen old → ((image : List ℕ) → g.may_leave new image → g.may_leave old image) → IsUp g new count
+pub still_up : {D : Type 0} (g : Ghosts D) (old new : D) (count : ℕ) → IsUp g old count → g.seen new ≡ g.seen old
+    → ((image : List ℕ) → g.may_leave new image → g.may_leave old image) → IsUp g new count
 still_up g old new count up same none = record {
   count_is = up.count_is ∙ sym (ap kept_count same);
   closed = ap has_closed_gate same ∙ up.closed;

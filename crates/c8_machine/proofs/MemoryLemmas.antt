@@ -1,5 +1,6 @@
 -- The memory before the first frame, by what was written where.
-use Rattle.std.proofs.Common.{◌≡◌, ℕ, ◌+◌, ◌-◌, ◌%◌, ◌<◌, ◌≤◌, List, map, take, length, get_or, false, cond, ◌&&◌, nat_eq, nat_le, nat_lt, ap, replicate, sym, ◌∙◌, inl, inr, arith}
+use Rattle.std.proofs.Common.{◌≡◌, ℕ, ◌+◌, ◌-◌, ◌%◌, ◌<◌, ◌≤◌, List, map, take, length, get_or, false, cond, ◌&&◌, nat_eq, nat_le, nat_lt,
+  ap, replicate, sym, ◌∙◌, inl, inr, arith}
 use Rattle.std.proofs.Math.Path.{fun_ext}
 use Rattle.std.proofs.lemmas.Bool.{cases_lt, cases_Bool, and_parts, leb-true, ltb-true, cond-true, cond-false, le-leb, lt-leb}
 use Rattle.std.proofs.lemmas.List.{get_or-replicate, get_or_past, length-replicate, length-take-le, get_or-take}
@@ -10,7 +11,8 @@ use Rattle.c8_screen.specs.Points.{sprite}
 use Rattle.c8_machine.specs.State.{first_memory, digit_patterns}
 
 zeros : (n k : ℕ) → get_or {A = ℕ} (replicate n 0) k 0 ≡ 0
-zeros n k = elim (cases_lt k n) [ inl within ↦ get_or-replicate n k 0 0 within | inr past ↦ get_or_past {X = ℕ} (replicate n 0) k 0 (simp length-replicate past) ]
+zeros n k = elim (cases_lt k n) [ inl within ↦ get_or-replicate n k 0 0 within
+    | inr past ↦ get_or_past {X = ℕ} (replicate n 0) k 0 (simp length-replicate past) ]
 
 -- the bytes were written from an address on, and nothing else changed
 pub record Places (from : ℕ) (bytes old new : List ℕ) : Type 0 where
@@ -18,7 +20,8 @@ pub record Places (from : ℕ) (bytes old new : List ℕ) : Type 0 where
   pub before : (k : ℕ) → k < from → get_or new k 0 ≡ get_or old k 0
   pub after : (k : ℕ) → from + length bytes ≤ k → get_or new k 0 ≡ get_or old k 0
 
-module _ (program patterned full : List ℕ) (patterns : Places 0x50 digit_patterns (replicate 4096 0) patterned) (code : Places 0x200 program patterned full) where
+module _ (program patterned full : List ℕ) (patterns : Places 0x50 digit_patterns (replicate 4096 0) patterned)
+    (code : Places 0x200 program patterned full) where
   at_program : (k : ℕ) → 0x200 ≤ k → get_or full k 0 ≡ get_or program (k - 0x200) 0
   at_program k past =
       let back : 0x200 + (k - 0x200) ≡ k = omega arith in
@@ -62,14 +65,17 @@ sprites_agree n f g left top same = fun_ext (λ x. fun_ext (λ y.
           let rows = and_parts (nat_le top y) (nat_lt y (top + n)) tests.1 in
           let low : top ≤ y = leb-true top y rows.0 in
           let high : y < top + n = ltb-true y (top + n) rows.1 in
-          ap (λ byte. cond ((nat_le left x && nat_lt x (left + 8)) && (nat_le top y && nat_lt y (top + n))) (nat_eq (bit_at byte (7 - (x - left))) 1) false) (same (y - top) (omega arith))
+          ap (λ byte. cond ((nat_le left x && nat_lt x (left + 8)) && (nat_le top y && nat_lt y (top + n)))
+              (nat_eq (bit_at byte (7 - (x - left))) 1) false) (same (y - top) (omega arith))
       | inr outside ↦ cond-false _ _ _ outside ∙ sym (cond-false _ _ _ outside)
     ]))
 
 -- drawing the first n loaded bytes is drawing those in memory
-pub sprite_loaded : (f : ℕ → ℕ) (bytes : List ℕ) (m n left top : ℕ) → m ≡ n → n < 16 → bytes ≡ map f (range_with_len 0 15) → sprite (length (take m bytes)) (λ k. get_or (take m bytes) k 0) left top ≡ sprite n f left top
+pub sprite_loaded : (f : ℕ → ℕ) (bytes : List ℕ) (m n left top : ℕ) → m ≡ n → n < 16 → bytes ≡ map f (range_with_len 0 15)
+    → sprite (length (take m bytes)) (λ k. get_or (take m bytes) k 0) left top ≡ sprite n f left top
 sprite_loaded f bytes m n left top same few loaded =
     let size : length bytes ≡ 15 = ap length loaded ∙ length-map-range_with_len f 0 15 in
     let drawn : length (take m bytes) ≡ n = length-take-le m bytes (omega (arith, size)) ∙ same in
     rw drawn (sprites_agree n (λ k. get_or (take m bytes) k 0) f left top
-    (λ k h. get_or-take m bytes k 0 (omega arith) ∙ ap (λ (xs : List ℕ). get_or xs k 0) loaded ∙ get_or-map-range_with_len f 0 15 k k 0 (omega arith) (omega arith)))
+    (λ k h. get_or-take m bytes k 0 (omega arith) ∙ ap (λ (xs : List ℕ). get_or xs k 0) loaded
+        ∙ get_or-map-range_with_len f 0 15 k k 0 (omega arith) (omega arith)))

@@ -25,17 +25,23 @@ use Rattle.c8_net.specs.Match.{HasEnded, HasPlayed, HasFailed}
 
 module _ {D : Type 0} (g : Ghosts D) (disk : D) (rules : Rules) (room me : ℕ) where
   -- a session that ended before its last turn has failed; its peer is the one that was opened
-  pub session_failed : (peer first last : PeerValue D) (error : SessionError) → IsOpened g disk rules room me peer → first ≡ peer → HasRunOn g first last → IsEnd g first last error → HasFailed g disk rules room me (error_of_session error)
+  pub session_failed : (peer first last : PeerValue D) (error : SessionError) → IsOpened g disk rules room me peer → first ≡ peer
+      → HasRunOn g first last → IsEnd g first last error → HasFailed g disk rules room me (error_of_session error)
   session_failed peer first last (sessions.Disk why) opened same ran end = (first, last, subst (IsOpened g disk rules room me) (sym same) opened, end)
-  session_failed peer first last (sessions.Wire failures.Closed) opened same ran end = (first, last, subst (IsOpened g disk rules room me) (sym same) opened, ran)
-  session_failed peer first last (sessions.Wire failures.Spent) opened same ran end = (first, last, subst (IsOpened g disk rules room me) (sym same) opened, ran)
+  session_failed peer first last (sessions.Wire failures.Closed) opened same ran end =
+      (first, last, subst (IsOpened g disk rules room me) (sym same) opened, ran)
+  session_failed peer first last (sessions.Wire failures.Spent) opened same ran end =
+      (first, last, subst (IsOpened g disk rules room me) (sym same) opened, ran)
 
-  pub ended_failed : (peer first last : PeerValue D) (turns : Result ℕ SessionError) (error : SessionError) → IsOpened g disk rules room me peer → first ≡ peer → HasEnded g first last turns → turns ≡ Err error → HasFailed g disk rules room me (error_of_session error)
+  pub ended_failed : (peer first last : PeerValue D) (turns : Result ℕ SessionError) (error : SessionError)
+      → IsOpened g disk rules room me peer → first ≡ peer → HasEnded g first last turns → turns ≡ Err error
+      → HasFailed g disk rules room me (error_of_session error)
   ended_failed peer first last turns error opened same ended is =
       session_failed peer first last error opened same ended.ran (subst (λ (t : Result ℕ SessionError). IfErr t (IsEnd g first last)) is ended.end)
 
   -- a session whose journal was lost
-  pub lost_failed : (peer first last : PeerValue D) (turns : Result ℕ SessionError) → IsOpened g disk rules room me peer → first ≡ peer → HasEnded g first last turns → HasFailed g disk rules room me Lost
+  pub lost_failed : (peer first last : PeerValue D) (turns : Result ℕ SessionError) → IsOpened g disk rules room me peer → first ≡ peer
+      → HasEnded g first last turns → HasFailed g disk rules room me Lost
   lost_failed peer first last turns opened same ended = (first, last, subst (IsOpened g disk rules room me) (sym same) opened, ended.ran)
 
   -- an opening that is refused
@@ -47,7 +53,8 @@ module _ {D : Type 0} (g : Ghosts D) (disk : D) (rules : Rules) (room me : ℕ) 
   opened_still peer now same opened = subst (IsOpened g disk rules room me) (sym same) opened
 
   -- after the opening, memory, the socket or a thread is missing
-  pub unopened_failed : ((p : PeerValue D) → HasRunOn g p p) → (peer : PeerValue D) (error : Unopened) → IsOpened g disk rules room me peer → HasFailed g disk rules room me (error_of_unopened error)
+  pub unopened_failed : ((p : PeerValue D) → HasRunOn g p p) → (peer : PeerValue D) (error : Unopened) → IsOpened g disk rules room me peer
+      → HasFailed g disk rules room me (error_of_unopened error)
   unopened_failed still peer unopened.Memory opened = inr (refl, peer, opened)
   unopened_failed still peer (unopened.Socket why) opened = (peer, peer, opened, still peer)
   unopened_failed still peer unopened.Thread opened = (peer, opened)
@@ -57,14 +64,18 @@ module _ {D : Type 0} (g : Ghosts D) (disk : D) (rules : Rules) (room me : ℕ) 
   BeginsThere = (old new : PeerValue D) → IsSound g old → HasRunOn g old new → begun_by new ≡ begun_by old
 
   abbrev pub TellsThere : Type 0
-  TellsThere = (disk : D) (rules : Rules) (room me : ℕ) (p : PeerValue D) → IsOpened g disk rules room me p → HasTrueLast rules me (records_of (bodies_found g disk)) → TellsTruly p.rules p.me p.state
+  TellsThere = (disk : D) (rules : Rules) (room me : ℕ) (p : PeerValue D) → IsOpened g disk rules room me p
+      → HasTrueLast rules me (records_of (bodies_found g disk)) → TellsTruly p.rules p.me p.state
 
   abbrev pub StaysTrue : Type 0
-  StaysTrue = (old new : PeerValue D) → IsSound g old → TellsTruly old.rules old.me old.state → HasRunOn g old new → TellsTruly new.rules new.me new.state
+  StaysTrue = (old new : PeerValue D) → IsSound g old → TellsTruly old.rules old.me old.state → HasRunOn g old new
+      → TellsTruly new.rules new.me new.state
 
-  pub has_played : BeginsThere → TellsThere → StaysTrue → (peer first last shown : PeerValue D) (played : Played) → IsOpened g disk rules room me peer → first ≡ peer → HasRunOn g first last → shown ≡ last → played.frames ≡ confirmed (known_by shown)
+  pub has_played : BeginsThere → TellsThere → StaysTrue → (peer first last shown : PeerValue D) (played : Played)
+      → IsOpened g disk rules room me peer → first ≡ peer → HasRunOn g first last → shown ≡ last → played.frames ≡ confirmed (known_by shown)
       → state played.machine ≡ run_since shown.rules (begun_by shown) (confirmed_rows (known_by shown))
-      → (HasTrueChecks shown.rules shown.me shown.state.journal → state played.machine ≡ serial shown.rules (confirmed_rows (known_by shown))) → HasPlayed g disk rules room me played
+      → (HasTrueChecks shown.rules shown.me shown.state.journal
+      → state played.machine ≡ serial shown.rules (confirmed_rows (known_by shown))) → HasPlayed g disk rules room me played
   has_played begins tells stays peer first last shown played opened same ran is frames machine serially =
       let here = subst (IsOpened g disk rules room me) (sym same) opened in
       let on = subst (HasRunOn g first) (sym is) ran in

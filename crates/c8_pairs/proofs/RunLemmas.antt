@@ -1,5 +1,6 @@
 -- The inputs of a run that begins within its first pair.
-use Rattle.std.proofs.Common.{◌≡◌, ℕ, zero, suc, ◌+◌, ◌-◌, ◌<◌, ◌≤◌, List, [], ◌∷◌, ◌++◌, length, drop, replicate, true, Some, None, refl, sym, ap, ◌∙◌, arith}
+use Rattle.std.proofs.Common.{◌≡◌, ℕ, zero, suc, ◌+◌, ◌-◌, ◌<◌, ◌≤◌, List, [], ◌∷◌, ◌++◌, length, drop, replicate, true, Some, None, refl,
+  sym, ap, ◌∙◌, arith}
 use Rattle.std.specs.Prelude.{slice_get}
 use Rattle.std.proofs.lemmas.List.{drop-drop, drop-append-le, drop-replicate, length-replicate, length-drop}
 use Rattle.std.proofs.Math.Seq.{drop-append-add}
@@ -13,9 +14,11 @@ pub length_run : (skip count : ℕ) (pairs : List Pair) → skip + count ≡ cou
 length_run skip count pairs counts = length-drop skip (words_in pairs) ∙ omega (arith, counts, length_words pairs)
 
 -- within the first stretch
-pub drop_within : (skip times keys : ℕ) (words : List ℕ) → skip ≤ times → drop skip (replicate times keys ++ words) ≡ replicate (times - skip) keys ++ words
+pub drop_within : (skip times keys : ℕ) (words : List ℕ) → skip ≤ times
+    → drop skip (replicate times keys ++ words) ≡ replicate (times - skip) keys ++ words
 drop_within skip times keys words within =
-    drop-append-le skip (replicate times keys) words (omega (arith, within, length-replicate times keys)) ∙ ap (λ (ws : List ℕ). ws ++ words) (drop-replicate skip times keys)
+    drop-append-le skip (replicate times keys) words (omega (arith, within, length-replicate times keys))
+        ∙ ap (λ (ws : List ℕ). ws ++ words) (drop-replicate skip times keys)
 
 -- past it
 pub drop_past : (place times keys : ℕ) (words : List ℕ) → times ≤ place → drop place (replicate times keys ++ words) ≡ drop (place - times) words
@@ -37,7 +40,8 @@ first_within zero (suc times) keys words within = refl
 first_within (suc skip) zero keys words within = absurd (omega (arith, within))
 first_within (suc skip) (suc times) keys words within = first_within skip times keys words (omega (arith, within))
 
-pub got : (all rest : List ℕ) (skip place begun times keys : ℕ) → drop begun (replicate times keys ++ rest) ≡ drop (skip + place) all → begun < times → slice_get (drop skip all) place ≡ Some keys
+pub got : (all rest : List ℕ) (skip place begun times keys : ℕ) → drop begun (replicate times keys ++ rest) ≡ drop (skip + place) all
+    → begun < times → slice_get (drop skip all) place ≡ Some keys
 got all rest skip place begun times keys same within =
     slice_get_dropped all skip place ∙ ap (λ (ws : List ℕ). slice_get ws 0) (sym same) ∙ first_within begun times keys rest within
 

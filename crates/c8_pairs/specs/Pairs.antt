@@ -7,7 +7,8 @@ use Rattle.c8_pairs.specs.declared.pair.Pair.{Pair}
 -- the pairs of a run after one more input is put in front
 abbrev pub in_front : ℕ → List Pair → List Pair
 in_front word [] = record { times = 1; keys = word } ∷ []
-in_front word (p ∷ pairs) = if word == p.keys then record { times = p.times + 1; keys = p.keys } ∷ pairs else record { times = 1; keys = word } ∷ p ∷ pairs
+in_front word (p ∷ pairs) = if word == p.keys then record { times = p.times + 1; keys = p.keys } ∷ pairs else
+    record { times = 1; keys = word } ∷ p ∷ pairs
 
 unfoldable pub pairs_of : List ℕ → List Pair
 pairs_of [] = []

@@ -1,11 +1,14 @@
 -- The rules allow each record that a call of an open peer adds.
-use Rattle.std.proofs.Common.{◌≡◌, ◌≢◌, ℕ, zero, suc, ◌+◌, ◌-◌, ◌^◌, ◌<◌, ◌≤◌, List, [], ◌∷◌, length, drop, Bool, true, false, cond, Option, Some, None, refl, sym, ap, subst, ◌∙◌, inl, inr, arith}
+use Rattle.std.proofs.Common.{◌≡◌, ◌≢◌, ℕ, zero, suc, ◌+◌, ◌-◌, ◌^◌, ◌<◌, ◌≤◌, List, [], ◌∷◌, length, drop, Bool, true, false, cond, Option,
+  Some, None, refl, sym, ap, subst, ◌∙◌, inl, inr, arith}
 use Rattle.std.specs.Prelude.{◌==◌, ◌||◌, ◌&&◌, not, nat_le, nat_lt, is_some, Result, Ok, Err}
-use Rattle.std.proofs.lemmas.Bool.{cases_lt, cases_eq, both_ways, not-false, ltb-false, leb-true, leb-false, eqb-true, eqb-false, eq-eqb, and_parts, or_parts}
+use Rattle.std.proofs.lemmas.Bool.{cases_lt, cases_eq, both_ways, not-false, ltb-false, leb-true, leb-false, eqb-true, eqb-false, eq-eqb,
+  and_parts, or_parts}
 use Rattle.std.proofs.lemmas.List.{get_or_past, length-drop, get_or-drop}
 use Rattle.c8_game.specs.Rules.{Rules, AreInRange}
 use Rattle.c8_wire.specs.declared.error.WireError.{WireError}
-use Rattle.c8_wire.specs.Packet.{HeadValue, DataMessage, FreezeMessage, LeaverMessage, Message, Packet, AreWords, IsDataMessage, IsFreezeMessage, IsLeaverMessage, IsMessage, Fits, IsPacket}
+use Rattle.c8_wire.specs.Packet.{HeadValue, DataMessage, FreezeMessage, LeaverMessage, Message, Packet, AreWords, IsDataMessage,
+  IsFreezeMessage, IsLeaverMessage, IsMessage, Fits, IsPacket}
 use Rattle.c8_wire.specs.Packet as packets
 use Rattle.c8_wire.specs.Sizes.{longest_run}
 use Rattle.c8_wire.specs.checked.WordLaws.{length-spelled_words}
@@ -29,7 +32,8 @@ use Rattle.c8_peer.specs.State.{Memory, Outcome, recorded, Saying, Call, Tick, D
 use Rattle.c8_peer.specs.State as calls
 use Rattle.c8_peer.specs.Calls.{tick, leave, decide, checkpoint}
 use Rattle.c8_peer.specs.Saying.{say, is_not_mine, lacks_record, lacks_link, show}
-use Rattle.c8_peer.specs.Hearing.{got, is_desync, unless_misfit, is_of_other_wire, unless_hand, hear_seen, hear_from_watcher, hear_from, seen_in, hear_data, hear_welcome, hear_freeze, hear_frozen, cut_or_got, hear_end, hear_cut, hear_message, hear_told, deliver}
+use Rattle.c8_peer.specs.Hearing.{got, is_desync, unless_misfit, is_of_other_wire, unless_hand, hear_seen, hear_from_watcher, hear_from,
+  seen_in, hear_data, hear_welcome, hear_freeze, hear_frozen, cut_or_got, hear_end, hear_cut, hear_message, hear_told, deliver}
 use Rattle.c8_peer.specs.Steps.{outcome}
 use Rattle.c8_peer.specs.Lawful.{IsMemory, IsCall}
 use Rattle.c8_peer.proofs.Tests.{failed, either_way}
@@ -48,16 +52,19 @@ Stays k = k.me ≢ 1 → (player_in k k.me).leaving ≡ false
 
 -- ---- tests
 
-past_misfit : (m : Memory) (o : Option KnownError) (others : Outcome) (r : Record) → (unless_misfit m o others).keeps ≡ Some r → (o ≡ None) × (others.keeps ≡ Some r)
+past_misfit : (m : Memory) (o : Option KnownError) (others : Outcome) (r : Record) → (unless_misfit m o others).keeps ≡ Some r
+    → (o ≡ None) × (others.keeps ≡ Some r)
 past_misfit m None others r is = (refl, is)
 past_misfit m (Some error) others r is = absurd cc
 
-past_hand : (m : Memory) (o : Option HandError) (others : Outcome) (r : Record) → (unless_hand m o others).keeps ≡ Some r → (o ≡ None) × (others.keeps ≡ Some r)
+past_hand : (m : Memory) (o : Option HandError) (others : Outcome) (r : Record) → (unless_hand m o others).keeps ≡ Some r
+    → (o ≡ None) × (others.keeps ≡ Some r)
 past_hand m None others r is = (refl, is)
 past_hand m (Some error) others r is = absurd cc
 
 -- the outcome's record is this record
-the_record : (rules : Rules) (room : ℕ) (past : Past) (r s : Record) → Some r ≡ Some s → IsAllowedAfter rules room past r → IsAllowedAfter rules room past s
+the_record : (rules : Rules) (room : ℕ) (past : Past) (r s : Record) → Some r ≡ Some s → IsAllowedAfter rules room past r
+    → IsAllowedAfter rules room past s
 the_record rules room past r s is may = let same : r ≡ s = cc in subst (λ (one : Record). IsAllowedAfter rules room past one) same may
 
 plays_by_test : (k : KnownValue) (q : ℕ) → not (is_player k q) ≡ false → Plays k q
@@ -74,7 +81,8 @@ is_one n is = eqb-true n 1 (not-false (n == 1) is)
 
 -- ---- a record is allowed
 
-allowed : (rules : Rules) (room : ℕ) (past : Past) (r : Record) → IsPast past → Stays past.known → Plays past.known (player_of r) → HasSpelling r → MayFollow rules room past r → IsAllowedAfter rules room past r
+allowed : (rules : Rules) (room : ℕ) (past : Past) (r : Record) → IsPast past → Stays past.known → Plays past.known (player_of r)
+    → HasSpelling r → MayFollow rules room past r → IsAllowedAfter rules room past r
 allowed rules room past r is stays plays spelled may = record {
   spelled = spelled;
   plays = plays;
@@ -132,7 +140,8 @@ record IsNew (k : KnownValue) (q : ℕ) (words : List ℕ) : Type 0 where
 words_drop : (n : ℕ) (words : List ℕ) → AreWords words → AreWords (drop n words)
 words_drop n words fits i = rw get_or-drop (fits (n + i))
 
-new_words : (k : KnownValue) (q start : ℕ) (words : List ℕ) → IsKnown k → misfit k q start words ≡ None → length words ≤ longest_run → AreWords words → IsNew k q (fresh_words k q start words)
+new_words : (k : KnownValue) (q start : ℕ) (words : List ℕ) → IsKnown k → misfit k q start words ≡ None → length words ≤ longest_run
+    → AreWords words → IsNew k q (fresh_words k q start words)
 new_words k q start words known none short fits =
     let n : ℕ = count_in k q - start in
     let many : length (drop n words) ≡ length words - n = length-drop n words in
@@ -158,7 +167,8 @@ got_allowed rules room past m q (word ∷ words) r is stays plays other uncut ne
       short = omega (arith, length-spelled_words (word ∷ words), new.short);
       parts = (omega arith, new.fits);
     } in
-    the_record rules room past got_these r kept (allowed rules room past got_these is stays plays spelled (record { other = other; next = refl; within = new.within; uncut = uncut }))
+    the_record rules room past got_these r kept
+        (allowed rules room past got_these is stays plays spelled (record { other = other; next = refl; within = new.within; uncut = uncut }))
 
 -- ---- leave and decide, of player one
 
@@ -256,7 +266,8 @@ second_false : (a b : Bool) → a ≡ true → (a && b) ≡ false → b ≡ fals
 second_false true b is none = none
 second_false false b is none = absurd cc
 
-data_allowed : (rules : Rules) (t : Told) (room : ℕ) (past : Past) (m : Memory) (q : ℕ) (d : DataMessage) (r : Record) → IsPast past → Stays past.known
+data_allowed : (rules : Rules) (t : Told) (room : ℕ) (past : Past) (m : Memory) (q : ℕ) (d : DataMessage) (r : Record) → IsPast past
+    → Stays past.known
     → Plays past.known q → q ≢ past.known.me → IsDataMessage d → AreWords d.words
     → (hear_data t past.known m q d).keeps ≡ Some r → IsAllowedAfter rules room past r
 unfolding hear_data
@@ -323,7 +334,8 @@ frozen_allowed rules room past m q f r is stays frozen_is fits kept =
     let one : k.me ≡ 1 = is_one k.me chair.0 in
     let plays : Plays k f.leaver = plays_by_test k f.leaver (or_parts (f.leaver == q) (not (is_player k f.leaver)) wrong.0).1 in
     let from_two = frozen_is.leaver_from_two in
-    got_allowed rules room past (record m { chair = with_report m.chair f.leaver q f.length }) f.leaver (fresh_words k f.leaver f.start f.words) r is stays plays
+    got_allowed rules room past (record m { chair = with_report m.chair f.leaver q f.length }) f.leaver
+        (fresh_words k f.leaver f.start f.words) r is stays plays
     (λ same. omega (arith, same, one, from_two)) (uncut_by_test (player_in k f.leaver).cut whole.0)
     (new_words k f.leaver f.start f.words is.known held.0 frozen_is.run.short fits) held.1
 
@@ -335,7 +347,8 @@ record IsCutHere (k : KnownValue) (c : LeaverMessage) : Type 0 where
   frozen : (player_in k c.leaver).frozen ≡ true
   uncut : (player_in k c.leaver).cut ≡ None
 
-cut_or_got_allowed : (rules : Rules) (room : ℕ) (past : Past) (m : Memory) (c : LeaverMessage) (words : List ℕ) (r : Record) → IsPast past → Stays past.known
+cut_or_got_allowed : (rules : Rules) (room : ℕ) (past : Past) (m : Memory) (c : LeaverMessage) (words : List ℕ) (r : Record) → IsPast past
+    → Stays past.known
     → IsLeaverMessage c → IsCutHere past.known c → IsNew past.known c.leaver words
     → (cut_or_got past.known m c.leaver c.length words).keeps ≡ Some r → IsAllowedAfter rules room past r
 cut_or_got_allowed rules room past m c words r is stays cut_is here new kept =
@@ -368,7 +381,8 @@ cut_or_got_allowed rules room past m c words r is stays cut_is here new kept =
     (λ more got_these. got_allowed rules room past m c.leaver words r is stays here.plays here.other here.uncut new got_these)
 
 end_allowed : (rules : Rules) (room : ℕ) (past : Past) (m : Memory) (c : LeaverMessage) (o : Option ℕ) (r : Record) → IsPast past → Stays past.known
-    → IsLeaverMessage c → AreWords c.words → (o ≡ None → IsCutHere past.known c) → (hear_end past.known m c o).keeps ≡ Some r → IsAllowedAfter rules room past r
+    → IsLeaverMessage c → AreWords c.words → (o ≡ None → IsCutHere past.known c) → (hear_end past.known m c o).keeps ≡ Some r
+    → IsAllowedAfter rules room past r
 end_allowed rules room past m c (Some K) r is stays cut_is fits here kept =
     either_way (K == c.length) _ _ r (IsAllowedAfter rules room past r) kept (λ same none. absurd cc) (λ other none. absurd cc)
 end_allowed rules room past m c None r is stays cut_is fits here kept =
@@ -379,7 +393,8 @@ end_allowed rules room past m c None r is stays cut_is fits here kept =
     (new_words k c.leaver c.start c.words is.known held.0 cut_is.run.short fits) held.1
 
 -- player one has cut the own player
-out_allowed : (rules : Rules) (room : ℕ) (past : Past) (r : Record) → IsPast past → past.known.me ≢ 1 → (player_in past.known past.known.me).leaving ≡ false
+out_allowed : (rules : Rules) (room : ℕ) (past : Past) (r : Record) → IsPast past → past.known.me ≢ 1
+    → (player_in past.known past.known.me).leaving ≡ false
     → Some (Leave past.known.me) ≡ Some r → IsAllowedAfter rules room past r
 out_allowed rules room past r is elsewhere stays kept =
     let k : KnownValue = past.known in
@@ -392,9 +407,11 @@ out_allowed rules room past r is elsewhere stays kept =
       short = omega arith;
       parts = tt;
     } in
-    the_record rules room past new r kept (allowed rules room past new is (λ other. stays) is.known.me spelled (record { not_one = elsewhere; elsewhere = λ other. refl; once = stays }))
+    the_record rules room past new r kept (allowed rules room past new is (λ other. stays) is.known.me spelled
+        (record { not_one = elsewhere; elsewhere = λ other. refl; once = stays }))
 
-cut_allowed : (rules : Rules) (room : ℕ) (past : Past) (m : Memory) (q : ℕ) (c : LeaverMessage) (r : Record) → IsPast past → (player_in past.known past.known.me).leaving ≡ false
+cut_allowed : (rules : Rules) (room : ℕ) (past : Past) (m : Memory) (q : ℕ) (c : LeaverMessage) (r : Record) → IsPast past
+    → (player_in past.known past.known.me).leaving ≡ false
     → q ≢ past.known.me → IsLeaverMessage c → AreWords c.words → (hear_cut past.known m q c).keeps ≡ Some r → IsAllowedAfter rules room past r
 unfolding hear_cut
 cut_allowed rules room past m q c r is stays other cut_is fits kept =
@@ -423,20 +440,26 @@ record IsFromOther (k : KnownValue) (q : ℕ) : Type 0 where
   plays : Plays k q
   other : q ≢ k.me
 
-message_allowed : (rules : Rules) (t : Told) (room : ℕ) (past : Past) (m : Memory) (head : HeadValue) (message : Message) (r : Record) → IsPast past → (player_in past.known past.known.me).leaving ≡ false
-    → IsFromOther past.known head.from → IsMessage message → Fits message → (hear_message rules t past.known m head message).keeps ≡ Some r → IsAllowedAfter rules room past r
+message_allowed : (rules : Rules) (t : Told) (room : ℕ) (past : Past) (m : Memory) (head : HeadValue) (message : Message) (r : Record)
+    → IsPast past → (player_in past.known past.known.me).leaving ≡ false
+    → IsFromOther past.known head.from → IsMessage message → Fits message → (hear_message rules t past.known m head message).keeps ≡ Some r
+    → IsAllowedAfter rules room past r
 message_allowed rules t room past m head packets.Hello r is stays from means fits kept = absurd cc
 message_allowed rules t room past m head (packets.Welcome ack) r is stays from means fits kept = welcome_allowed rules room past m head ack r kept
 message_allowed rules t room past m head (packets.Data d) r is stays from means fits kept =
     data_allowed rules t room past m head.from d r is (λ at. stays) from.plays from.other means fits.1 kept
-message_allowed rules t room past m head (packets.Freeze f) r is stays from means fits kept = freeze_allowed rules room past m head.from f r is (λ at. stays) from.other means kept
-message_allowed rules t room past m head (packets.Frozen f) r is stays from means fits kept = frozen_allowed rules room past m head.from f r is (λ at. stays) means fits kept
-message_allowed rules t room past m head (packets.Cut c) r is stays from means fits kept = cut_allowed rules room past m head.from c r is stays from.other means fits kept
+message_allowed rules t room past m head (packets.Freeze f) r is stays from means fits kept =
+    freeze_allowed rules room past m head.from f r is (λ at. stays) from.other means kept
+message_allowed rules t room past m head (packets.Frozen f) r is stays from means fits kept =
+    frozen_allowed rules room past m head.from f r is (λ at. stays) means fits kept
+message_allowed rules t room past m head (packets.Cut c) r is stays from means fits kept =
+    cut_allowed rules room past m head.from c r is stays from.other means fits kept
 message_allowed rules t room past m head (packets.Show shown) r is stays from means fits kept = absurd cc
 message_allowed rules t room past m head (packets.Seen ack) r is stays from means fits kept = absurd cc
 
 -- a SEEN records nothing
-seen_allowed : (rules : Rules) (room : ℕ) (past : Past) (m : Memory) (head : HeadValue) (ack : ℕ) (r : Record) → (hear_from_watcher past.known m head ack).keeps ≡ Some r → IsAllowedAfter rules room past r
+seen_allowed : (rules : Rules) (room : ℕ) (past : Past) (m : Memory) (head : HeadValue) (ack : ℕ) (r : Record)
+    → (hear_from_watcher past.known m head ack).keeps ≡ Some r → IsAllowedAfter rules room past r
 unfolding hear_seen
 seen_allowed rules room past m head ack r kept =
     let admitted = past_hand m (links.refusal_of_seen m.links head) (hear_seen past.known m head ack) r kept in
@@ -448,7 +471,8 @@ seen_allowed rules room past m head ack r kept =
 FromOthers : KnownValue → Memory → Type 0
 FromOthers k m = (head : HeadValue) → links.refusal m.links head ≡ None → IsFromOther k head.from
 
-from_allowed : (rules : Rules) (t : Told) (room : ℕ) (past : Past) (m : Memory) (p : Packet) (heard : Option ℕ) (r : Record) → IsPast past → (player_in past.known past.known.me).leaving ≡ false
+from_allowed : (rules : Rules) (t : Told) (room : ℕ) (past : Past) (m : Memory) (p : Packet) (heard : Option ℕ) (r : Record) → IsPast past
+    → (player_in past.known past.known.me).leaving ≡ false
     → FromOthers past.known m → IsPacket p → (hear_from rules t past.known m p heard).keeps ≡ Some r → IsAllowedAfter rules room past r
 unfolding FromOthers
 from_allowed rules t room past m p (Some ack) r is stays others call_is kept = seen_allowed rules room past m p.head ack r kept
@@ -456,7 +480,8 @@ from_allowed rules t room past m p None r is stays others call_is kept =
     let admitted = past_hand m (links.refusal m.links p.head) (hear_message rules t past.known m p.head p.message) r kept in
     message_allowed rules t room past m p.head p.message r is stays (others p.head admitted.0) call_is.message call_is.fits admitted.1
 
-told_allowed : (rules : Rules) (t : Told) (room : ℕ) (past : Past) (m : Memory) (told : Result Packet WireError) (r : Record) → IsPast past → (player_in past.known past.known.me).leaving ≡ false
+told_allowed : (rules : Rules) (t : Told) (room : ℕ) (past : Past) (m : Memory) (told : Result Packet WireError) (r : Record) → IsPast past
+    → (player_in past.known past.known.me).leaving ≡ false
     → FromOthers past.known m → IsCall (Deliver told) → (hear_told rules t past.known m told).keeps ≡ Some r → IsAllowedAfter rules room past r
 unfolding FromOthers
 told_allowed rules t room past m (Err error) r is stays others call_is kept = absurd cc
@@ -473,7 +498,8 @@ deliver_allowed rules t room past m told r is others call_is kept =
 -- ---- any call
 
 -- a saying records nothing
-say_allowed : (rules : Rules) (t : Told) (room : ℕ) (past : Past) (m : Memory) (to : ℕ) (what : Saying) (r : Record) → (say rules t past.known m to what).keeps ≡ Some r → IsAllowedAfter rules room past r
+say_allowed : (rules : Rules) (t : Told) (room : ℕ) (past : Past) (m : Memory) (to : ℕ) (what : Saying) (r : Record)
+    → (say rules t past.known m to what).keeps ≡ Some r → IsAllowedAfter rules room past r
 unfolding say
 say_allowed rules t room past m to what r kept =
     let k : KnownValue = past.known in
@@ -485,7 +511,8 @@ say_allowed rules t room past m to what r kept =
     let none = linked.1 in
     absurd cc
 
-show_allowed : (rules : Rules) (room : ℕ) (past : Past) (m : Memory) (watcher : ℕ) (r : Record) → (show past.known m watcher).keeps ≡ Some r → IsAllowedAfter rules room past r
+show_allowed : (rules : Rules) (room : ℕ) (past : Past) (m : Memory) (watcher : ℕ) (r : Record) → (show past.known m watcher).keeps ≡ Some r
+    → IsAllowedAfter rules room past r
 unfolding show
 show_allowed rules room past m watcher r kept =
     let other = failed (past.known.me == 1) m _ _ r kept in
@@ -496,7 +523,8 @@ call_allowed : (rules : Rules) (t : Told) (room : ℕ) (past : Past) (m : Memory
     → ((checkpoint t past.known m).keeps ≡ Some r → IsAllowedAfter rules room past r) → IsCall call
     → (outcome rules t past.known m call).keeps ≡ Some r → IsAllowedAfter rules room past r
 call_allowed rules t room past m (Tick keys) r is others checkpoints call_is kept = tick_allowed rules room past m keys r is call_is kept
-call_allowed rules t room past m (Deliver told) r is others checkpoints call_is kept = deliver_allowed rules t room past m told r is others call_is kept
+call_allowed rules t room past m (Deliver told) r is others checkpoints call_is kept =
+    deliver_allowed rules t room past m told r is others call_is kept
 call_allowed rules t room past m (Say to what) r is others checkpoints call_is kept = say_allowed rules t room past m to what r kept
 call_allowed rules t room past m (Show watcher) r is others checkpoints call_is kept = show_allowed rules room past m watcher r kept
 call_allowed rules t room past m (calls.Leave leaver) r is others checkpoints call_is kept = leave_allowed rules room past m leaver r is kept
@@ -509,7 +537,8 @@ unfolding had_epoch epochs
 some_record number [] had = absurd (both_ways true (sym had) refl)
 some_record number (r ∷ rest) had = λ none. absurd (omega (arith, none))
 
-from_others : (rules : Rules) (me room : ℕ) (journal : List Record) (m : Memory) → IsMemory rules room me journal m → FromOthers (known_of rules me journal) m
+from_others : (rules : Rules) (me room : ℕ) (journal : List Record) (m : Memory) → IsMemory rules room me journal m
+    → FromOthers (known_of rules me journal) m
 unfolding FromOthers
 from_others rules me room journal m memory head admitted =
     let game = of_game rules me journal in
@@ -519,8 +548,10 @@ from_others rules me room journal m memory head admitted =
       other = λ same. sender.apart (same ∙ game.player ∙ sym memory.player);
     }
 
-checkpoint_allowed : (rules : Rules) (me room : ℕ) (journal : List Record) (m : Memory) (r : Record) → AreInRange rules → 1 ≤ me → me ≤ rules.players → IsJournal rules me room journal → IsMemory rules room me journal m
-    → IsPast (past_of rules me journal) → (checkpoint (told_of rules me journal) (known_of rules me journal) m).keeps ≡ Some r → IsAllowed rules me room journal r
+checkpoint_allowed : (rules : Rules) (me room : ℕ) (journal : List Record) (m : Memory) (r : Record) → AreInRange rules → 1 ≤ me
+    → me ≤ rules.players → IsJournal rules me room journal → IsMemory rules room me journal m
+    → IsPast (past_of rules me journal) → (checkpoint (told_of rules me journal) (known_of rules me journal) m).keeps ≡ Some r
+    → IsAllowed rules me room journal r
 checkpoint_allowed rules me room journal m r range from to is memory past_is kept =
     let next = adds_next rules me room journal m r range from to is memory.saving kept in
     let may = next_may rules me room journal r range from to is memory.saving next.1 in

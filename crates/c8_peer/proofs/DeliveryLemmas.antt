@@ -1,5 +1,6 @@
 -- A delivery that the links admit.
-use Rattle.std.proofs.Common.{◌≡◌, ◌≢◌, ℕ, Option, ◌≤◌, ◌<◌, ◌+◌, ◌*◌, ◌++◌, [], ◌∷◌, length, Some, None, false, Ok, Err, refl, sym, ap, subst, ◌∙◌, arith}
+use Rattle.std.proofs.Common.{◌≡◌, ◌≢◌, ℕ, Option, ◌≤◌, ◌<◌, ◌+◌, ◌*◌, ◌++◌, [], ◌∷◌, length, Some, None, false, Ok, Err, refl, sym, ap,
+  subst, ◌∙◌, arith}
 use Rattle.std.specs.Prelude.{IsErrOf}
 use Rattle.c8_disk.specs.declared.disk.Disk.{Ghosts}
 use Rattle.c8_disk.specs.declared.error.DiskError.{DiskError}
@@ -34,11 +35,13 @@ use Rattle.c8_peer.proofs.SayingLemmas.{own_player}
 acks_more : (early late : KnownValue) → IsStillKnown early late → (message : Message) → AcksWithin early message → AcksWithin late message
 acks_more early late still Hello within = within
 acks_more early late still (Welcome ack) within =
-    let rises : count_in early early.me ≤ count_in late early.me = begins_length (player_in early early.me).held (player_in late early.me).held (still.each early.me).held in
+    let rises : count_in early early.me ≤ count_in late early.me =
+        begins_length (player_in early early.me).held (player_in late early.me).held (still.each early.me).held in
     let same = still.me in
     rw same (omega (arith, within, rises))
 acks_more early late still (Data d) within =
-    let rises : count_in early early.me ≤ count_in late early.me = begins_length (player_in early early.me).held (player_in late early.me).held (still.each early.me).held in
+    let rises : count_in early early.me ≤ count_in late early.me =
+        begins_length (player_in early early.me).held (player_in late early.me).held (still.each early.me).held in
     let same = still.me in
     rw same (omega (arith, within, rises))
 acks_more early late still (Freeze f) within = within
@@ -88,11 +91,13 @@ by_watcher l p ack is seen = of_watcher l p.head (is.kind ∙ kind_seen p.messag
 pub player_passes : (l : LinksValue) (p : Packet) → IsPacket p → seen_in p.message ≡ None → admission l p.head ≡ None → refusal l p.head ≡ None
 player_passes l p is none admitted = sym (by_player l p is none) ∙ admitted
 
-pub watcher_passes : (l : LinksValue) (p : Packet) (ack : ℕ) → IsPacket p → seen_in p.message ≡ Some ack → admission l p.head ≡ None → refusal_of_seen l p.head ≡ None
+pub watcher_passes : (l : LinksValue) (p : Packet) (ack : ℕ) → IsPacket p → seen_in p.message ≡ Some ack → admission l p.head ≡ None
+    → refusal_of_seen l p.head ≡ None
 watcher_passes l p ack is seen admitted = sym (by_watcher l p ack is seen) ∙ admitted
 
 -- a packet that the links refuse is refused with their error
-pub hand_refuses : (rules : Rules) (t : Told) (k : KnownValue) (m : Memory) (p : Packet) (error : HandError) (seen : Option ℕ) → IsPacket p → seen_in p.message ≡ seen → admission m.links p.head ≡ Some error
+pub hand_refuses : (rules : Rules) (t : Told) (k : KnownValue) (m : Memory) (p : Packet) (error : HandError) (seen : Option ℕ) → IsPacket p
+    → seen_in p.message ≡ seen → admission m.links p.head ≡ Some error
     → hear_from rules t k m p seen ≡ refused m (refusals.Hand error)
 hand_refuses rules t k m p error (Some ack) is seen judged =
     ap (λ (why : Option HandError). unless_hand m why (hear_seen k m p.head ack)) (sym (by_watcher m.links p ack is seen) ∙ judged)
@@ -104,39 +109,52 @@ heard_later verdict found later same = subst IsLater same later
 
 module _ {D : Type 0} where
   -- the outcome of an admitted packet is that of its message
-  pub heard_is : (v : PeerValue D) (p : Packet) → IsPacket p → (player_in (known_by v) v.me).leaving ≡ false → is_of_other_wire v.rules p.head ≡ false → refusal v.state.memory.links p.head ≡ None
-      → outcome v.rules (told_by v) (known_by v) v.state.memory (Deliver (Ok p)) ≡ hear_message v.rules (told_by v) (known_by v) v.state.memory p.head p.message
-  heard_is v p is stays wire admitted = rw (own_player v.rules v.me v.state.journal, stays, wire, no_seen v.state.memory.links p.head p.message is.kind admitted, admitted) refl
+  pub heard_is : (v : PeerValue D) (p : Packet) → IsPacket p → (player_in (known_by v) v.me).leaving ≡ false
+      → is_of_other_wire v.rules p.head ≡ false → refusal v.state.memory.links p.head ≡ None
+      → outcome v.rules (told_by v) (known_by v) v.state.memory (Deliver (Ok p))
+      ≡ hear_message v.rules (told_by v) (known_by v) v.state.memory p.head p.message
+  heard_is v p is stays wire admitted = rw (own_player v.rules v.me v.state.journal, stays, wire,
+      no_seen v.state.memory.links p.head p.message is.kind admitted, admitted) refl
 
   -- the outcome of a SEEN
-  pub seen_is : (v : PeerValue D) (p : Packet) (ack : ℕ) → seen_in p.message ≡ Some ack → (player_in (known_by v) v.me).leaving ≡ false → is_of_other_wire v.rules p.head ≡ false
+  pub seen_is : (v : PeerValue D) (p : Packet) (ack : ℕ) → seen_in p.message ≡ Some ack → (player_in (known_by v) v.me).leaving ≡ false
+      → is_of_other_wire v.rules p.head ≡ false
       → outcome v.rules (told_by v) (known_by v) v.state.memory (Deliver (Ok p)) ≡ hear_from_watcher (known_by v) v.state.memory p.head ack
   seen_is v p ack seen stays wire = rw (own_player v.rules v.me v.state.journal, stays, wire, seen) refl
 
-  pub comes_to : (v : PeerValue D) (p : Packet) (verdict found : Verdict) → IsPacket p → (player_in (known_by v) v.me).leaving ≡ false → is_of_other_wire v.rules p.head ≡ false → refusal v.state.memory.links p.head ≡ None
-      → hear_message v.rules (told_by v) (known_by v) v.state.memory p.head p.message ≡ by_verdict found v.state.memory (memory_after v.state.memory p) → found ≡ verdict
+  pub comes_to : (v : PeerValue D) (p : Packet) (verdict found : Verdict) → IsPacket p → (player_in (known_by v) v.me).leaving ≡ false
+      → is_of_other_wire v.rules p.head ≡ false → refusal v.state.memory.links p.head ≡ None
+      → hear_message v.rules (told_by v) (known_by v) v.state.memory p.head p.message
+      ≡ by_verdict found v.state.memory (memory_after v.state.memory p) → found ≡ verdict
       → outcome v.rules (told_by v) (known_by v) v.state.memory (Deliver (Ok p)) ≡ by_verdict verdict v.state.memory (memory_after v.state.memory p)
-  comes_to v p verdict found is stays wire admitted comes same = heard_is v p is stays wire admitted ∙ comes ∙ ap (λ (x : Verdict). by_verdict x v.state.memory (memory_after v.state.memory p)) same
+  comes_to v p verdict found is stays wire admitted comes same =
+      heard_is v p is stays wire admitted ∙ comes ∙ ap (λ (x : Verdict). by_verdict x v.state.memory (memory_after v.state.memory p)) same
 
   pub memory_noted : (g : Ghosts D) (v : PeerValue D) (p : Packet) (o : Outcome) → IsSound g v → IsPacket p
       → outcome v.rules (told_by v) (known_by v) v.state.memory (Deliver (Ok p)) ≡ o → IsMemory v.rules v.room v.me v.state.journal o.memory
   memory_noted g v p o sound packet is =
       subst (λ (x : Outcome). IsMemory v.rules v.room v.me v.state.journal x.memory) is
-      (memory_kept v.rules v.me v.room v.state.journal v.state.memory (Deliver (Ok p)) sound.range sound.plays.0 sound.plays.1 sound.is_journal sound.memory packet)
+      (memory_kept v.rules v.me v.room v.state.journal v.state.memory (Deliver (Ok p)) sound.range sound.plays.0 sound.plays.1
+          sound.is_journal sound.memory packet)
 
   pub record_allowed : (g : Ghosts D) (v : PeerValue D) (p : Packet) (o : Outcome) (r : Record) → IsSound g v → IsPacket p
-      → outcome v.rules (told_by v) (known_by v) v.state.memory (Deliver (Ok p)) ≡ o → o.keeps ≡ Some r → IsAllowed v.rules v.me v.room v.state.journal r
+      → outcome v.rules (told_by v) (known_by v) v.state.memory (Deliver (Ok p)) ≡ o → o.keeps ≡ Some r
+      → IsAllowed v.rules v.me v.room v.state.journal r
   record_allowed g v p o r sound packet is keeps =
-      keeps_allowed v.rules v.me v.room v.state.journal v.state.memory (Deliver (Ok p)) r sound.range sound.plays.0 sound.plays.1 sound.is_journal sound.memory packet (ap (λ (x : Outcome). x.keeps) is ∙ keeps)
+      keeps_allowed v.rules v.me v.room v.state.journal v.state.memory (Deliver (Ok p)) r sound.range sound.plays.0 sound.plays.1
+          sound.is_journal sound.memory packet (ap (λ (x : Outcome). x.keeps) is ∙ keeps)
 
   pub acks_kept : (g : Ghosts D) (v : PeerValue D) (message : Message) (r : Record) → IsSound g v → IsAllowed v.rules v.me v.room v.state.journal r
       → AcksWithin (known_by v) message → AcksWithin (known_of v.rules v.me (v.state.journal ++ r ∷ [])) message
   acks_kept g v message r sound may within =
       acks_more (known_by v) (known_of v.rules v.me (v.state.journal ++ r ∷ []))
-      (journal_grows v.rules v.me v.room v.state.journal (r ∷ []) sound.range sound.plays.0 sound.plays.1 (journal_more v.rules v.me v.room v.state.journal r sound.is_journal may)) message within
+      (journal_grows v.rules v.me v.room v.state.journal (r ∷ []) sound.range sound.plays.0 sound.plays.1
+          (journal_more v.rules v.me v.room v.state.journal r sound.is_journal may)) message within
 
   pub cause_of : (g : Ghosts D) (v new : PeerValue D) (why : DiskError)
-      → (IsErrOf {T = Unit {0}} (Err why) errors.Failed → (slot_length * (length v.state.journal + 1) + 1 ≤ g.capacity v.disk) × (g.failures v.disk < g.failures new.disk))
-      → (IsErrOf {T = Unit {0}} (Err why) errors.Full → (g.capacity v.disk < slot_length * (length v.state.journal + 1) + 1) × (new.disk ≡ v.disk)) → HasAppendCause g v new why
+      → (IsErrOf {T = Unit {0}} (Err why) errors.Failed
+      → (slot_length * (length v.state.journal + 1) + 1 ≤ g.capacity v.disk) × (g.failures v.disk < g.failures new.disk))
+      → (IsErrOf {T = Unit {0}} (Err why) errors.Full
+      → (g.capacity v.disk < slot_length * (length v.state.journal + 1) + 1) × (new.disk ≡ v.disk)) → HasAppendCause g v new why
   cause_of g v new errors.Failed failed full = failed refl
   cause_of g v new errors.Full failed full = full refl

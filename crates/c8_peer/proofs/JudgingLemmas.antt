@@ -19,10 +19,12 @@ unfolding differ
 differ_is [] [] same = refl
 differ_is [] (y ∷ ys) same = absurd (omega (arith, same))
 differ_is (x ∷ xs) [] same = absurd (omega (arith, same))
-differ_is (x ∷ xs) (y ∷ ys) same = not_both (x == y) (pointwise nat_eq xs ys) ∙ ap (λ (rest : Bool). not (x == y) || rest) (differ_is xs ys (omega (arith, same)))
+differ_is (x ∷ xs) (y ∷ ys) same = not_both (x == y) (pointwise nat_eq xs ys)
+    ∙ ap (λ (rest : Bool). not (x == y) || rest) (differ_is xs ys (omega (arith, same)))
 
 -- a CUT of another player that passes the first tests is judged by the end of the list
-pub cut_goes_on : (k : KnownValue) (m : Memory) (q : ℕ) (c : LeaverMessage) → q ≡ 1 → c.leaver ≢ k.me → is_player k c.leaver ≡ true → (player_in k c.leaver).frozen ≡ true
+pub cut_goes_on : (k : KnownValue) (m : Memory) (q : ℕ) (c : LeaverMessage) → q ≡ 1 → c.leaver ≢ k.me → is_player k c.leaver ≡ true
+    → (player_in k c.leaver).frozen ≡ true
     → hear_cut k m q c ≡ hear_end k m c (player_in k c.leaver).cut
 unfolding hear_cut
 cut_goes_on k m q c one other plays frozen = rw (eq-eqb q 1 one, ne_eqb c.leaver k.me other, plays, frozen) refl

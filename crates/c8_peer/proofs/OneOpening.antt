@@ -9,7 +9,8 @@ use Rattle.c8_peer.specs.State.{State, Reply}
 use Rattle.c8_peer.specs.Opening.{Opening, NoPlayer, Stands, NotWritten, NoMemory, NotRead, Unfit, Spent, MayBecome, IsServed}
 use Rattle.c8_peer.specs.Runs.{After, Opens, IsDone, after}
 
-pub one_opening : (rules : Rules) (room me : ℕ) (found : List Record) (one other : Opening) → MayBecome rules room me found one → MayBecome rules room me found other → IsServed one → IsServed other → one ≡ other
+pub one_opening : (rules : Rules) (room me : ℕ) (found : List Record) (one other : Opening) → MayBecome rules room me found one
+    → MayBecome rules room me found other → IsServed one → IsServed other → one ≡ other
 one_opening rules room me found NoPlayer NoPlayer one other served also = refl
 one_opening rules room me found NoPlayer Stands one other served also = absurd (let plays = other.2 in omega (arith, one, plays))
 one_opening rules room me found NoPlayer (Unfit error) one other served also = absurd (let plays = other.1 in omega (arith, one, plays))
@@ -20,7 +21,8 @@ one_opening rules room me found Stands (Unfit error) one other served also = abs
 one_opening rules room me found Stands Spent one other served also = absurd (let few = one.1 in let many = other.1 in omega (arith, few, many))
 one_opening rules room me found (Unfit error) NoPlayer one other served also = absurd (let plays = one.1 in omega (arith, other, plays))
 one_opening rules room me found (Unfit error) Stands one other served also = absurd (journal_not_refused rules me room found error other.0 one.0)
-one_opening rules room me found (Unfit error) (Unfit why) one other served also = ap Unfit (one_refusal rules me room (map body_of found) error why one.0 other.0)
+one_opening rules room me found (Unfit error) (Unfit why) one other served also =
+    ap Unfit (one_refusal rules me room (map body_of found) error why one.0 other.0)
 one_opening rules room me found (Unfit error) Spent one other served also = absurd (journal_not_refused rules me room found error other.0 one.0)
 one_opening rules room me found Spent NoPlayer one other served also = absurd (let plays = one.2 in omega (arith, other, plays))
 one_opening rules room me found Spent Stands one other served also = absurd (let many = one.1 in let few = other.1 in omega (arith, few, many))
@@ -43,11 +45,13 @@ one_opening rules room me found Spent NoMemory one other served also = absurd al
 one_opening rules room me found Spent (NotRead why) one other served also = absurd also
 
 -- an opening whose record the disk refused would otherwise have succeeded
-pub would_stand : (rules : Rules) (room me : ℕ) (found : List Record) (why : DiskError) (other : Opening) → MayBecome rules room me found (NotWritten why) → MayBecome rules room me found other → IsServed other
+pub would_stand : (rules : Rules) (room me : ℕ) (found : List Record) (why : DiskError) (other : Opening)
+    → MayBecome rules room me found (NotWritten why) → MayBecome rules room me found other → IsServed other
     → other ≡ Stands
 would_stand rules room me found why other may is served = one_opening rules room me found other Stands is may served tt
 
-pub one_answer : (rules : Rules) (room me : ℕ) (s t u : State) (finds : Bool) (one other : Opening) (answer second : Option Reply) → IsDone rules room me s (Opens finds one) answer t
+pub one_answer : (rules : Rules) (room me : ℕ) (s t u : State) (finds : Bool) (one other : Opening) (answer second : Option Reply)
+    → IsDone rules room me s (Opens finds one) answer t
     → IsDone rules room me s (Opens finds other) second u → IsServed one → IsServed other → (answer ≡ second) × (t ≡ u)
 one_answer rules room me s t u finds one other answer second done also served too =
     let same : one ≡ other = one_opening rules room me _ one other done.may.1 also.may.1 served too in

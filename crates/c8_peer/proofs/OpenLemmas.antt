@@ -1,5 +1,6 @@
 -- The parts of an opening make its contract.
-use Rattle.std.proofs.Common.{◌≡◌, ◌<◌, ◌≤◌, ◌+◌, ◌^◌, ℕ, List, [], ◌∷◌, ◌++◌, length, true, Some, Ok, Err, option_map, refl, sym, ap, subst, ◌∙◌, inl, inr, ⊎_elim, arith}
+use Rattle.std.proofs.Common.{◌≡◌, ◌<◌, ◌≤◌, ◌+◌, ◌^◌, ℕ, List, [], ◌∷◌, ◌++◌, length, true, Some, Ok, Err, option_map, refl, sym, ap,
+  subst, ◌∙◌, inl, inr, ⊎_elim, arith}
 use Rattle.std.specs.Prelude.{Result, IfErr}
 use Rattle.c8_game.specs.Rules.{Rules, AreInRange, id_of}
 use Rattle.c8_disk.specs.declared.disk.Disk.{Ghosts}
@@ -32,7 +33,8 @@ use Rattle.c8_peer.specs.State.{Memory, Opened, fresh_memory}
 use Rattle.c8_peer.specs.Opening.{last_epoch, second_form, unfit, opening_record}
 use Rattle.c8_peer.specs.Peer.{PeerValue, mode_of, IsSound}
 use Rattle.c8_peer.specs.checked.Held.{IsPeer, IsRolled}
-use Rattle.c8_peer.specs.Opened.{opening_body, bodies_found, ReadRun, AllRead, OpenRun, MayBegin, IsOpened, IsSettled, IsUnread, IsUnfit, IsNotWritten, IsRefusedFor, IsRefusedOpening, OpeningLeaves}
+use Rattle.c8_peer.specs.Opened.{opening_body, bodies_found, ReadRun, AllRead, OpenRun, MayBegin, IsOpened, IsSettled, IsUnread, IsUnfit,
+  IsNotWritten, IsRefusedFor, IsRefusedOpening, OpeningLeaves}
 use Rattle.c8_peer.specs.checked.OpenedParts.{IsRead, BeginRun, IsBegun, IsNotBegun, BeginningLeaves}
 use Rattle.c8_peer.proofs.OpeningLemmas.{opening_allowed, opening_memory}
 use Rattle.c8_peer.proofs.PeerLemmas.{one_body_more, bodies_more, view}
@@ -41,7 +43,8 @@ use Rattle.c8_peer.proofs.RoomLemmas.{had_room_after}
 
 -- ---- the opening's record
 
-pub next_epoch : (rules : Rules) (room me : ℕ) (journal : List Record) (last : ℕ) → last ≡ epoch journal → last + 1 ≡ epoch (journal ++ opening_record rules room me journal ∷ [])
+pub next_epoch : (rules : Rules) (room me : ℕ) (journal : List Record) (last : ℕ) → last ≡ epoch journal
+    → last + 1 ≡ epoch (journal ++ opening_record rules room me journal ∷ [])
 unfolding epochs
 next_epoch rules room me [] last is = ap (λ (n : ℕ). n + 1) is ∙ sym (epoch_more [] (Head me second_form (id_of rules) room))
 next_epoch rules room me (r ∷ rest) last is = ap (λ (n : ℕ). n + 1) is ∙ sym (epoch_more (r ∷ rest) (Epoch me (epoch (r ∷ rest) + 1) second_form))
@@ -54,25 +57,29 @@ nothing_known rules room me (r ∷ rest) k = refl
 -- ---- where the machine begins
 
 -- at the last checkpoint before the opening, whatever its record is
-new_beginning : (rules : Rules) (room me : ℕ) (journal : List Record) → begun_at rules (journal ++ opening_record rules room me journal ∷ []) ≡ or_first rules (checks_of journal).last
+new_beginning : (rules : Rules) (room me : ℕ) (journal : List Record)
+    → begun_at rules (journal ++ opening_record rules room me journal ∷ []) ≡ or_first rules (checks_of journal).last
 new_beginning rules room me [] = ap (or_first rules) (opened_more [] (Head me second_form (id_of rules) room))
 new_beginning rules room me (r ∷ rest) = ap (or_first rules) (opened_more (r ∷ rest) (Epoch me (epoch (r ∷ rest) + 1) second_form))
 
-new_form : (rules : Rules) (room me : ℕ) (journal : List Record) → checks_of (journal ++ opening_record rules room me journal ∷ []) ≡ with_form (checks_of journal) second_form
+new_form : (rules : Rules) (room me : ℕ) (journal : List Record)
+    → checks_of (journal ++ opening_record rules room me journal ∷ []) ≡ with_form (checks_of journal) second_form
 new_form rules room me [] = checks_more [] (Head me second_form (id_of rules) room)
 new_form rules room me (r ∷ rest) = checks_more (r ∷ rest) (Epoch me (epoch (r ∷ rest) + 1) second_form)
 
 -- ---- the disk calls of the read
 
 module _ {D : Type 0} (g : Ghosts D) (disk : D) (rules : Rules) (room me : ℕ) where
-  pub read_run : (mid left : D) (result : Result ℕ ReplayError) (answer : Answer) → Asks g (OpenLog g.lends (g.seen disk)) (Ok tt) disk mid → bodies_found g mid ≡ bodies_found g disk
+  pub read_run : (mid left : D) (result : Result ℕ ReplayError) (answer : Answer) → Asks g (OpenLog g.lends (g.seen disk)) (Ok tt) disk mid
+      → bodies_found g mid ≡ bodies_found g disk
       → Asks g (ReplayRun rules me room (bodies_found g mid) result) answer mid left → Asks g (ReadRun g disk rules room me result) answer disk left
   read_run mid left result answer opens same replays =
       asks_then g (OpenLog g.lends (g.seen disk)) (ReplayRun rules me room (bodies_found g disk) result) disk mid left answer opens
       (subst (λ (bodies : List (List ℕ)). Asks g (ReplayRun rules me room bodies result) answer mid left) same replays)
 
   -- the log was not opened
-  pub open_refused : (left : D) (why : DiskError) → Asks g (OpenLog g.lends (g.seen disk)) (Err why) disk left → Asks g (ReadRun g disk rules room me (Err (replays.Disk why))) (Err why) disk left
+  pub open_refused : (left : D) (why : DiskError) → Asks g (OpenLog g.lends (g.seen disk)) (Err why) disk left
+      → Asks g (ReadRun g disk rules room me (Err (replays.Disk why))) (Err why) disk left
   open_refused left why asks =
       asks_refused g (OpenLog g.lends (g.seen disk)) (ReplayRun rules me room (bodies_found g disk) (Err (replays.Disk why))) disk left why asks
 
@@ -84,7 +91,8 @@ module _ {D : Type 0} (g : Ghosts D) (reads_now : (disk : D) → g.may_leave dis
   settled_unread disk left settled image leaves = (g.seen disk, reads_now disk, settled.keeps image leaves)
 
   -- a log that is at rest and then only read leaves what was found
-  settled_after : (disk mid left : D) → bodies_found g mid ≡ bodies_found g disk → g.seen mid ≡ repaired (g.seen disk) → AllKeep (bodies_found g mid) (g.may_leave mid)
+  settled_after : (disk mid left : D) → bodies_found g mid ≡ bodies_found g disk → g.seen mid ≡ repaired (g.seen disk)
+      → AllKeep (bodies_found g mid) (g.may_leave mid)
       → ReadsOnly g mid left → IsSettled g disk left
   settled_after disk mid left same mended rests reads = record {
     keeps = λ image leaves. rests image (reads.crash image leaves) ∙ same;
@@ -94,15 +102,21 @@ module _ {D : Type 0} (g : Ghosts D) (reads_now : (disk : D) → g.may_leave dis
   module _ (disk mid left : D) (rules : Rules) (room me : ℕ) (k : KnownValue) (same : bodies_found g mid ≡ bodies_found g disk)
       (mended : g.seen mid ≡ repaired (g.seen disk)) (rests : AllKeep (bodies_found g mid) (g.may_leave mid))
       (first : IsSameDisk g disk mid) (reads : ReadsOnly g mid left) where
-    unfit_after : (error : ReplayError) → IsRefusal rules me room (bodies_found g mid) error → Asks g (ReadRun g disk rules room me (Err error)) (Ok tt) disk left → IsUnfit g disk rules room me error left
-    unfit_after error is asks = (subst (λ (bodies : List (List ℕ)). IsRefusal rules me room bodies error) same is, settled_after disk mid left same mended rests reads, asks)
+    unfit_after : (error : ReplayError) → IsRefusal rules me room (bodies_found g mid) error
+        → Asks g (ReadRun g disk rules room me (Err error)) (Ok tt) disk left → IsUnfit g disk rules room me error left
+    unfit_after error is asks = (subst (λ (bodies : List (List ℕ)). IsRefusal rules me room bodies error) same is,
+        settled_after disk mid left same mended rests reads, asks)
 
-    pub refused_reading : (checks : ChecksValue) (error : ReplayError) → Asks g (ReadRun g disk rules room me (Err error)) (told_by (Err error)) disk left → (is_failed (Err error) ≡ true → g.failures mid < g.failures left) → IsReplayedFromDisk rules me room (bodies_found g mid) (Err error) k checks
+    pub refused_reading : (checks : ChecksValue) (error : ReplayError)
+        → Asks g (ReadRun g disk rules room me (Err error)) (told_by (Err error)) disk left
+        → (is_failed (Err error) ≡ true → g.failures mid < g.failures left)
+        → IsReplayedFromDisk rules me room (bodies_found g mid) (Err error) k checks
         → IsRefusedFor g disk rules room me (unfit error) left
     refused_reading checks replays.WrongGame asks fails is = unfit_after replays.WrongGame is.0 asks
     refused_reading checks replays.WrongPlayer asks fails is = unfit_after replays.WrongPlayer is.0 asks
     refused_reading checks (replays.BadRecord n) asks fails is = unfit_after (replays.BadRecord n) is.0 asks
-    refused_reading checks (replays.Disk Failed) asks fails is = inl (omega (arith, fails refl, first.no_fewer), settled_unread disk left (settled_after disk mid left same mended rests reads), asks)
+    refused_reading checks (replays.Disk Failed) asks fails is =
+        inl (omega (arith, fails refl, first.no_fewer), settled_unread disk left (settled_after disk mid left same mended rests reads), asks)
     refused_reading checks (replays.Disk Full) asks fails is = absurd (let why = is.0 in cc)
 
 -- ---- the append of the record, in terms of the disk as it was found
@@ -116,12 +130,17 @@ module _ {D : Type 0} (g : Ghosts D) (disk mid : D) (rules : Rules) (room me : �
   }
 
   -- the disk calls of the append, in terms of the disk as it was found
-  pub begin_run : (left : D) (answer : Answer) → g.capacity mid ≡ g.capacity disk → Asks g (BeginRun g mid rules room me) answer mid left → Asks g (BeginRun g disk rules room me) answer mid left
+  pub begin_run : (left : D) (answer : Answer) → g.capacity mid ≡ g.capacity disk → Asks g (BeginRun g mid rules room me) answer mid left
+      → Asks g (BeginRun g disk rules room me) answer mid left
   begin_run left answer capacity asks =
-      subst (λ (c : ℕ). Asks g (AppendWithin c (length (bodies_found g disk)) (opening_body rules room me (bodies_found g disk))) answer mid left) capacity
-      (subst (λ (bodies : List (List ℕ)). Asks g (AppendWithin (g.capacity mid) (length bodies) (opening_body rules room me bodies)) answer mid left) same asks)
+      subst (λ (c : ℕ). Asks g (AppendWithin c (length (bodies_found g disk)) (opening_body rules room me (bodies_found g disk))) answer mid
+          left) capacity
+      (subst (λ (bodies : List (List ℕ)). Asks g (AppendWithin (g.capacity mid) (length bodies) (opening_body rules room me bodies)) answer
+          mid left) same asks)
 
-  pub refused_beginning : (left : D) (error : OpenError) → AreJournalBodies rules me room (bodies_found g disk) → IsSettled g disk mid → IsSameDisk g disk mid → g.failures mid ≡ g.failures disk → Asks g (AllRead g disk rules room me) (Ok tt) disk mid → IsNotBegun g mid rules room me error left → IsRefusedFor g disk rules room me error left
+  pub refused_beginning : (left : D) (error : OpenError) → AreJournalBodies rules me room (bodies_found g disk) → IsSettled g disk mid
+      → IsSameDisk g disk mid → g.failures mid ≡ g.failures disk → Asks g (AllRead g disk rules room me) (Ok tt) disk mid
+      → IsNotBegun g mid rules room me error left → IsRefusedFor g disk rules room me error left
   refused_beginning left opens.WrongGame are settled first unfailed asks none = absurd none
   refused_beginning left opens.WrongPlayer are settled first unfailed asks none = absurd none
   refused_beginning left (opens.BadRecord n) are settled first unfailed asks none = absurd none
@@ -135,12 +154,14 @@ module _ {D : Type 0} (g : Ghosts D) (disk mid : D) (rules : Rules) (room me : �
   refused_beginning left (opens.Disk Failed) are settled first unfailed asks is = inr (
     (omega (arith, is.0.0, first.capacity, ap length same), omega (arith, is.0.1, unfailed)),
     not_written left is.1,
-    asks_after g (AllRead g disk rules room me) (BeginRun g disk rules room me) disk mid left (Err Failed) asks (begin_run left (Err Failed) first.capacity is.2),
+    asks_after g (AllRead g disk rules room me) (BeginRun g disk rules room me) disk mid left (Err Failed) asks
+        (begin_run left (Err Failed) first.capacity is.2),
   )
   refused_beginning left (opens.Disk Full) are settled first unfailed asks is = inr (
     (omega (arith, is.0.0, first.capacity, ap length same), is.0.1 ∙ unfailed),
     not_written left is.1,
-    asks_after g (AllRead g disk rules room me) (BeginRun g disk rules room me) disk mid left (Err Full) asks (begin_run left (Err Full) first.capacity is.2),
+    asks_after g (AllRead g disk rules room me) (BeginRun g disk rules room me) disk mid left (Err Full) asks
+        (begin_run left (Err Full) first.capacity is.2),
   )
 
   pub begun_there : (journal : JournalValue D) (number : ℕ) → IsBegun g mid rules room me journal number → IsBegun g disk rules room me journal number
@@ -148,7 +169,8 @@ module _ {D : Type 0} (g : Ghosts D) (disk mid : D) (rules : Rules) (room me : �
     bodies = is.bodies ∙ ap (λ (bodies : List (List ℕ)). bodies ++ opening_body rules room me bodies ∷ []) same;
     none_pending = is.none_pending;
     up = is.up;
-    number_is = is.number_is ∙ ap (λ (bodies : List (List ℕ)). epoch (records_of bodies ++ opening_record rules room me (records_of bodies) ∷ [])) same;
+    number_is = is.number_is ∙ ap (λ (bodies : List (List ℕ)). epoch
+        (records_of bodies ++ opening_record rules room me (records_of bodies) ∷ [])) same;
     not_spent = subst (λ (bodies : List (List ℕ)). epoch (records_of bodies) < last_epoch) same is.not_spent;
   }
 
@@ -160,21 +182,26 @@ module _ {D : Type 0} (g : Ghosts D) (disk mid : D) (rules : Rules) (room me : �
       (weaker g mid left (BeginningLeaves g mid rules room me) all second
       (λ image keeps. ⊎_elim
       (λ without. inl (g.seen disk, reads_now disk, without ∙ same))
-      (λ with. inr (subst (MayBegin rules room me) same with.0, with.1 ∙ ap (λ (bodies : List (List ℕ)). bodies ++ opening_body rules room me bodies ∷ []) same))
+      (λ with. inr (subst (MayBegin rules room me) same with.0,
+          with.1 ∙ ap (λ (bodies : List (List ℕ)). bodies ++ opening_body rules room me bodies ∷ []) same))
       keeps))
 
 -- ---- the peer
 
 -- the frames of its checkpoint are confirmed
-pub begins_confirmed : {D : Type 0} (g : Ghosts D) (disk : D) (rules : Rules) (room me : ℕ) (k : KnownValue) (checks : ChecksValue) (log : LogValue D) (last : ℕ) (from : Origin) → IsRead g disk rules room me k checks log last
-    → from ≡ or_first rules checks.last → AreInOrder (checks_of (records_of (bodies_found g disk))) (known_of rules me (records_of (bodies_found g disk))) → from.frames ≤ confirmed k
+pub begins_confirmed : {D : Type 0} (g : Ghosts D) (disk : D) (rules : Rules) (room me : ℕ) (k : KnownValue) (checks : ChecksValue)
+    (log : LogValue D) (last : ℕ) (from : Origin) → IsRead g disk rules room me k checks log last
+    → from ≡ or_first rules checks.last → AreInOrder (checks_of (records_of (bodies_found g disk)))
+    (known_of rules me (records_of (bodies_found g disk))) → from.frames ≤ confirmed k
 begins_confirmed g disk rules room me k checks log last from read at are =
     let found : List Record = records_of (bodies_found g disk) in
     let there : from ≡ or_first rules (checks_of found).last = at ∙ ap (λ (c : ChecksValue). or_first rules c.last) read.checks_are in
     subst (λ (now : KnownValue). from.frames ≤ confirmed now) (sym read.known)
-    (subst (λ (o : Origin). o.frames ≤ confirmed (known_of rules me found)) (sym there) (or_first_confirmed rules (checks_of found).last (known_of rules me found) are.last))
+    (subst (λ (o : Origin). o.frames ≤ confirmed (known_of rules me found)) (sym there)
+        (or_first_confirmed rules (checks_of found).last (known_of rules me found) are.last))
 
-module _ {D : Type 0} (g : Ghosts D) (disk : D) (rules : Rules) (room me : ℕ) (range : AreInRange rules) (from_one : 1 ≤ me) (in_game : me ≤ rules.players) (low : room < 2 ^ 64)
+module _ {D : Type 0} (g : Ghosts D) (disk : D) (rules : Rules) (room me : ℕ) (range : AreInRange rules) (from_one : 1 ≤ me)
+    (in_game : me ≤ rules.players) (low : room < 2 ^ 64)
     (k : KnownValue) (checks : ChecksValue) (log : LogValue D) (last : ℕ) (read : IsRead g disk rules room me k checks log last)
     (journal : JournalValue D) (number : ℕ) (begun : IsBegun g disk rules room me journal number)
     (m : Memory) (fresh : m ≡ fresh_memory rules room me number) where
@@ -183,7 +210,8 @@ module _ {D : Type 0} (g : Ghosts D) (disk : D) (rules : Rules) (room me : ℕ) 
       let may = opening_allowed rules me room (records_of (bodies_found g disk)) range from_one in_game low read.bodies.journal begun.not_spent in
       ap records_of begun.bodies ∙ one_body_more (bodies_found g disk) (opening_record rules room me (records_of (bodies_found g disk))) may.spelled
 
-  in_epoch : m ≡ fresh_memory rules room me (epoch (records_of (bodies_found g disk) ++ opening_record rules room me (records_of (bodies_found g disk)) ∷ []))
+  in_epoch : m ≡ fresh_memory rules room me
+      (epoch (records_of (bodies_found g disk) ++ opening_record rules room me (records_of (bodies_found g disk)) ∷ []))
   in_epoch = fresh ∙ ap (fresh_memory rules room me) begun.number_is
 
   pub peer_opened : IsPeer rules room journal k m
@@ -200,27 +228,33 @@ module _ {D : Type 0} (g : Ghosts D) (disk : D) (rules : Rules) (room me : ℕ) 
         bodies = subst (AreJournalBodies rules me room) (sym begun.bodies) (bodies_more rules me room (bodies_found g disk) new read.bodies may);
         pending = λ body e. absurd (let none = begun.none_pending in cc);
         pending_may = λ body e. absurd (let none = begun.none_pending in cc);
-        known = sym (nothing_known rules room me before (known_of rules me before)) ∙ sym (known_more rules me room before new may) ∙ ap (known_of rules me) (sym longer);
+        known = sym (nothing_known rules room me before (known_of rules me before)) ∙ sym (known_more rules me room before new may)
+            ∙ ap (known_of rules me) (sym longer);
         memory = rw (longer, in_epoch) (opening_memory rules me room before range from_one in_game read.bodies.journal begun.not_spent);
         last = ap (λ (one : Memory). one.links.epoch) in_epoch ∙ ap epoch (sym longer);
       })
 
   -- where its machine begins
   begins : begun_at rules (records_of journal.bodies) ≡ or_first rules checks.last
-  begins = ap (begun_at rules) longer ∙ new_beginning rules room me (records_of (bodies_found g disk)) ∙ ap (λ (c : ChecksValue). or_first rules c.last) (sym read.checks_are)
+  begins = ap (begun_at rules) longer ∙ new_beginning rules room me (records_of (bodies_found g disk))
+      ∙ ap (λ (c : ChecksValue). or_first rules c.last) (sym read.checks_are)
 
-  pub rolled_opened : (c : ChecksValue) (v : RollValue) (from : Origin) (ran : ℕ) → from ≡ or_first rules checks.last → from.frames ≤ confirmed k → c ≡ with_form checks second_form → v ≡ roll_since rules from k → ran + from.frames ≡ k.ticks
+  pub rolled_opened : (c : ChecksValue) (v : RollValue) (from : Origin) (ran : ℕ) → from ≡ or_first rules checks.last
+      → from.frames ≤ confirmed k → c ≡ with_form checks second_form → v ≡ roll_since rules from k → ran + from.frames ≡ k.ticks
       → IsRolled rules (records_of journal.bodies) k c v ran
   rolled_opened c v from ran at starts noted rolls runs =
       let same : begun_at rules (records_of journal.bodies) ≡ from = begins ∙ sym at in
       record {
         starts = rw same starts;
         roll = rolls ∙ ap (λ (o : Origin). roll_since rules o k) (sym same);
-        checks_are = noted ∙ ap (λ (x : ChecksValue). with_form x second_form) read.checks_are ∙ sym (new_form rules room me (records_of (bodies_found g disk))) ∙ ap checks_of (sym longer);
+        checks_are = noted ∙ ap (λ (x : ChecksValue). with_form x second_form) read.checks_are
+            ∙ sym (new_form rules room me (records_of (bodies_found g disk))) ∙ ap checks_of (sym longer);
         bound = inr (rw same runs);
       }
 
-  pub opened_peer : (from : Origin) (ran : ℕ) → from ≡ or_first rules checks.last → ran + from.frames ≡ k.ticks → IsSound g (view rules room k.me journal m ran) → IsSameDisk g disk journal.disk → Asks g (OpenRun g disk rules room me) (Ok tt) disk journal.disk → IsOpened g disk rules room me (view rules room k.me journal m ran)
+  pub opened_peer : (from : Origin) (ran : ℕ) → from ≡ or_first rules checks.last → ran + from.frames ≡ k.ticks
+      → IsSound g (view rules room k.me journal m ran) → IsSameDisk g disk journal.disk
+      → Asks g (OpenRun g disk rules room me) (Ok tt) disk journal.disk → IsOpened g disk rules room me (view rules room k.me journal m ran)
   opened_peer from ran at runs sound same asks = record {
     rules_are = refl;
     room_is = refl;
@@ -232,7 +266,8 @@ module _ {D : Type 0} (g : Ghosts D) (disk : D) (rules : Rules) (room me : ℕ) 
     may = (read.bodies.journal, begun.not_spent, in_game);
     bodies = read.bodies;
     sound = sound;
-    ran = ap (λ (o : Origin). ran + o.frames) (begins ∙ sym at) ∙ runs ∙ ticks_are (view rules room k.me journal m ran) rules room journal k m refl peer_opened;
+    ran = ap (λ (o : Origin). ran + o.frames) (begins ∙ sym at) ∙ runs
+        ∙ ticks_are (view rules room k.me journal m ran) rules room journal k m refl peer_opened;
     same = same;
     has_room = had_room_after (AllRead g disk rules room me) (g.capacity disk) (length (bodies_found g disk)) _ asks.calls asks.is;
     asks = asks;
@@ -240,7 +275,9 @@ module _ {D : Type 0} (g : Ghosts D) (disk : D) (rules : Rules) (room me : ℕ) 
 
 -- ---- refusals for a player of the game
 
-pub refused_player : {D : Type 0} (g : Ghosts D) (disk : D) (rules : Rules) (room me : ℕ) → me ≤ rules.players → (result : Result (PeerValue D) (OpenError × D))
-    → IfErr result (λ refusal. IsRefusedFor g disk rules room me refusal.0 refusal.1) → IfErr result (λ refusal. IsRefusedOpening g disk rules room me refusal.0 refusal.1)
+pub refused_player : {D : Type 0} (g : Ghosts D) (disk : D) (rules : Rules) (room me : ℕ) → me ≤ rules.players
+    → (result : Result (PeerValue D) (OpenError × D))
+    → IfErr result (λ refusal. IsRefusedFor g disk rules room me refusal.0 refusal.1)
+    → IfErr result (λ refusal. IsRefusedOpening g disk rules room me refusal.0 refusal.1)
 refused_player g disk rules room me in_game (Ok peer) is = tt
 refused_player g disk rules room me in_game (Err refusal) is = inr (in_game, is)

@@ -20,27 +20,34 @@ use Rattle.c8_peer.specs.Opened.{opening_body, IsSettled, IsUnfit, IsOpened, IsR
 use Rattle.c8_peer.specs.Runs.{Opens, as_answered, IsDone, Tells, IsRefusedDeed, IsStoppedOpening}
 
 module _ {D : Type 0} (g : Ghosts D) where
-  pub opened_deed : (disk : D) (rules : Rules) (room me : ℕ) (s : State) (finds : Bool) (p : PeerValue D) → IsOpened g disk rules room me p → (s.mode ≡ Open → ⊥)
-      → records_of (kept (g.seen disk)) ≡ found s finds → IsDone rules room me s (Opens finds Stands) (Some (Opened (Ok (epoch p.state.journal)))) p.state
+  pub opened_deed : (disk : D) (rules : Rules) (room me : ℕ) (s : State) (finds : Bool) (p : PeerValue D) → IsOpened g disk rules room me p
+      → (s.mode ≡ Open → ⊥)
+      → records_of (kept (g.seen disk)) ≡ found s finds
+      → IsDone rules room me s (Opens finds Stands) (Some (Opened (Ok (epoch p.state.journal)))) p.state
   opened_deed disk rules room me s finds p is shut reads = record {
     may = (shut, subst (λ (f : List Record). MayBecome rules room me f Stands) reads is.may);
     is = ap as_answered (sym (is.opening s ∙ ap (λ (f : List Record). opened rules room me s f Stands) reads));
   }
 
   -- the opening refuses what it found, and nothing is pending
-  unfit_deed : (disk left : D) (rules : Rules) (room me : ℕ) (s : State) (finds : Bool) (error : ReplayError) → me ≤ rules.players → IsUnfit g disk rules room me error left → (s.mode ≡ Open → ⊥)
-      → Keeps (found s finds) (g.seen disk) → IsDone rules room me s (Opens finds (Unfit error)) (Some (opened rules room me s (found s finds) (Unfit error)).reply) (opened rules room me s (found s finds) (Unfit error)).state
+  unfit_deed : (disk left : D) (rules : Rules) (room me : ℕ) (s : State) (finds : Bool) (error : ReplayError) → me ≤ rules.players
+      → IsUnfit g disk rules room me error left → (s.mode ≡ Open → ⊥)
+      → Keeps (found s finds) (g.seen disk) → IsDone rules room me s (Opens finds (Unfit error))
+      (Some (opened rules room me s (found s finds) (Unfit error)).reply) (opened rules room me s (found s finds) (Unfit error)).state
   unfit_deed disk left rules room me s finds error within is shut keeps = record {
     may = (shut, (subst (λ (bodies : List (List ℕ)). IsRefusal rules me room bodies error) keeps is.0, within));
     is = refl;
   }
 
-  settled : (disk left : D) (s : State) (finds : Bool) (f : List Record) → f ≡ found s finds → IsSettled g disk left → Keeps (found s finds) (g.seen disk)
+  settled : (disk left : D) (s : State) (finds : Bool) (f : List Record) → f ≡ found s finds → IsSettled g disk left
+      → Keeps (found s finds) (g.seen disk)
       → (image : List ℕ) → g.may_leave left image → Keeps f image
   settled disk left s finds f same is keeps image may = is.keeps image may ∙ keeps ∙ ap (map body_of) (sym same)
 
-  refused_for : (disk left : D) (rules : Rules) (room me : ℕ) (s : State) (finds : Bool) (error : OpenError) → me ≤ rules.players → IsRefusedFor g disk rules room me error left → (s.mode ≡ Open → ⊥)
-      → Keeps (found s finds) (g.seen disk) → records_of (kept (g.seen disk)) ≡ found s finds → Tells g s disk → IsRefusedDeed g rules room me s finds error left
+  refused_for : (disk left : D) (rules : Rules) (room me : ℕ) (s : State) (finds : Bool) (error : OpenError) → me ≤ rules.players
+      → IsRefusedFor g disk rules room me error left → (s.mode ≡ Open → ⊥)
+      → Keeps (found s finds) (g.seen disk) → records_of (kept (g.seen disk)) ≡ found s finds → Tells g s disk
+      → IsRefusedDeed g rules room me s finds error left
   refused_for disk left rules room me s finds opens.WrongGame within is shut keeps reads tells = record {
     opening = Unfit replays.WrongGame;
     deed = unfit_deed disk left rules room me s finds replays.WrongGame within is shut keeps;
@@ -59,7 +66,8 @@ module _ {D : Type 0} (g : Ghosts D) where
   refused_for disk left rules room me s finds opens.EpochsSpent within is shut keeps reads tells = record {
     opening = Spent;
     deed = record {
-      may = (shut, (subst (IsJournal rules me room) reads is.bodies.journal, subst (λ (f : List Record). last_epoch ≤ epoch f) reads is.spent, within));
+      may = (shut, (subst (IsJournal rules me room) reads is.bodies.journal,
+          subst (λ (f : List Record). last_epoch ≤ epoch f) reads is.spent, within));
       is = refl;
     };
     tells = λ image may. (false, settled disk left s finds (found s finds) refl is.settled keeps image may);
@@ -82,7 +90,8 @@ module _ {D : Type 0} (g : Ghosts D) where
         | inr tried ↦ record {
           opening = NotWritten why;
           deed = record {
-            may = (shut, (subst (IsJournal rules me room) reads tried.1.bodies.journal, subst (λ (f : List Record). epoch f < last_epoch) reads tried.1.not_spent, within));
+            may = (shut, (subst (IsJournal rules me room) reads tried.1.bodies.journal,
+                subst (λ (f : List Record). epoch f < last_epoch) reads tried.1.not_spent, within));
             is = refl;
           };
           tells = λ image may.
@@ -99,8 +108,10 @@ module _ {D : Type 0} (g : Ghosts D) where
         }
       ]
 
-  pub refused_deed : (disk left : D) (rules : Rules) (room me : ℕ) (s : State) (finds : Bool) (error : OpenError) → IsRefusedOpening g disk rules room me error left → (s.mode ≡ Open → ⊥)
-      → Keeps (found s finds) (g.seen disk) → records_of (kept (g.seen disk)) ≡ found s finds → Tells g s disk → IsRefusedDeed g rules room me s finds error left
+  pub refused_deed : (disk left : D) (rules : Rules) (room me : ℕ) (s : State) (finds : Bool) (error : OpenError)
+      → IsRefusedOpening g disk rules room me error left → (s.mode ≡ Open → ⊥)
+      → Keeps (found s finds) (g.seen disk) → records_of (kept (g.seen disk)) ≡ found s finds → Tells g s disk
+      → IsRefusedDeed g rules room me s finds error left
   refused_deed disk left rules room me s finds error is shut keeps reads tells =
       elim is [
         | inl nobody ↦
@@ -115,8 +126,10 @@ module _ {D : Type 0} (g : Ghosts D) where
       ]
 
   -- a crash inside an opening
-  pub stopped_deed : (disk : D) (rules : Rules) (room me : ℕ) (s : State) (finds : Bool) (image : List ℕ) → OpeningLeaves g disk rules room me image → me ≤ rules.players → (s.mode ≡ Open → ⊥)
-      → Keeps (found s finds) (g.seen disk) → records_of (kept (g.seen disk)) ≡ found s finds → Tells g s disk → IsStoppedOpening rules room me s image
+  pub stopped_deed : (disk : D) (rules : Rules) (room me : ℕ) (s : State) (finds : Bool) (image : List ℕ)
+      → OpeningLeaves g disk rules room me image → me ≤ rules.players → (s.mode ≡ Open → ⊥)
+      → Keeps (found s finds) (g.seen disk) → records_of (kept (g.seen disk)) ≡ found s finds → Tells g s disk
+      → IsStoppedOpening rules room me s image
   stopped_deed disk rules room me s finds image left within shut keeps reads tells =
       elim left [
         | inl unread ↦
@@ -126,7 +139,8 @@ module _ {D : Type 0} (g : Ghosts D) where
           finds = finds;
           opening = NotWritten errors.Failed;
           leaves = true;
-          may = (shut, (subst (IsJournal rules me room) reads added.0.0.journal, subst (λ (f : List Record). epoch f < last_epoch) reads added.0.1, within));
+          may = (shut, (subst (IsJournal rules me room) reads added.0.0.journal,
+              subst (λ (f : List Record). epoch f < last_epoch) reads added.0.1, within));
           keeps = added.1
               ∙ ap (λ (bodies : List (List ℕ)). bodies ++ opening_body rules room me (kept (g.seen disk)) ∷ []) keeps
               ∙ ap (λ (f : List Record). map body_of (found s finds) ++ body_of (opening_record rules room me f) ∷ []) reads

@@ -1,6 +1,7 @@
 -- The rules allow the record of an opening after the journal that it finds, and the memory of the opened peer is in
 -- order.
-use Rattle.std.proofs.Common.{◌≡◌, ℕ, ◌+◌, ◌^◌, ◌<◌, ◌≤◌, List, [], ◌∷◌, ◌++◌, length, Bool, true, false, cond, inr, refl, sym, ap, ◌∙◌, arith, length-append, replicate}
+use Rattle.std.proofs.Common.{◌≡◌, ℕ, ◌+◌, ◌^◌, ◌<◌, ◌≤◌, List, [], ◌∷◌, ◌++◌, length, Bool, true, false, cond, inr, refl, sym, ap, ◌∙◌,
+  arith, length-append, replicate}
 use Rattle.std.specs.Prelude.{◌==◌}
 use Rattle.std.specs.List.{flat_map, list_any}
 use Rattle.std.proofs.lemmas.Bool.{eq-eqb, or_left, or_right}
@@ -30,7 +31,8 @@ use Rattle.c8_digest.specs.checked.DigestLaws.{digest_length, digest_bytes_fit}
 me_plays : (rules : Rules) (me : ℕ) (found : List Record) → 1 ≤ me → me ≤ rules.players → Plays (known_of rules me found) me
 me_plays rules me found from to = record { from_one = from; in_game = omega (arith, to, players_known rules me found) }
 
-head_spelled : (rules : Rules) (me room : ℕ) → AreInRange rules → 1 ≤ me → me ≤ rules.players → room < 2 ^ 64 → HasSpelling (Head me second_form (id_of rules) room)
+head_spelled : (rules : Rules) (me room : ℕ) → AreInRange rules → 1 ≤ me → me ≤ rules.players → room < 2 ^ 64
+    → HasSpelling (Head me second_form (id_of rules) room)
 head_spelled rules me room range from to low =
     let id : List ℕ = id_of rules in
     let long : length id ≡ 32 = digest_length (id_bytes rules) in
@@ -43,7 +45,8 @@ head_spelled rules me room range from to low =
       parts = (inr refl, long, digest_bytes_fit (id_bytes rules), low);
     }
 
-epoch_spelled : (rules : Rules) (me number : ℕ) → AreInRange rules → 1 ≤ me → me ≤ rules.players → number ≤ last_epoch → HasSpelling (Epoch me number second_form)
+epoch_spelled : (rules : Rules) (me number : ℕ) → AreInRange rules → 1 ≤ me → me ≤ rules.players → number ≤ last_epoch
+    → HasSpelling (Epoch me number second_form)
 epoch_spelled rules me number range from to low = record {
   from_one = from;
   to_four = omega (arith, to, range.at_most_four);
@@ -72,7 +75,8 @@ opening_allowed rules me room (r ∷ rest) range from to low is few = record {
 
 -- with the record the checkpoints are true, if the last one was
 pub opening_stays : (rules : Rules) (me room : ℕ) (found : List Record) → AreInRange rules → 1 ≤ me → me ≤ rules.players → room < 2 ^ 64
-    → IsJournal rules me room found → epoch found < last_epoch → HasTrueLast rules me found → HasTrueChecks rules me (found ++ opening_record rules room me found ∷ [])
+    → IsJournal rules me room found → epoch found < last_epoch → HasTrueLast rules me found
+    → HasTrueChecks rules me (found ++ opening_record rules room me found ∷ [])
 opening_stays rules me room found range from to low is few true_checks =
     opening_true rules me room found range from to is (opening_allowed rules me room found range from to low is few) true_checks
 
@@ -82,7 +86,8 @@ had_next : (journal : List Record) (r : Record) (number : ℕ) → epochs_of r �
 unfolding had_epoch epochs
 had_next journal r number is =
     let before : List ℕ = flat_map epochs_of journal in
-    ap (list_any (λ epoch. epoch == number)) (flat_map-append epochs_of journal (r ∷ []) ∙ ap (λ (more : List ℕ). before ++ more) (append-nil (epochs_of r) ∙ is))
+    ap (list_any (λ epoch. epoch == number)) (flat_map-append epochs_of journal (r ∷ [])
+        ∙ ap (λ (more : List ℕ). before ++ more) (append-nil (epochs_of r) ∙ is))
     ∙ list_any-append (λ epoch. epoch == number) before (number ∷ [])
     ∙ or_right (list_any (λ epoch. epoch == number) before) _ (or_left (number == number) false (eq-eqb number number refl))
 
@@ -109,7 +114,8 @@ both_none false one other e f = f
 
 none_known : (rules : Rules) (me room number q : ℕ) → (link_to (no_links rules me room number) q).known ≡ 0
 none_known rules me room number q =
-    both_none (q == 1) no_link _ refl (both_none (q == 2) no_link _ refl (both_none (q == 3) no_link _ refl (both_none (q == 4) no_link no_link refl refl)))
+    both_none (q == 1) no_link _ refl (both_none (q == 2) no_link _ refl
+        (both_none (q == 3) no_link _ refl (both_none (q == 4) no_link no_link refl refl)))
 
 both_few : (test : Bool) (one other most : ℕ) → one ≤ most → other ≤ most → cond test one other ≤ most
 both_few true one other most e f = e
@@ -118,20 +124,26 @@ both_few false one other most e f = f
 delay_acked : (delay q : ℕ) → acked_of (first_window delay) q ≤ delay
 delay_acked delay q =
     let all : delay ≤ delay = omega arith in
-    both_few (q == 1) delay _ delay all (both_few (q == 2) delay _ delay all (both_few (q == 3) delay _ delay all (both_few (q == 4) delay 0 delay all (omega arith))))
+    both_few (q == 1) delay _ delay all (both_few (q == 2) delay _ delay all
+        (both_few (q == 3) delay _ delay all (both_few (q == 4) delay 0 delay all (omega arith))))
 
 delay_held : (rules : Rules) (q : ℕ) (journal : List Record) → rules.delay ≤ count rules q journal
 unfolding held
-delay_held rules q journal = omega (arith, length-append (replicate rules.delay 0) (flat_map (words_of q) journal), length-replicate {A = ℕ} rules.delay 0)
+delay_held rules q journal = omega (arith, length-append (replicate rules.delay 0) (flat_map (words_of q) journal),
+    length-replicate {A = ℕ} rules.delay 0)
 
 -- the second form begins, and no checkpoint is under way
 opening_saving : (rules : Rules) (room me : ℕ) (found : List Record) → IsSaving rules me (found ++ opening_record rules room me found ∷ [])
 opening_saving rules room me [] =
     let checks = checks_more [] (Head me second_form (id_of rules) room) in
-    record { form = ap (λ (c : ChecksValue). c.form) checks; starts = λ p e. absurd (let none = ap (λ (c : ChecksValue). c.under_way) (sym checks) ∙ e in cc); bytes = λ p e. absurd (let none = ap (λ (c : ChecksValue). c.under_way) (sym checks) ∙ e in cc) }
+    record { form = ap (λ (c : ChecksValue). c.form) checks;
+        starts = λ p e. absurd (let none = ap (λ (c : ChecksValue). c.under_way) (sym checks) ∙ e in cc);
+        bytes = λ p e. absurd (let none = ap (λ (c : ChecksValue). c.under_way) (sym checks) ∙ e in cc) }
 opening_saving rules room me (r ∷ rest) =
     let checks = checks_more (r ∷ rest) (Epoch me (epoch (r ∷ rest) + 1) second_form) in
-    record { form = ap (λ (c : ChecksValue). c.form) checks; starts = λ p e. absurd (let none = ap (λ (c : ChecksValue). c.under_way) (sym checks) ∙ e in cc); bytes = λ p e. absurd (let none = ap (λ (c : ChecksValue). c.under_way) (sym checks) ∙ e in cc) }
+    record { form = ap (λ (c : ChecksValue). c.form) checks;
+        starts = λ p e. absurd (let none = ap (λ (c : ChecksValue). c.under_way) (sym checks) ∙ e in cc);
+        bytes = λ p e. absurd (let none = ap (λ (c : ChecksValue). c.under_way) (sym checks) ∙ e in cc) }
 
 -- no watcher has acknowledged anything
 none_of : (test : Bool) (a b n : ℕ) → a ≤ n → b ≤ n → cond test a b ≤ n
@@ -143,7 +155,8 @@ none_shown watcher n = none_of (watcher == 5) _ _ n (omega arith) (none_of (watc
 
 pub opening_memory : (rules : Rules) (me room : ℕ) (found : List Record) → AreInRange rules → 1 ≤ me → me ≤ rules.players
     → IsJournal rules me room found → epoch found < last_epoch
-    → IsMemory rules room me (found ++ opening_record rules room me found ∷ []) (fresh_memory rules room me (epoch (found ++ opening_record rules room me found ∷ [])))
+    → IsMemory rules room me (found ++ opening_record rules room me found ∷ [])
+    (fresh_memory rules room me (epoch (found ++ opening_record rules room me found ∷ [])))
 opening_memory rules me room found range from to is few =
     let new : Record = opening_record rules room me found in
     let later : List Record = found ++ new ∷ [] in

@@ -1,5 +1,6 @@
 -- Calls keep what holds for a peer's parts.
-use Rattle.std.proofs.Common.{◌≡◌, ◌≤◌, ◌+◌, ℕ, List, [], ◌∷◌, ◌++◌, length, map, option_map, Some, true, false, refl, sym, ap, subst, ◌∙◌, inl, inr, ⊎_elim, arith, None, Bool}
+use Rattle.std.proofs.Common.{◌≡◌, ◌≤◌, ◌+◌, ℕ, List, [], ◌∷◌, ◌++◌, length, map, option_map, Some, true, false, refl, sym, ap, subst, ◌∙◌,
+  inl, inr, ⊎_elim, arith, None, Bool}
 use Rattle.std.proofs.lemmas.Bool.{cases_Bool}
 use Rattle.std.proofs.lemmas.List.{map-append, length-map}
 use Rattle.c8_game.specs.Rules.{Rules}
@@ -52,11 +53,13 @@ same_epoch journal (Check player frames digest) other = absurd cc
 pub one_body_more : (bodies : List (List ℕ)) (r : Record) → HasSpelling r → records_of (bodies ++ body_of r ∷ []) ≡ records_of bodies ++ r ∷ []
 one_body_more bodies r has = map-append record_of bodies (body_of r ∷ []) ∙ ap (λ (s : Record). records_of bodies ++ s ∷ []) (read_again r has)
 
-pub spellings_more : (rules : Rules) (me room : ℕ) (bodies : List (List ℕ)) (r : Record) → AreJournalBodies rules me room bodies → map body_of (records_of bodies ++ r ∷ []) ≡ bodies ++ body_of r ∷ []
+pub spellings_more : (rules : Rules) (me room : ℕ) (bodies : List (List ℕ)) (r : Record) → AreJournalBodies rules me room bodies
+    → map body_of (records_of bodies ++ r ∷ []) ≡ bodies ++ body_of r ∷ []
 spellings_more rules me room bodies r are =
     map-append body_of (records_of bodies) (r ∷ []) ∙ ap (λ (before : List (List ℕ)). before ++ body_of r ∷ []) (bodies_back bodies are.spelled)
 
-pub bodies_more : (rules : Rules) (me room : ℕ) (bodies : List (List ℕ)) (r : Record) → AreJournalBodies rules me room bodies → IsAllowed rules me room (records_of bodies) r
+pub bodies_more : (rules : Rules) (me room : ℕ) (bodies : List (List ℕ)) (r : Record) → AreJournalBodies rules me room bodies
+    → IsAllowed rules me room (records_of bodies) r
     → AreJournalBodies rules me room (bodies ++ body_of r ∷ [])
 bodies_more rules me room bodies r are may =
     subst (AreJournalBodies rules me room) (spellings_more rules me room bodies r are)
@@ -73,7 +76,8 @@ keeps_records rules me room bodies r are image =
 -- ---- the parts of a peer
 
 module _ {D : Type 0} where
-  pub peer_refused : (rules : Rules) (room : ℕ) (old new : JournalValue D) (k : KnownValue) (m : Memory) (r : Record) → IsPeer rules room old k m → IsAllowed rules k.me room (records_of old.bodies) r
+  pub peer_refused : (rules : Rules) (room : ℕ) (old new : JournalValue D) (k : KnownValue) (m : Memory) (r : Record)
+      → IsPeer rules room old k m → IsAllowed rules k.me room (records_of old.bodies) r
       → new.bodies ≡ old.bodies → new.pending ≡ Some (body_of r) → IsPeer rules room new k m
   peer_refused rules room old new k m r is may same pending = record {
     range = is.range;
@@ -87,7 +91,8 @@ module _ {D : Type 0} where
     pending_may = λ body e.
         let this : body_of r ≡ body = cc in
         let reads : r ≡ record_of body = sym (read_again r may.spelled) ∙ ap record_of this in
-        subst (λ (bodies : List (List ℕ)). IsAllowed rules k.me room (records_of bodies) (record_of body)) (sym same) (subst (IsAllowed rules k.me room (records_of old.bodies)) reads may);
+        subst (λ (bodies : List (List ℕ)). IsAllowed rules k.me room (records_of bodies) (record_of body)) (sym same)
+            (subst (IsAllowed rules k.me room (records_of old.bodies)) reads may);
     known = is.known ∙ ap (λ (bodies : List (List ℕ)). known_of rules k.me (records_of bodies)) (sym same);
     memory = subst (λ (bodies : List (List ℕ)). IsMemory rules room k.me (records_of bodies) m) (sym same) is.memory;
     last = is.last ∙ ap (λ (bodies : List (List ℕ)). epoch (records_of bodies)) (sym same);
@@ -106,7 +111,8 @@ module _ {D : Type 0} where
   }
 
   pub peer_more : (rules : Rules) (room : ℕ) (old new : JournalValue D) (k later : KnownValue) (m : Memory) (r : Record) → IsPeer rules room old k m
-      → IsAllowed rules k.me room (records_of old.bodies) r → epoch (records_of old.bodies ++ r ∷ []) ≡ epoch (records_of old.bodies) → IsSaving rules k.me (records_of old.bodies ++ r ∷ [])
+      → IsAllowed rules k.me room (records_of old.bodies) r → epoch (records_of old.bodies ++ r ∷ []) ≡ epoch (records_of old.bodies)
+      → IsSaving rules k.me (records_of old.bodies ++ r ∷ [])
       → new.bodies ≡ old.bodies ++ body_of r ∷ [] → new.pending ≡ None → later ≡ with_record k r → later.me ≡ k.me → IsPeer rules room new later m
   peer_more rules room old new k later m r is may other saving more pending known same =
       let journal : List Record = records_of old.bodies in
@@ -119,15 +125,18 @@ module _ {D : Type 0} where
         bodies = rw (same, more) (bodies_more rules k.me room old.bodies r is.bodies may);
         pending = λ body e. let never : None ≡ Some body = sym pending ∙ e in absurd cc;
         pending_may = λ body e. let never : None ≡ Some body = sym pending ∙ e in absurd cc;
-        known = known ∙ rw (same, longer) (ap (λ (before : KnownValue). with_record before r) is.known ∙ sym (known_more rules k.me room journal r may));
-        memory = rw (same, longer) (memory_more rules room k.me journal r m is.range is.from_one is.in_game (journal_more rules k.me room journal r is.bodies.journal may) is.memory saving);
+        known = known ∙ rw (same, longer) (ap (λ (before : KnownValue). with_record before r) is.known
+            ∙ sym (known_more rules k.me room journal r may));
+        memory = rw (same, longer) (memory_more rules room k.me journal r m is.range is.from_one is.in_game
+            (journal_more rules k.me room journal r is.bodies.journal may) is.memory saving);
         last = is.last ∙ sym other ∙ ap epoch (sym longer);
       } in
       all
 
 -- ---- the roll
 
-since : (rules : Rules) (journal : List Record) (k : KnownValue) (checks : ChecksValue) (v : RollValue) (ran : ℕ) → IsRolled rules journal k checks v ran → IsRollSince (begun_at rules journal) k v
+since : (rules : Rules) (journal : List Record) (k : KnownValue) (checks : ChecksValue) (v : RollValue) (ran : ℕ)
+    → IsRolled rules journal k checks v ran → IsRollSince (begun_at rules journal) k v
 since rules journal k checks v ran is =
     let game : v.rules ≡ rules = roll_rules rules (begun_at rules journal) k v is.roll in
     record { starts = is.starts; is = is.roll ∙ ap (λ (one : Rules). roll_since one (begun_at rules journal) k) (sym game) }
@@ -155,7 +164,8 @@ no_tick k (journals.State player frames piece bytes) other = refl
 no_tick k (Check player frames digest) other = refl
 
 -- a roll within the window runs no more frames than the record allows
-pub runs_few : (rules : Rules) (k later : KnownValue) (r : Record) (ran : ℕ) → later ≡ with_record k r → ran ≤ rules.window + 1 → (later.ticks ≤ k.ticks → ran ≤ rules.window)
+pub runs_few : (rules : Rules) (k later : KnownValue) (r : Record) (ran : ℕ) → later ≡ with_record k r → ran ≤ rules.window + 1
+    → (later.ticks ≤ k.ticks → ran ≤ rules.window)
     → ran ≤ most_run_with rules r
 runs_few rules k later r ran more most settled = elim (cases_Bool (is_entry r)) [
   | inl own ↦ rw own most
@@ -165,13 +175,16 @@ runs_few rules k later r ran more most settled = elim (cases_Bool (is_entry r)) 
 ]
 
 -- a roll that kept the rows of what was known runs from the oldest frame whose best guess changed
-pub runs_anew : (rules : Rules) (journal : List Record) (v : RollValue) (checks : ChecksValue) (rows : List Row) (k later : KnownValue) (was ran : ℕ) → IsRolled rules journal k checks v was → KeepsRows rules.window k rows
+pub runs_anew : (rules : Rules) (journal : List Record) (v : RollValue) (checks : ChecksValue) (rows : List Row) (k later : KnownValue)
+    (was ran : ℕ) → IsRolled rules journal k checks v was → KeepsRows rules.window k rows
     → IsWithinWindow v → RunsFromWhatWasKnown v rows later ran → RunsFromOldest k later ran
 runs_anew rules journal v checks rows k later was ran is keeps few again =
     let game : v.rules ≡ rules = roll_rules rules (begun_at rules journal) k v is.roll in
-    again (begun_at rules journal) k (since rules journal k checks v was is) (subst (λ (one : Rules). KeepsRows one.window k rows) (sym game) keeps) (omega (arith, few))
+    again (begun_at rules journal) k (since rules journal k checks v was is)
+        (subst (λ (one : Rules). KeepsRows one.window k rows) (sym game) keeps) (omega (arith, few))
 
-pub was_roll : (rules : Rules) (journal : List Record) (v : RollValue) (checks : ChecksValue) (k later : KnownValue) (r : Record) (was : ℕ) → IsRolled rules journal k checks v was → later ≡ with_record k r → IsStillKnown k later → WasRoll v later
+pub was_roll : (rules : Rules) (journal : List Record) (v : RollValue) (checks : ChecksValue) (k later : KnownValue) (r : Record) (was : ℕ)
+    → IsRolled rules journal k checks v was → later ≡ with_record k r → IsStillKnown k later → WasRoll v later
 was_roll rules journal v checks k later r was is more still = record {
   from = begun_at rules journal;
   before = k;
@@ -181,7 +194,8 @@ was_roll rules journal v checks k later r was is more still = record {
 }
 
 -- with one more record the roll is that of what is known now
-pub rolled_more : (rules : Rules) (before now : List Record) (checks noted : ChecksValue) (v next : RollValue) (k later : KnownValue) (r : Record) (was ran : ℕ) → IsRolled rules before k checks v was
+pub rolled_more : (rules : Rules) (before now : List Record) (checks noted : ChecksValue) (v next : RollValue) (k later : KnownValue)
+    (r : Record) (was ran : ℕ) → IsRolled rules before k checks v was
     → begun_at rules (before ++ r ∷ []) ≡ begun_at rules before → noted ≡ checks_of (before ++ r ∷ []) → now ≡ before ++ r ∷ []
     → IsStillKnown k later → GrowsTo v next later → ran ≤ v.rules.window + 1 → IsRolled rules now later noted next ran
 rolled_more rules before now checks noted v next k later r was ran is same_start note more still grows few =
@@ -190,7 +204,8 @@ rolled_more rules before now checks noted v next k later r was ran is same_start
     let starts = is.starts in
     record {
       starts = rw begun (omega (arith, starts, confirmed_rises k later still));
-      roll = grows (begun_at rules before) k (since rules before k checks v was is) still ∙ ap (λ (one : Rules). roll_since one (begun_at rules before) later) game ∙ ap (λ (from : Origin). roll_since rules from later) (sym begun);
+      roll = grows (begun_at rules before) k (since rules before k checks v was is) still
+          ∙ ap (λ (one : Rules). roll_since one (begun_at rules before) later) game ∙ ap (λ (from : Origin). roll_since rules from later) (sym begun);
       checks_are = note ∙ ap checks_of (sym more);
       bound = inl (subst (λ (one : Rules). ran ≤ one.window + 1) game few);
     }
@@ -199,16 +214,20 @@ rolled_more rules before now checks noted v next k later r was ran is same_start
 
 module _ {D : Type 0} where
   abbrev pub view : Rules → ℕ → ℕ → JournalValue D → Memory → ℕ → PeerValue D
-  view rules room me j m ran = record { rules = rules; room = room; me = me; disk = j.disk; state = state_of j.bodies j.pending j.is_down m; last_run = ran }
+  view rules room me j m ran = record { rules = rules; room = room; me = me; disk = j.disk; state = state_of j.bodies j.pending j.is_down m;
+      last_run = ran }
 
-  pub allowed_inside : {v w : PeerValue D} (r : Record) → v ≡ w → IsAllowed w.rules w.me w.room w.state.journal r → IsAllowed v.rules v.me v.room v.state.journal r
+  pub allowed_inside : {v w : PeerValue D} (r : Record) → v ≡ w → IsAllowed w.rules w.me w.room w.state.journal r
+      → IsAllowed v.rules v.me v.room v.state.journal r
   allowed_inside r is may = subst (λ (x : PeerValue D). IsAllowed x.rules x.me x.room x.state.journal r) (sym is) may
 
-  pub view_refused : (v : PeerValue D) (rules : Rules) (room me ran : ℕ) (old new : JournalValue D) (m : Memory) (r : Record) (body : List ℕ) → view rules room me old m ran ≡ v
+  pub view_refused : (v : PeerValue D) (rules : Rules) (room me ran : ℕ) (old new : JournalValue D) (m : Memory) (r : Record)
+      (body : List ℕ) → view rules room me old m ran ≡ v
       → new.bodies ≡ old.bodies → new.pending ≡ Some body → new.is_down ≡ true → record_of body ≡ r
       → view rules room me new m ran ≡ record v { disk = new.disk; state = record v.state { pending = Some r; mode = Down } }
   view_refused v rules room me ran old new m r body is bodies pending down reads =
-      subst (λ (x : PeerValue D). view rules room me new m ran ≡ record x { disk = new.disk; state = record x.state { pending = Some r; mode = Down } }) is
+      subst (λ (x : PeerValue D). view rules room me new m ran
+          ≡ record x { disk = new.disk; state = record x.state { pending = Some r; mode = Down } }) is
       (λ i. record {
         rules = rules;
         room = room;
@@ -223,11 +242,13 @@ module _ {D : Type 0} where
         last_run = ran;
       })
 
-  pub view_more : (v : PeerValue D) (rules : Rules) (room me later before ran : ℕ) (old new : JournalValue D) (m : Memory) (r : Record) → view rules room me old m before ≡ v
+  pub view_more : (v : PeerValue D) (rules : Rules) (room me later before ran : ℕ) (old new : JournalValue D) (m : Memory) (r : Record)
+      → view rules room me old m before ≡ v
       → records_of new.bodies ≡ records_of old.bodies ++ r ∷ [] → new.pending ≡ old.pending → new.is_down ≡ old.is_down → later ≡ me
       → view rules room later new m ran ≡ record v { disk = new.disk; state = record v.state { journal = v.state.journal ++ r ∷ [] }; last_run = ran }
   view_more v rules room me later before ran old new m r is records pending down same =
-      subst (λ (x : PeerValue D). view rules room later new m ran ≡ record x { disk = new.disk; state = record x.state { journal = x.state.journal ++ r ∷ [] }; last_run = ran }) is
+      subst (λ (x : PeerValue D). view rules room later new m ran
+          ≡ record x { disk = new.disk; state = record x.state { journal = x.state.journal ++ r ∷ [] }; last_run = ran }) is
       (λ i. record {
         rules = rules;
         room = room;
@@ -238,27 +259,35 @@ module _ {D : Type 0} where
       })
 
   -- how many frames a call runs that adds a record
-  pub runs_frames : {before : ℕ} (v : PeerValue D) (rules : Rules) (room : ℕ) (j : JournalValue D) (k later : KnownValue) (m : Memory) (r : Record) (ran : ℕ) → view rules room k.me j m before ≡ v
-      → IsPeer rules room j k m → IsAllowed rules k.me room (records_of j.bodies) r → later ≡ with_record k r → ran ≤ most_run_with rules r → RunsFromOldest k later ran
+  pub runs_frames : {before : ℕ} (v : PeerValue D) (rules : Rules) (room : ℕ) (j : JournalValue D) (k later : KnownValue) (m : Memory)
+      (r : Record) (ran : ℕ) → view rules room k.me j m before ≡ v
+      → IsPeer rules room j k m → IsAllowed rules k.me room (records_of j.bodies) r → later ≡ with_record k r → ran ≤ most_run_with rules r
+      → RunsFromOldest k later ran
       → RunsFrames (most_run_with v.rules r) (known_by v) (known_of v.rules v.me (v.state.journal ++ r ∷ [])) ran
   runs_frames v rules room j k later m r ran seen is may more few again =
       let journal : List Record = records_of j.bodies in
-      let longer : later ≡ known_of rules k.me (journal ++ r ∷ []) = more ∙ ap (λ (before : KnownValue). with_record before r) is.known ∙ sym (known_more rules k.me room journal r may) in
+      let longer : later ≡ known_of rules k.me (journal ++ r ∷ []) =
+          more ∙ ap (λ (before : KnownValue). with_record before r) is.known ∙ sym (known_more rules k.me room journal r may) in
       let from : RunsFromOldest (known_of rules k.me journal) (known_of rules k.me (journal ++ r ∷ [])) ran =
-      subst (λ (x : KnownValue). RunsFromOldest x (known_of rules k.me (journal ++ r ∷ [])) ran) is.known (subst (λ (x : KnownValue). RunsFromOldest k x ran) longer again) in
-      subst (λ (x : PeerValue D). RunsFrames (most_run_with x.rules r) (known_by x) (known_of x.rules x.me (x.state.journal ++ r ∷ [])) ran) seen (record { few = few; from_oldest = from })
+      subst (λ (x : KnownValue). RunsFromOldest x (known_of rules k.me (journal ++ r ∷ [])) ran) is.known
+          (subst (λ (x : KnownValue). RunsFromOldest k x ran) longer again) in
+      subst (λ (x : PeerValue D). RunsFrames (most_run_with x.rules r) (known_by x) (known_of x.rules x.me (x.state.journal ++ r ∷ [])) ran)
+          seen (record { few = few; from_oldest = from })
 
   -- a crash inside a call that adds a record
-  pub leaves_records : {ran : ℕ} (g : Ghosts D) (v : PeerValue D) (rules : Rules) (room me : ℕ) (old : JournalValue D) (new : D) (m : Memory) (r : Record) (body : List ℕ)
+  pub leaves_records : {ran : ℕ} (g : Ghosts D) (v : PeerValue D) (rules : Rules) (room me : ℕ) (old : JournalValue D) (new : D)
+      (m : Memory) (r : Record) (body : List ℕ)
       → view rules room me old m ran ≡ v → AreJournalBodies rules me room old.bodies → body ≡ body_of r
       → LeavesOnly g old.disk new (KeepsBodies old.bodies (Some body)) → LeavesOnly g v.disk new (KeepsWithOrWithout v.state.journal (Some r))
   leaves_records g v rules room me old new m r body is are spelled run =
       subst (λ (x : PeerValue D). LeavesOnly g x.disk new (KeepsWithOrWithout x.state.journal (Some r))) is
       (weaker g old.disk new (KeepsBodies old.bodies (Some body)) (KeepsWithOrWithout (records_of old.bodies) (Some r)) run
-      (λ image keeps. keeps_records rules me room old.bodies r are image (subst (λ (one : List ℕ). KeepsBodies old.bodies (Some one) image) spelled keeps)))
+      (λ image keeps. keeps_records rules me room old.bodies r are image
+          (subst (λ (one : List ℕ). KeepsBodies old.bodies (Some one) image) spelled keeps)))
 
   -- the disk calls, in terms of records
-  pub asks_records : {ran : ℕ} (g : Ghosts D) (v : PeerValue D) (rules : Rules) (room me : ℕ) (old : JournalValue D) (new : D) (m : Memory) (r : Record) (body : List ℕ) (answer : Answer)
+  pub asks_records : {ran : ℕ} (g : Ghosts D) (v : PeerValue D) (rules : Rules) (room me : ℕ) (old : JournalValue D) (new : D) (m : Memory)
+      (r : Record) (body : List ℕ) (answer : Answer)
       → view rules room me old m ran ≡ v → body ≡ body_of r → Asks g (AppendWithin (g.capacity old.disk) (length old.bodies) body) answer old.disk new
       → Asks g (AppendWithin (g.capacity v.disk) (length v.state.journal) (body_of r)) answer v.disk new
   asks_records g v rules room me old new m r body answer is spelled asks =
@@ -266,15 +295,19 @@ module _ {D : Type 0} where
       (subst (λ (n : ℕ). Asks g (AppendWithin (g.capacity old.disk) n (body_of r)) answer old.disk new) (sym (length-map old.bodies record_of))
       (subst (λ (one : List ℕ). Asks g (AppendWithin (g.capacity old.disk) (length old.bodies) one) answer old.disk new) spelled asks))
 
-  pub allowed_outside : {v w : PeerValue D} (r : Record) → v ≡ w → IsAllowed v.rules v.me v.room v.state.journal r → IsAllowed w.rules w.me w.room w.state.journal r
+  pub allowed_outside : {v w : PeerValue D} (r : Record) → v ≡ w → IsAllowed v.rules v.me v.room v.state.journal r
+      → IsAllowed w.rules w.me w.room w.state.journal r
   allowed_outside r is may = subst (λ (x : PeerValue D). IsAllowed x.rules x.me x.room x.state.journal r) is may
 
   -- the rules allow what a call records
-  pub may_record : (rules : Rules) (room : ℕ) (j : JournalValue D) (k : KnownValue) (m : Memory) → IsPeer rules room j k m → (call : Call) → IsCall call
-      → (noted : Memory) (reply : Reply) (r : Record) → outcome rules (told_of rules k.me (records_of j.bodies)) k m call ≡ recorded noted reply r → IsAllowed rules k.me room (records_of j.bodies) r
+  pub may_record : (rules : Rules) (room : ℕ) (j : JournalValue D) (k : KnownValue) (m : Memory) → IsPeer rules room j k m → (call : Call)
+      → IsCall call
+      → (noted : Memory) (reply : Reply) (r : Record)
+      → outcome rules (told_of rules k.me (records_of j.bodies)) k m call ≡ recorded noted reply r → IsAllowed rules k.me room (records_of j.bodies) r
   may_record rules room j k m is call may noted reply r comes =
       let keeps : (outcome rules (told_of rules k.me (records_of j.bodies)) (known_of rules k.me (records_of j.bodies)) m call).keeps ≡ Some r =
-      subst (λ (known : KnownValue). (outcome rules (told_of rules k.me (records_of j.bodies)) known m call).keeps ≡ Some r) is.known (ap (λ (o : Outcome). o.keeps) comes) in
+      subst (λ (known : KnownValue). (outcome rules (told_of rules k.me (records_of j.bodies)) known m call).keeps ≡ Some r) is.known
+          (ap (λ (o : Outcome). o.keeps) comes) in
       keeps_allowed rules k.me room (records_of j.bodies) m call r is.range is.from_one is.in_game is.bodies.journal is.memory may keeps
 
 pub is_up : (is_down : Bool) → mode_of is_down ≡ Open → is_down ≡ false

@@ -1,5 +1,6 @@
 -- The outcome of a call never blames the disk, so the answer tells whether the peer is down after it.
-use Rattle.std.proofs.Common.{◌≡◌, ◌⊎◌, inl, inr, ⊎_elim, ◌+◌, ◌≤◌, ℕ, List, [], ◌∷◌, ◌++◌, length, Bool, true, Option, Some, None, Ok, Err, refl, sym, ap, ◌∙◌}
+use Rattle.std.proofs.Common.{◌≡◌, ◌⊎◌, inl, inr, ⊎_elim, ◌+◌, ◌≤◌, ℕ, List, [], ◌∷◌, ◌++◌, length, Bool, true, Option, Some, None, Ok, Err,
+  refl, sym, ap, ◌∙◌}
 use Rattle.std.specs.Prelude.{Result, ◌==◌, ◌||◌, not, nat_le, nat_lt, is_some}
 use Rattle.c8_game.specs.Rules.{Rules, AreInRange}
 use Rattle.c8_disk.specs.declared.error.DiskError.{DiskError}
@@ -17,10 +18,12 @@ use Rattle.c8_window.specs.Window.{acked_more}
 use Rattle.c8_round.specs.Round.{is_ready, with_report}
 use Rattle.c8_peer.specs.Told.{Told, told_of}
 use Rattle.c8_refusals.specs.declared.error.Unsayable.{Unsayable}
-use Rattle.c8_peer.specs.State.{Memory, Mode, Open, Down, Away, State, Saying, Call, Tick, Deliver, Say, Show, Leave, Decide, Checkpoint, Said, Outcome, answered}
+use Rattle.c8_peer.specs.State.{Memory, Mode, Open, Down, Away, State, Saying, Call, Tick, Deliver, Say, Show, Leave, Decide, Checkpoint,
+  Said, Outcome, answered}
 use Rattle.c8_peer.specs.Steps.{DiskOutcome, Works, Refuses, refused_by_disk, outcome, done, at_mode, step}
 use Rattle.c8_peer.specs.Calls.{tick, leave, decide, next_piece, checkpoint}
-use Rattle.c8_peer.specs.Hearing.{is_desync, unless_misfit, got, cut_or_got, hear_data, hear_welcome, hear_freeze, hear_frozen, hear_end, hear_cut, hear_message, is_of_other_wire, unless_hand, hear_seen, hear_from, seen_in, hear_told}
+use Rattle.c8_peer.specs.Hearing.{is_desync, unless_misfit, got, cut_or_got, hear_data, hear_welcome, hear_freeze, hear_frozen, hear_end,
+  hear_cut, hear_message, is_of_other_wire, unless_hand, hear_seen, hear_from, seen_in, hear_told}
 use Rattle.c8_peer.specs.Saying.{say, show}
 use Rattle.c8_peer.specs.Opening.{Opening, NoPlayer, Stands, NotWritten, NoMemory, NotRead, Unfit, Spent, opened}
 use Rattle.c8_peer.specs.Replies.{mode_told}
@@ -60,12 +63,14 @@ leave_plain : (k : KnownValue) (m : Memory) (leaver : ℕ) → IsPlain (leave k 
 unfolding leave
 leave_plain k m leaver =
     either IsPlain (not (k.me == 1)) _ _ (plain _ refl refl) (either IsPlain (leaver == k.me) _ _ (plain _ refl refl)
-    (either IsPlain (not (is_player k leaver)) _ _ (plain _ refl refl) (either IsPlain (player_in k leaver).leaving _ _ (plain _ refl refl) (plain _ refl refl))))
+    (either IsPlain (not (is_player k leaver)) _ _ (plain _ refl refl)
+        (either IsPlain (player_in k leaver).leaving _ _ (plain _ refl refl) (plain _ refl refl))))
 
 decide_plain : (k : KnownValue) (m : Memory) (leaver : ℕ) → IsPlain (decide k m leaver)
 unfolding decide
 decide_plain k m leaver =
-    either IsPlain (not (k.me == 1) || not (player_in k leaver).leaving) _ _ (plain _ refl refl) (either IsPlain (is_some (player_in k leaver).cut) _ _ (plain _ refl refl)
+    either IsPlain (not (k.me == 1) || not (player_in k leaver).leaving) _ _ (plain _ refl refl)
+        (either IsPlain (is_some (player_in k leaver).cut) _ _ (plain _ refl refl)
     (either IsPlain (not (is_ready m.chair k leaver)) _ _ (plain _ refl refl) (plain _ refl refl)))
 
 -- ---- deliveries
@@ -83,7 +88,8 @@ unfolding hear_data
 data_plain rules t k m q d =
     either IsPlain (is_from_leaver k q q) _ _ (plain _ refl refl) (either IsPlain (nat_lt (count_in k k.me) d.ack) _ _ (plain _ refl refl)
     (misfit_plain m (misfit k q d.start d.words) _
-    (either IsPlain (is_desync t d) _ _ (plain _ refl refl) (got_plain k (record m { acks = acked_more m.acks q d.ack }) q (fresh_words k q d.start d.words)))))
+    (either IsPlain (is_desync t d) _ _ (plain _ refl refl)
+        (got_plain k (record m { acks = acked_more m.acks q d.ack }) q (fresh_words k q d.start d.words)))))
 
 welcome_plain : (k : KnownValue) (m : Memory) (head : HeadValue) (ack : ℕ) → IsPlain (hear_welcome k m head ack)
 unfolding hear_welcome
@@ -99,7 +105,8 @@ frozen_plain : (k : KnownValue) (m : Memory) (q : ℕ) (f : LeaverMessage) → I
 unfolding hear_frozen
 frozen_plain k m q f =
     either IsPlain (not (k.me == 1)) _ _ (plain _ refl refl) (either IsPlain (f.leaver == q || not (is_player k f.leaver)) _ _ (plain _ refl refl)
-    (either IsPlain (not (player_in k f.leaver).leaving) _ _ (plain _ refl refl) (either IsPlain (is_some (player_in k f.leaver).cut) _ _ (plain _ refl refl)
+    (either IsPlain (not (player_in k f.leaver).leaving) _ _ (plain _ refl refl)
+        (either IsPlain (is_some (player_in k f.leaver).cut) _ _ (plain _ refl refl)
     (either IsPlain (nat_lt k.limit f.length) _ _ (plain _ refl refl)
     (misfit_plain m (misfit k f.leaver f.start f.words) _
     (got_plain k (record m { chair = with_report m.chair f.leaver q f.length }) f.leaver (fresh_words k f.leaver f.start f.words)))))))
@@ -120,7 +127,8 @@ cut_plain k m q c =
     (either IsPlain (not (is_player k c.leaver)) _ _ (plain _ refl refl) (either IsPlain (not (player_in k c.leaver).frozen) _ _ (plain _ refl refl)
     (end_plain k m c (player_in k c.leaver).cut))))
 
-message_plain : (rules : Rules) (t : Told) (k : KnownValue) (m : Memory) (head : HeadValue) (message : Message) → IsPlain (hear_message rules t k m head message)
+message_plain : (rules : Rules) (t : Told) (k : KnownValue) (m : Memory) (head : HeadValue) (message : Message)
+    → IsPlain (hear_message rules t k m head message)
 message_plain rules t k m head packets.Hello = plain _ refl refl
 message_plain rules t k m head (packets.Welcome ack) = welcome_plain k m head ack
 message_plain rules t k m head (packets.Data d) = data_plain rules t k m head.from d
@@ -189,21 +197,30 @@ Adds rules me journal r = (is_play r ≡ true) ⊎ IsNext rules me journal r
 a_play : (o : Outcome) (r : Record) → o.keeps ≡ Some r → IsPlain o → is_play r ≡ true
 a_play o r keeps is = ap are_plays (sym keeps) ∙ is.plays
 
-call_adds : (rules : Rules) (me room : ℕ) (journal : List Record) (m : Memory) (call : Call) (r : Record) → AreInRange rules → 1 ≤ me → me ≤ rules.players → IsJournal rules me room journal → IsMemory rules room me journal m
+call_adds : (rules : Rules) (me room : ℕ) (journal : List Record) (m : Memory) (call : Call) (r : Record) → AreInRange rules → 1 ≤ me
+    → me ≤ rules.players → IsJournal rules me room journal → IsMemory rules room me journal m
     → (outcome rules (told_of rules me journal) (known_of rules me journal) m call).keeps ≡ Some r → Adds rules me journal r
-call_adds rules me room journal m (Tick keys) r range from to is memory keeps = inl (a_play _ r keeps (tick_plain rules (known_of rules me journal) m keys))
+call_adds rules me room journal m (Tick keys) r range from to is memory keeps =
+    inl (a_play _ r keeps (tick_plain rules (known_of rules me journal) m keys))
 call_adds rules me room journal m (Deliver told) r range from to is memory keeps =
     let k : KnownValue = known_of rules me journal in
     inl (a_play _ r keeps (either IsPlain (player_in k k.me).leaving _ _ (plain _ refl refl) (told_plain rules (told_of rules me journal) k m told)))
-call_adds rules me room journal m (Say to_player what) r range from to is memory keeps = let none = sym (say_quiet rules (told_of rules me journal) (known_of rules me journal) m to_player what).keeps ∙ keeps in absurd cc
-call_adds rules me room journal m (Show watcher) r range from to is memory keeps = let none = sym (show_quiet (known_of rules me journal) m watcher).keeps ∙ keeps in absurd cc
-call_adds rules me room journal m (Leave leaver) r range from to is memory keeps = inl (a_play _ r keeps (leave_plain (known_of rules me journal) m leaver))
-call_adds rules me room journal m (Decide leaver) r range from to is memory keeps = inl (a_play _ r keeps (decide_plain (known_of rules me journal) m leaver))
-call_adds rules me room journal m Checkpoint r range from to is memory keeps = inr (adds_next rules me room journal m r range from to is memory.saving keeps).1
+call_adds rules me room journal m (Say to_player what) r range from to is memory keeps = let none =
+    sym (say_quiet rules (told_of rules me journal) (known_of rules me journal) m to_player what).keeps ∙ keeps in absurd cc
+call_adds rules me room journal m (Show watcher) r range from to is memory keeps = let none =
+    sym (show_quiet (known_of rules me journal) m watcher).keeps ∙ keeps in absurd cc
+call_adds rules me room journal m (Leave leaver) r range from to is memory keeps =
+    inl (a_play _ r keeps (leave_plain (known_of rules me journal) m leaver))
+call_adds rules me room journal m (Decide leaver) r range from to is memory keeps =
+    inl (a_play _ r keeps (decide_plain (known_of rules me journal) m leaver))
+call_adds rules me room journal m Checkpoint r range from to is memory keeps =
+    inr (adds_next rules me room journal m r range from to is memory.saving keeps).1
 
 -- a call's record does not change where the machine began
-pub keeps_begun : (rules : Rules) (me room : ℕ) (journal : List Record) (m : Memory) (call : Call) (r : Record) → AreInRange rules → 1 ≤ me → me ≤ rules.players → IsJournal rules me room journal → IsMemory rules room me journal m
-    → (outcome rules (told_of rules me journal) (known_of rules me journal) m call).keeps ≡ Some r → begun_at rules (journal ++ r ∷ []) ≡ begun_at rules journal
+pub keeps_begun : (rules : Rules) (me room : ℕ) (journal : List Record) (m : Memory) (call : Call) (r : Record) → AreInRange rules → 1 ≤ me
+    → me ≤ rules.players → IsJournal rules me room journal → IsMemory rules room me journal m
+    → (outcome rules (told_of rules me journal) (known_of rules me journal) m call).keeps ≡ Some r
+    → begun_at rules (journal ++ r ∷ []) ≡ begun_at rules journal
 keeps_begun rules me room journal m call r range from to is memory keeps =
     ⊎_elim
     (λ play. play_begins rules journal r play)
@@ -211,8 +228,10 @@ keeps_begun rules me room journal m call r range from to is memory keeps =
     (call_adds rules me room journal m call r range from to is memory keeps)
 
 -- true checkpoints stay true with a call's record
-pub keeps_true : (rules : Rules) (me room : ℕ) (journal : List Record) (m : Memory) (call : Call) (r : Record) → AreInRange rules → 1 ≤ me → me ≤ rules.players → IsJournal rules me room journal → IsMemory rules room me journal m → IsCall call
-    → HasTrueChecks rules me journal → (outcome rules (told_of rules me journal) (known_of rules me journal) m call).keeps ≡ Some r → HasTrueChecks rules me (journal ++ r ∷ [])
+pub keeps_true : (rules : Rules) (me room : ℕ) (journal : List Record) (m : Memory) (call : Call) (r : Record) → AreInRange rules → 1 ≤ me
+    → me ≤ rules.players → IsJournal rules me room journal → IsMemory rules room me journal m → IsCall call
+    → HasTrueChecks rules me journal → (outcome rules (told_of rules me journal) (known_of rules me journal) m call).keeps ≡ Some r
+    → HasTrueChecks rules me (journal ++ r ∷ [])
 keeps_true rules me room journal m call r range from to is memory fits true_checks keeps =
     let may = keeps_allowed rules me room journal m call r range from to is memory fits keeps in
     ⊎_elim
@@ -221,18 +240,22 @@ keeps_true rules me room journal m call r range from to is memory fits true_chec
     (call_adds rules me room journal m call r range from to is memory keeps)
 
 -- the memory stays in order with a call's record
-pub keeps_memory : (rules : Rules) (me room : ℕ) (journal : List Record) (m : Memory) (call : Call) (r : Record) → AreInRange rules → 1 ≤ me → me ≤ rules.players → IsJournal rules me room journal → IsMemory rules room me journal m → IsCall call
-    → (outcome rules (told_of rules me journal) (known_of rules me journal) m call).keeps ≡ Some r → IsMemory rules room me (journal ++ r ∷ []) (outcome rules (told_of rules me journal) (known_of rules me journal) m call).memory
+pub keeps_memory : (rules : Rules) (me room : ℕ) (journal : List Record) (m : Memory) (call : Call) (r : Record) → AreInRange rules → 1 ≤ me
+    → me ≤ rules.players → IsJournal rules me room journal → IsMemory rules room me journal m → IsCall call
+    → (outcome rules (told_of rules me journal) (known_of rules me journal) m call).keeps ≡ Some r
+    → IsMemory rules room me (journal ++ r ∷ []) (outcome rules (told_of rules me journal) (known_of rules me journal) m call).memory
 keeps_memory rules me room journal m call r range from to is memory fits keeps =
     let may = keeps_allowed rules me room journal m call r range from to is memory fits keeps in
-    memory_more rules room me journal r _ range from to (journal_more rules me room journal r is may) (memory_kept rules me room journal m call range from to is memory fits)
+    memory_more rules room me journal r _ range from to (journal_more rules me room journal r is may)
+        (memory_kept rules me room journal m call range from to is memory fits)
     (⊎_elim
     (λ play. saving_play rules me room journal r range from to is may play memory.saving)
     (λ next. saving_next rules me room journal r range from to is may memory.saving next)
     (call_adds rules me room journal m call r range from to is memory keeps))
 
 -- the disk never refuses a saying
-refused_tells : (rules : Rules) (t : Told) (k : KnownValue) (m : Memory) (call : Call) (r : Record) (why : DiskError) → (outcome rules t k m call).keeps ≡ Some r → Down ≡ mode_told (refused_by_disk call why)
+refused_tells : (rules : Rules) (t : Told) (k : KnownValue) (m : Memory) (call : Call) (r : Record) (why : DiskError)
+    → (outcome rules t k m call).keeps ≡ Some r → Down ≡ mode_told (refused_by_disk call why)
 refused_tells rules t k m (Tick keys) r why keeps = refl
 refused_tells rules t k m (Deliver told) r why keeps = refl
 refused_tells rules t k m (Say to what) r why keeps = absurd (let none = sym (say_quiet rules t k m to what).keeps ∙ keeps in cc)
@@ -241,22 +264,27 @@ refused_tells rules t k m (Leave leaver) r why keeps = refl
 refused_tells rules t k m (Decide leaver) r why keeps = refl
 refused_tells rules t k m Checkpoint r why keeps = refl
 
-done_tells : (rules : Rules) (t : Told) (k : KnownValue) (s : State) (call : Call) (keeps : Option Record) (on_disk : DiskOutcome) → s.mode ≡ Open → (outcome rules t k s.memory call).keeps ≡ keeps
-    → (done s call (outcome rules t k s.memory call) keeps on_disk).state.mode ≡ mode_told (done s call (outcome rules t k s.memory call) keeps on_disk).reply
+done_tells : (rules : Rules) (t : Told) (k : KnownValue) (s : State) (call : Call) (keeps : Option Record) (on_disk : DiskOutcome)
+    → s.mode ≡ Open → (outcome rules t k s.memory call).keeps ≡ keeps
+    → (done s call (outcome rules t k s.memory call) keeps on_disk).state.mode
+    ≡ mode_told (done s call (outcome rules t k s.memory call) keeps on_disk).reply
 done_tells rules t k s call None on_disk up keeps = up ∙ sym (call_plain rules t k s.memory call)
 done_tells rules t k s call (Some r) Works up keeps = up ∙ sym (call_plain rules t k s.memory call)
 done_tells rules t k s call (Some r) (Refuses why) up keeps = refused_tells rules t k s.memory call r why keeps
 
 mode_tells : (rules : Rules) (t : Told) (k : KnownValue) (s : State) (call : Call) (on_disk : DiskOutcome) (mode : Mode) → s.mode ≡ mode → mode ≡ Open
-    → (at_mode s call (outcome rules t k s.memory call) mode on_disk).state.mode ≡ mode_told (at_mode s call (outcome rules t k s.memory call) mode on_disk).reply
+    → (at_mode s call (outcome rules t k s.memory call) mode on_disk).state.mode
+    ≡ mode_told (at_mode s call (outcome rules t k s.memory call) mode on_disk).reply
 mode_tells rules t k s call on_disk Open same up = done_tells rules t k s call (outcome rules t k s.memory call).keeps on_disk same refl
 mode_tells rules t k s call on_disk Down same up = absurd cc
 mode_tells rules t k s call on_disk Away same up = absurd cc
 
-pub step_tells : (rules : Rules) (me : ℕ) (s : State) (call : Call) (on_disk : DiskOutcome) → s.mode ≡ Open → (step rules me s call on_disk).state.mode ≡ mode_told (step rules me s call on_disk).reply
+pub step_tells : (rules : Rules) (me : ℕ) (s : State) (call : Call) (on_disk : DiskOutcome) → s.mode ≡ Open
+    → (step rules me s call on_disk).state.mode ≡ mode_told (step rules me s call on_disk).reply
 step_tells rules me s call on_disk up = mode_tells rules (told_of rules me s.journal) (known_of rules me s.journal) s call on_disk s.mode refl up
 
-pub opened_tells : (rules : Rules) (room me : ℕ) (s : State) (found : List Record) (opening : Opening) → (opened rules room me s found opening).state.mode ≡ mode_told (opened rules room me s found opening).reply
+pub opened_tells : (rules : Rules) (room me : ℕ) (s : State) (found : List Record) (opening : Opening)
+    → (opened rules room me s found opening).state.mode ≡ mode_told (opened rules room me s found opening).reply
 opened_tells rules room me s found NoPlayer = refl
 opened_tells rules room me s found Stands = refl
 opened_tells rules room me s found (NotWritten why) = refl

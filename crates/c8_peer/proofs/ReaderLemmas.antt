@@ -1,5 +1,6 @@
 -- What holds for every peer between two calls, and what its readers use.
-use Rattle.std.proofs.Common.{◌≡◌, ◌⊎◌, ◌≤◌, ℕ, List, [], ◌∷◌, ◌++◌, map, option_map, Option, Some, None, Bool, true, false, refl, sym, ap, subst, ◌∙◌, inl, inr, ⊎_elim, length, arith}
+use Rattle.std.proofs.Common.{◌≡◌, ◌⊎◌, ◌≤◌, ℕ, List, [], ◌∷◌, ◌++◌, map, option_map, Option, Some, None, Bool, true, false, refl, sym, ap,
+  subst, ◌∙◌, inl, inr, ⊎_elim, length, arith}
 use Rattle.std.specs.Prelude.{option_to_list, if◌then◌else◌}
 use Rattle.std.proofs.lemmas.List.{append-nil}
 use Rattle.c8_record.specs.Allowed.{IsAllowed, IsJournal}
@@ -36,7 +37,8 @@ use Rattle.c8_peer.proofs.MemoryLemmas.{own_count}
 abbrev SpellsPending : Option (List ℕ) → Type 0
 SpellsPending pending = (body : List ℕ) → pending ≡ Some body → Spells body (record_of body)
 
-pub keeps_pending : (rules : Rules) (me room : ℕ) (bodies : List (List ℕ)) (pending : Option (List ℕ)) → AreJournalBodies rules me room bodies → SpellsPending pending
+pub keeps_pending : (rules : Rules) (me room : ℕ) (bodies : List (List ℕ)) (pending : Option (List ℕ))
+    → AreJournalBodies rules me room bodies → SpellsPending pending
     → (image : List ℕ) → KeepsBodies bodies pending image → KeepsWithOrWithout (records_of bodies) (option_map record_of pending) image
 keeps_pending rules me room bodies None are spells image keeps = inl (keeps ∙ sym (bodies_back bodies are.spelled))
 keeps_pending rules me room bodies (Some body) are spells image keeps =
@@ -59,16 +61,20 @@ up_if_open false is = refl
 
 -- a read of the disk finds a journal
 found_journal : (rules : Rules) (me room : ℕ) (journal : List Record) (pending : Option (List ℕ)) → IsJournal rules me room journal
-    → ((body : List ℕ) → pending ≡ Some body → IsAllowed rules me room journal (record_of body)) → (finds : Bool) → IsJournal rules me room (if finds then journal ++ option_to_list (option_map record_of pending) else journal)
+    → ((body : List ℕ) → pending ≡ Some body → IsAllowed rules me room journal (record_of body)) → (finds : Bool)
+    → IsJournal rules me room (if finds then journal ++ option_to_list (option_map record_of pending) else journal)
 found_journal rules me room journal pending is may false = is
 found_journal rules me room journal None is may true = rw (append-nil journal) is
 found_journal rules me room journal (Some body) is may true = journal_more rules me room journal (record_of body) is (may body refl)
 
 module _ {D : Type 0} where
-  pub peer_sound : {ran : ℕ} (g : Ghosts D) (v : PeerValue D) (rules : Rules) (room : ℕ) (j : JournalValue D) (k : KnownValue) (m : Memory) → view rules room k.me j m ran ≡ v → IsPeer rules room j k m
-      → AllKeepBodies j.bodies j.pending (g.may_leave j.disk) → (j.is_down ≡ false → j.pending ≡ None) → LeavesOnly g j.disk j.disk (KeepsBodies j.bodies j.pending) → IsSound g v
+  pub peer_sound : {ran : ℕ} (g : Ghosts D) (v : PeerValue D) (rules : Rules) (room : ℕ) (j : JournalValue D) (k : KnownValue) (m : Memory)
+      → view rules room k.me j m ran ≡ v → IsPeer rules room j k m
+      → AllKeepBodies j.bodies j.pending (g.may_leave j.disk) → (j.is_down ≡ false → j.pending ≡ None)
+      → LeavesOnly g j.disk j.disk (KeepsBodies j.bodies j.pending) → IsSound g v
   peer_sound g v rules room j k m seen is keeps up still =
-      let words : (image : List ℕ) → KeepsBodies j.bodies j.pending image → KeepsWithOrWithout (records_of j.bodies) (option_map record_of j.pending) image =
+      let words : (image : List ℕ) → KeepsBodies j.bodies j.pending image
+          → KeepsWithOrWithout (records_of j.bodies) (option_map record_of j.pending) image =
       keeps_pending rules k.me room j.bodies j.pending is.bodies is.pending in
       subst (IsSound g) seen (record {
         range = is.range;
@@ -81,11 +87,13 @@ module _ {D : Type 0} where
         held = open_or_down j.is_down;
         none_pending = λ opened. ap (option_map record_of) (up (up_if_open j.is_down opened));
         leaves = λ image left. words image (keeps image left);
-        still = weaker g j.disk j.disk (KeepsBodies j.bodies j.pending) (KeepsWithOrWithout (records_of j.bodies) (option_map record_of j.pending)) still words;
+        still = weaker g j.disk j.disk (KeepsBodies j.bodies j.pending)
+            (KeepsWithOrWithout (records_of j.bodies) (option_map record_of j.pending)) still words;
       })
 
   -- a crash inside a call that adds no record
-  pub leaves_kept : {ran : ℕ} (g : Ghosts D) (v : PeerValue D) (rules : Rules) (room : ℕ) (j : JournalValue D) (new : D) (k : KnownValue) (m : Memory) → view rules room k.me j m ran ≡ v → IsPeer rules room j k m
+  pub leaves_kept : {ran : ℕ} (g : Ghosts D) (v : PeerValue D) (rules : Rules) (room : ℕ) (j : JournalValue D) (new : D) (k : KnownValue)
+      (m : Memory) → view rules room k.me j m ran ≡ v → IsPeer rules room j k m
       → LeavesOnly g j.disk new (KeepsBodies j.bodies j.pending) → LeavesOnly g v.disk new (KeepsWithOrWithout v.state.journal v.state.pending)
   leaves_kept g v rules room j new k m seen is run =
       subst (λ (x : PeerValue D). LeavesOnly g x.disk new (KeepsWithOrWithout x.state.journal x.state.pending)) seen
@@ -95,21 +103,27 @@ module _ {D : Type 0} where
   -- ---- readers
 
   -- what the parts tell a reader, in terms of the peer's model
-  pub known_is : {ran : ℕ} (v : PeerValue D) (rules : Rules) (room : ℕ) (j : JournalValue D) (k : KnownValue) (m : Memory) → view rules room k.me j m ran ≡ v → IsPeer rules room j k m → k ≡ known_by v
+  pub known_is : {ran : ℕ} (v : PeerValue D) (rules : Rules) (room : ℕ) (j : JournalValue D) (k : KnownValue) (m : Memory)
+      → view rules room k.me j m ran ≡ v → IsPeer rules room j k m → k ≡ known_by v
   known_is v rules room j k m seen is = is.known ∙ ap known_by seen
 
-  pub players_are : {ran : ℕ} (v : PeerValue D) (rules : Rules) (room : ℕ) (j : JournalValue D) (k : KnownValue) (m : Memory) → view rules room k.me j m ran ≡ v → IsPeer rules room j k m → length k.players ≡ v.rules.players
-  players_are v rules room j k m seen is = ap (λ (known : KnownValue). length known.players) (known_is v rules room j k m seen is) ∙ players_known v.rules v.me v.state.journal
+  pub players_are : {ran : ℕ} (v : PeerValue D) (rules : Rules) (room : ℕ) (j : JournalValue D) (k : KnownValue) (m : Memory)
+      → view rules room k.me j m ran ≡ v → IsPeer rules room j k m → length k.players ≡ v.rules.players
+  players_are v rules room j k m seen is = ap (λ (known : KnownValue). length known.players) (known_is v rules room j k m seen is)
+      ∙ players_known v.rules v.me v.state.journal
 
-  pub plays_inside : {ran : ℕ} (v : PeerValue D) (rules : Rules) (room : ℕ) (j : JournalValue D) (k : KnownValue) (m : Memory) (q : ℕ) → view rules room k.me j m ran ≡ v → IsPeer rules room j k m
+  pub plays_inside : {ran : ℕ} (v : PeerValue D) (rules : Rules) (room : ℕ) (j : JournalValue D) (k : KnownValue) (m : Memory) (q : ℕ)
+      → view rules room k.me j m ran ≡ v → IsPeer rules room j k m
       → 1 ≤ q → q ≤ v.rules.players → Plays k q
   plays_inside v rules room j k m q seen is from to = record { from_one = from; in_game = omega (arith, to, players_are v rules room j k m seen is) }
 
-  pub ticks_are : {ran : ℕ} (v : PeerValue D) (rules : Rules) (room : ℕ) (j : JournalValue D) (k : KnownValue) (m : Memory) → view rules room k.me j m ran ≡ v → IsPeer rules room j k m → k.ticks ≡ ticks v.state.journal
+  pub ticks_are : {ran : ℕ} (v : PeerValue D) (rules : Rules) (room : ℕ) (j : JournalValue D) (k : KnownValue) (m : Memory)
+      → view rules room k.me j m ran ≡ v → IsPeer rules room j k m → k.ticks ≡ ticks v.state.journal
   unfolding known_of
   ticks_are v rules room j k m seen is = ap (λ (known : KnownValue). known.ticks) (known_is v rules room j k m seen is)
 
-  pub roll_is : {ran was : ℕ} {checks : ChecksValue} (v : PeerValue D) (rules : Rules) (room : ℕ) (j : JournalValue D) (k : KnownValue) (m : Memory) (roll : RollValue) → view rules room k.me j m ran ≡ v → IsPeer rules room j k m
+  pub roll_is : {ran was : ℕ} {checks : ChecksValue} (v : PeerValue D) (rules : Rules) (room : ℕ) (j : JournalValue D) (k : KnownValue)
+      (m : Memory) (roll : RollValue) → view rules room k.me j m ran ≡ v → IsPeer rules room j k m
       → IsRolled rules (records_of j.bodies) k checks roll was → roll ≡ roll_since v.rules (begun_by v) (known_by v)
   roll_is v rules room j k m roll seen is rolled =
       let same : rules ≡ v.rules = ap (λ (x : PeerValue D). x.rules) seen in
@@ -117,12 +131,14 @@ module _ {D : Type 0} where
       rolled.roll ∙ (λ i. roll_since (same i) (begun_by (seen i)) (known i))
 
   -- if the journal's checkpoints are true, the roll is that of a run from the first frame on
-  pub true_roll : (v : PeerValue D) (roll : RollValue) → roll ≡ roll_since v.rules (begun_by v) (known_by v) → HasTrueChecks v.rules v.me v.state.journal → roll ≡ roll_of v.rules (known_by v)
+  pub true_roll : (v : PeerValue D) (roll : RollValue) → roll ≡ roll_since v.rules (begun_by v) (known_by v)
+      → HasTrueChecks v.rules v.me v.state.journal → roll ≡ roll_of v.rules (known_by v)
   true_roll v roll is true_checks = is ∙ on_the_way v.rules (known_by v) (begun_by v) true_checks.begun
 
   -- ---- upper bounds
 
-  pub ticks_few : {ran : ℕ} (v : PeerValue D) (rules : Rules) (room : ℕ) (j : JournalValue D) (k : KnownValue) (m : Memory) → view rules room k.me j m ran ≡ v → IsPeer rules room j k m → k.ticks ≤ v.rules.frames
+  pub ticks_few : {ran : ℕ} (v : PeerValue D) (rules : Rules) (room : ℕ) (j : JournalValue D) (k : KnownValue) (m : Memory)
+      → view rules room k.me j m ran ≡ v → IsPeer rules room j k m → k.ticks ≤ v.rules.frames
   ticks_few v rules room j k m seen is =
       let journal : List Record = records_of j.bodies in
       let known = journal_known rules k.me room journal is.range is.from_one is.in_game is.bodies.journal in
@@ -132,24 +148,29 @@ module _ {D : Type 0} where
       let delay = game.delay in
       let limit = game.limit in
       let few : (known_of rules k.me journal).ticks ≤ rules.frames = omega (arith, own, within, delay, limit) in
-      subst (λ (x : Rules). k.ticks ≤ x.frames) (ap (λ (x : PeerValue D). x.rules) seen) (subst (λ (x : KnownValue). x.ticks ≤ rules.frames) (sym is.known) few)
+      subst (λ (x : Rules). k.ticks ≤ x.frames) (ap (λ (x : PeerValue D). x.rules) seen)
+          (subst (λ (x : KnownValue). x.ticks ≤ rules.frames) (sym is.known) few)
 
-  pub confirmed_few : {ran : ℕ} (v : PeerValue D) (rules : Rules) (room : ℕ) (j : JournalValue D) (k : KnownValue) (m : Memory) → view rules room k.me j m ran ≡ v → IsPeer rules room j k m → confirmed k ≤ v.rules.frames
+  pub confirmed_few : {ran : ℕ} (v : PeerValue D) (rules : Rules) (room : ℕ) (j : JournalValue D) (k : KnownValue) (m : Memory)
+      → view rules room k.me j m ran ≡ v → IsPeer rules room j k m → confirmed k ≤ v.rules.frames
   confirmed_few v rules room j k m seen is =
       let few = ticks_few v rules room j k m seen is in
       let ticked = (confirmed_is k).ticked in
       omega (arith, few, ticked)
 
-  pub counts_few : {ran : ℕ} (v : PeerValue D) (rules : Rules) (room : ℕ) (j : JournalValue D) (k : KnownValue) (m : Memory) (q : ℕ) → view rules room k.me j m ran ≡ v → IsPeer rules room j k m
+  pub counts_few : {ran : ℕ} (v : PeerValue D) (rules : Rules) (room : ℕ) (j : JournalValue D) (k : KnownValue) (m : Memory) (q : ℕ)
+      → view rules room k.me j m ran ≡ v → IsPeer rules room j k m
       → count_in k q ≤ limit_of v.rules
   counts_few v rules room j k m q seen is =
       let journal : List Record = records_of j.bodies in
       let within = (journal_known rules k.me room journal is.range is.from_one is.in_game is.bodies.journal).within q in
       let limit = (of_game rules k.me journal).limit in
       let few : count_in (known_of rules k.me journal) q ≤ limit_of rules = omega (arith, within, limit) in
-      subst (λ (x : Rules). count_in k q ≤ limit_of x) (ap (λ (x : PeerValue D). x.rules) seen) (subst (λ (x : KnownValue). count_in x q ≤ limit_of rules) (sym is.known) few)
+      subst (λ (x : Rules). count_in k q ≤ limit_of x) (ap (λ (x : PeerValue D). x.rules) seen)
+          (subst (λ (x : KnownValue). count_in x q ≤ limit_of rules) (sym is.known) few)
 
-  pub acks_few : {ran : ℕ} (v : PeerValue D) (rules : Rules) (room : ℕ) (j : JournalValue D) (k : KnownValue) (m : Memory) (q : ℕ) → view rules room k.me j m ran ≡ v → IsPeer rules room j k m
+  pub acks_few : {ran : ℕ} (v : PeerValue D) (rules : Rules) (room : ℕ) (j : JournalValue D) (k : KnownValue) (m : Memory) (q : ℕ)
+      → view rules room k.me j m ran ≡ v → IsPeer rules room j k m
       → acked_of m.acks q ≤ count_in (known_by v) v.me
   acks_few v rules room j k m q seen is =
       let own = own_count rules k.me (records_of j.bodies) is.from_one is.in_game in

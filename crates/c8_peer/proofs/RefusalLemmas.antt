@@ -19,10 +19,12 @@ use Rattle.c8_check.specs.Checks.{Pieces, frames_of}
 use Rattle.c8_peer.specs.Told.{Told, told_of}
 use Rattle.c8_refusals.specs.declared.error.Refused.{Refused}
 use Rattle.c8_refusals.specs.declared.error.Refused.TheVariants as refusals
-use Rattle.c8_peer.specs.State.{Memory, Mode, Open, Down, Away, State, Saying, Call, Tick, Deliver, Say, Show, Leave, Decide, Checkpoint, Reply, Delivered, Outcome, answered}
+use Rattle.c8_peer.specs.State.{Memory, Mode, Open, Down, Away, State, Saying, Call, Tick, Deliver, Say, Show, Leave, Decide, Checkpoint,
+  Reply, Delivered, Outcome, answered}
 use Rattle.c8_peer.specs.Calls.{tick, leave, decide, next_piece, checkpoint}
 use Rattle.c8_peer.specs.Saying.{say, show}
-use Rattle.c8_peer.specs.Hearing.{refused, unless_misfit, got, is_desync, hear_data, hear_welcome, hear_freeze, hear_frozen, hear_end, hear_cut, hear_message, is_of_other_wire, unless_hand, hear_seen, hear_from, seen_in, deliver}
+use Rattle.c8_peer.specs.Hearing.{refused, unless_misfit, got, is_desync, hear_data, hear_welcome, hear_freeze, hear_frozen, hear_end,
+  hear_cut, hear_message, is_of_other_wire, unless_hand, hear_seen, hear_from, seen_in, deliver}
 use Rattle.c8_peer.specs.Steps.{outcome, DiskOutcome, Works, Refuses, refused_by_disk, when_down, Stepped, done, at_mode, step, IsPlainRefusal}
 use Rattle.c8_peer.proofs.MemoryLemmas.{either, say_is, show_is}
 
@@ -57,7 +59,8 @@ unfolding tick
 tick_fits rules k m keys =
     either (OutcomeFits m) (player_in k k.me).leaving _ _ (answered_fits m _ (λ e. cc e))
     (either (OutcomeFits m) (nat_le rules.frames k.ticks) _ _ (answered_fits m _ (λ e. cc e))
-    (either (OutcomeFits m) (nat_le (confirmed k + rules.window) k.ticks) _ _ (answered_fits m _ (λ e. cc e)) (taken_fits m _ (λ none. none) (λ e. cc e))))
+    (either (OutcomeFits m) (nat_le (confirmed k + rules.window) k.ticks) _ _ (answered_fits m _ (λ e. cc e))
+        (taken_fits m _ (λ none. none) (λ e. cc e))))
 
 leave_fits : (k : KnownValue) (m : Memory) (leaver : ℕ) → OutcomeFits m (leave k m leaver)
 unfolding leave
@@ -75,8 +78,10 @@ decide_fits k m leaver =
     (either (OutcomeFits m) (not (is_ready m.chair k leaver)) _ _ (answered_fits m _ (λ e. cc e)) (taken_fits m _ (λ none. none) (λ e. cc e))))
 
 piece_fits : (t : Told) (k : KnownValue) (m : Memory) (o : Option Pieces) → OutcomeFits m (next_piece t k m o)
-piece_fits t k m None = either (OutcomeFits m) (nat_le (confirmed k) (frames_of t.checks.last)) _ _ (answered_fits m _ (λ e. cc e)) (taken_fits m _ (λ none. none) (λ e. cc e))
-piece_fits t k m (Some p) = either (OutcomeFits m) (p.count == 36) _ _ (taken_fits m _ (λ none. none) (λ e. cc e)) (taken_fits m _ (λ none. none) (λ e. cc e))
+piece_fits t k m None = either (OutcomeFits m) (nat_le (confirmed k) (frames_of t.checks.last)) _ _ (answered_fits m _ (λ e. cc e))
+    (taken_fits m _ (λ none. none) (λ e. cc e))
+piece_fits t k m (Some p) = either (OutcomeFits m) (p.count == 36) _ _ (taken_fits m _ (λ none. none) (λ e. cc e))
+    (taken_fits m _ (λ none. none) (λ e. cc e))
 
 checkpoint_fits : (t : Told) (k : KnownValue) (m : Memory) → OutcomeFits m (checkpoint t k m)
 unfolding checkpoint
@@ -97,18 +102,21 @@ data_fits rules t k m q d =
     either (OutcomeFits m) (is_from_leaver k q q) _ _ (refused_fits m _ (λ e. cc e))
     (either (OutcomeFits m) (nat_lt (count_in k k.me) d.ack) _ _ (refused_fits m _ (λ e. cc e))
     (misfit_fits m (misfit k q d.start d.words) _
-    (either (OutcomeFits m) (is_desync t d) _ _ (desync_fits m) (got_fits k m (record m { acks = acked_more m.acks q d.ack }) q (fresh_words k q d.start d.words)))))
+    (either (OutcomeFits m) (is_desync t d) _ _ (desync_fits m)
+        (got_fits k m (record m { acks = acked_more m.acks q d.ack }) q (fresh_words k q d.start d.words)))))
 
 welcome_fits : (k : KnownValue) (m : Memory) (head : HeadValue) (ack : ℕ) → OutcomeFits m (hear_welcome k m head ack)
 unfolding hear_welcome
-welcome_fits k m head ack = either (OutcomeFits m) (nat_lt (count_in k k.me) ack) _ _ (refused_fits m _ (λ e. cc e)) (taken_fits m _ (λ none. none) (λ e. cc e))
+welcome_fits k m head ack = either (OutcomeFits m) (nat_lt (count_in k k.me) ack) _ _ (refused_fits m _ (λ e. cc e))
+    (taken_fits m _ (λ none. none) (λ e. cc e))
 
 freeze_fits : (k : KnownValue) (m : Memory) (q : ℕ) (f : FreezeMessage) → OutcomeFits m (hear_freeze k m q f)
 unfolding hear_freeze
 freeze_fits k m q f =
     either (OutcomeFits m) (not (q == 1)) _ _ (refused_fits m _ (λ e. cc e))
     (either (OutcomeFits m) (f.leaver == k.me || not (is_player k f.leaver)) _ _ (refused_fits m _ (λ e. cc e))
-    (either (OutcomeFits m) (player_in k f.leaver).frozen _ _ (taken_fits m _ (λ none. none) (λ e. cc e)) (taken_fits m _ (λ none. none) (λ e. cc e))))
+    (either (OutcomeFits m) (player_in k f.leaver).frozen _ _ (taken_fits m _ (λ none. none) (λ e. cc e))
+        (taken_fits m _ (λ none. none) (λ e. cc e))))
 
 frozen_fits : (k : KnownValue) (m : Memory) (q : ℕ) (f : LeaverMessage) → OutcomeFits m (hear_frozen k m q f)
 unfolding hear_frozen
@@ -127,7 +135,8 @@ end_fits k m c None =
     let words : List ℕ = fresh_words k c.leaver c.start c.words in
     either (OutcomeFits m) (nat_lt c.length (count_in k c.leaver)) _ _ (refused_fits m _ (λ e. cc e))
     (misfit_fits m (misfit k c.leaver c.start c.words) _
-    (either (OutcomeFits m) (count_in k c.leaver + length words == c.length) _ _ (taken_fits m _ (λ none. none) (λ e. cc e)) (got_fits k m m c.leaver words)))
+    (either (OutcomeFits m) (count_in k c.leaver + length words == c.length) _ _ (taken_fits m _ (λ none. none) (λ e. cc e))
+        (got_fits k m m c.leaver words)))
 
 cut_fits : (k : KnownValue) (m : Memory) (q : ℕ) (c : LeaverMessage) → OutcomeFits m (hear_cut k m q c)
 unfolding hear_cut
@@ -137,7 +146,8 @@ cut_fits k m q c =
     (either (OutcomeFits m) (not (is_player k c.leaver)) _ _ (refused_fits m _ (λ e. cc e))
     (either (OutcomeFits m) (not (player_in k c.leaver).frozen) _ _ (refused_fits m _ (λ e. cc e)) (end_fits k m c (player_in k c.leaver).cut))))
 
-message_fits : (rules : Rules) (t : Told) (k : KnownValue) (m : Memory) (head : HeadValue) (message : Message) → OutcomeFits m (hear_message rules t k m head message)
+message_fits : (rules : Rules) (t : Told) (k : KnownValue) (m : Memory) (head : HeadValue) (message : Message)
+    → OutcomeFits m (hear_message rules t k m head message)
 message_fits rules t k m head packets.Hello = taken_fits m _ (λ none. none) (λ e. cc e)
 message_fits rules t k m head (packets.Welcome ack) = welcome_fits k m head ack
 message_fits rules t k m head (packets.Data d) = data_fits rules t k m head.from d
@@ -149,7 +159,8 @@ message_fits rules t k m head (packets.Seen ack) = refused_fits m _ (λ e. cc e)
 
 seen_fits : (k : KnownValue) (m : Memory) (head : HeadValue) (ack : ℕ) → OutcomeFits m (hear_seen k m head ack)
 unfolding hear_seen
-seen_fits k m head ack = either (OutcomeFits m) (nat_lt (confirmed k) ack) _ _ (refused_fits m _ (λ e. cc e)) (taken_fits m _ (λ none. none) (λ e. cc e))
+seen_fits k m head ack = either (OutcomeFits m) (nat_lt (confirmed k) ack) _ _ (refused_fits m _ (λ e. cc e))
+    (taken_fits m _ (λ none. none) (λ e. cc e))
 
 hand_fits : (m : Memory) (error : Option HandError) (o : Outcome) → OutcomeFits m o → OutcomeFits m (unless_hand m error o)
 hand_fits m None o fits = fits
@@ -157,13 +168,15 @@ hand_fits m (Some error) o fits = refused_fits m (refusals.Hand error) (λ e. cc
 
 from_fits : (rules : Rules) (t : Told) (k : KnownValue) (m : Memory) (p : Packet) (heard : Option ℕ) → OutcomeFits m (hear_from rules t k m p heard)
 from_fits rules t k m p (Some ack) = hand_fits m (links.refusal_of_seen m.links p.head) (hear_seen k m p.head ack) (seen_fits k m p.head ack)
-from_fits rules t k m p None = hand_fits m (links.refusal m.links p.head) (hear_message rules t k m p.head p.message) (message_fits rules t k m p.head p.message)
+from_fits rules t k m p None = hand_fits m (links.refusal m.links p.head) (hear_message rules t k m p.head p.message)
+    (message_fits rules t k m p.head p.message)
 
 deliver_fits : (rules : Rules) (t : Told) (k : KnownValue) (m : Memory) (told : Result Packet WireError) → OutcomeFits m (deliver rules t k m told)
 deliver_fits rules t k m (Ok p) =
     either (OutcomeFits m) (player_in k k.me).leaving _ _ (refused_fits m _ (λ e. cc e))
     (either (OutcomeFits m) (is_of_other_wire rules p.head) _ _ (refused_fits m _ (λ e. cc e)) (from_fits rules t k m p (seen_in p.message)))
-deliver_fits rules t k m (Err error) = either (OutcomeFits m) (player_in k k.me).leaving _ _ (refused_fits m _ (λ e. cc e)) (refused_fits m _ (λ e. cc e))
+deliver_fits rules t k m (Err error) = either (OutcomeFits m) (player_in k k.me).leaving _ _ (refused_fits m _ (λ e. cc e))
+    (refused_fits m _ (λ e. cc e))
 
 call_fits : (rules : Rules) (t : Told) (k : KnownValue) (m : Memory) (call : Call) → OutcomeFits m (outcome rules t k m call)
 call_fits rules t k m (Tick keys) = tick_fits rules k m keys
@@ -182,7 +195,8 @@ say_keeps_none rules t k m to what = say_is (λ o. o.keeps ≡ None) rules t k m
 show_keeps_none : (k : KnownValue) (m : Memory) (watcher : ℕ) → (show k m watcher).keeps ≡ None
 show_keeps_none k m watcher = show_is (λ o. o.keeps ≡ None) k m watcher (λ answer. refl)
 
-disk_is_not_plain : (rules : Rules) (t : Told) (k : KnownValue) (m : Memory) (call : Call) (r : Record) (why : DiskError) → (outcome rules t k m call).keeps ≡ Some r
+disk_is_not_plain : (rules : Rules) (t : Told) (k : KnownValue) (m : Memory) (call : Call) (r : Record) (why : DiskError)
+    → (outcome rules t k m call).keeps ≡ Some r
     → IsPlainRefusal (refused_by_disk call why) → ⊥
 disk_is_not_plain rules t k m (Tick keys) r why keeps plain = plain why refl
 disk_is_not_plain rules t k m (Deliver told) r why keeps plain = plain.1 why refl
@@ -217,7 +231,8 @@ record StepFits (s : State) (t : Stepped) : Type 0 where
   plain : IsPlainRefusal t.reply → t.state ≡ s
   desync : t.reply ≡ Delivered (Err refusals.Desync) → t.state ≡ record s { memory = record s.memory { alarm = true } }
 
-done_fits : (rules : Rules) (t : Told) (k : KnownValue) (s : State) (call : Call) (keeps : Option Record) (on_disk : DiskOutcome) → (outcome rules t k s.memory call).keeps ≡ keeps
+done_fits : (rules : Rules) (t : Told) (k : KnownValue) (s : State) (call : Call) (keeps : Option Record) (on_disk : DiskOutcome)
+    → (outcome rules t k s.memory call).keeps ≡ keeps
     → StepFits s (done s call (outcome rules t k s.memory call) keeps on_disk)
 done_fits rules t k s call None on_disk is =
     let fits = call_fits rules t k s.memory call in
@@ -236,14 +251,17 @@ done_fits rules t k s call (Some r) (Refuses why) is = record {
   desync = λ desync. absurd (disk_is_not_desync call why desync);
 }
 
-mode_fits : (rules : Rules) (t : Told) (k : KnownValue) (s : State) (call : Call) (mode : Mode) (on_disk : DiskOutcome) → StepFits s (at_mode s call (outcome rules t k s.memory call) mode on_disk)
+mode_fits : (rules : Rules) (t : Told) (k : KnownValue) (s : State) (call : Call) (mode : Mode) (on_disk : DiskOutcome)
+    → StepFits s (at_mode s call (outcome rules t k s.memory call) mode on_disk)
 mode_fits rules t k s call Open on_disk = done_fits rules t k s call (outcome rules t k s.memory call).keeps on_disk refl
 mode_fits rules t k s call Down on_disk = record { plain = λ plain. refl; desync = λ desync. absurd (down_is_not_desync call desync) }
 mode_fits rules t k s call Away on_disk = record { plain = λ plain. refl; desync = λ desync. absurd (down_is_not_desync call desync) }
 
-pub refused_stays : (rules : Rules) (me : ℕ) (s : State) (call : Call) (on_disk : DiskOutcome) → IsPlainRefusal (step rules me s call on_disk).reply → (step rules me s call on_disk).state ≡ s
+pub refused_stays : (rules : Rules) (me : ℕ) (s : State) (call : Call) (on_disk : DiskOutcome)
+    → IsPlainRefusal (step rules me s call on_disk).reply → (step rules me s call on_disk).state ≡ s
 refused_stays rules me s call on_disk = (mode_fits rules (told_of rules me s.journal) (known_of rules me s.journal) s call s.mode on_disk).plain
 
-pub desync_alarms : (rules : Rules) (me : ℕ) (s : State) (call : Call) (on_disk : DiskOutcome) → (step rules me s call on_disk).reply ≡ Delivered (Err refusals.Desync)
+pub desync_alarms : (rules : Rules) (me : ℕ) (s : State) (call : Call) (on_disk : DiskOutcome)
+    → (step rules me s call on_disk).reply ≡ Delivered (Err refusals.Desync)
     → (step rules me s call on_disk).state ≡ record s { memory = record s.memory { alarm = true } }
 desync_alarms rules me s call on_disk = (mode_fits rules (told_of rules me s.journal) (known_of rules me s.journal) s call s.mode on_disk).desync

@@ -1,5 +1,6 @@
 -- What an open peer says is true of its journal.
-use Rattle.std.proofs.Common.{◌≡◌, ◌≢◌, ℕ, zero, suc, ◌-◌, ◌/◌, ◌≤◌, List, [], ◌∷◌, ◌++◌, length, take, drop, Bool, true, false, Option, Some, None, Ok, Err, refl, sym, ap, subst, ◌∙◌, inl, inr, arith, ◌⊎◌}
+use Rattle.std.proofs.Common.{◌≡◌, ◌≢◌, ℕ, zero, suc, ◌-◌, ◌/◌, ◌≤◌, List, [], ◌∷◌, ◌++◌, length, take, drop, Bool, true, false, Option,
+  Some, None, Ok, Err, refl, sym, ap, subst, ◌∙◌, inl, inr, arith, ◌⊎◌}
 use Rattle.std.specs.Prelude.{◌*◌, ◌==◌, ◌||◌, not, nat_le, is_none, replicate, unwrap_or}
 use Rattle.std.proofs.lemmas.Bool.{cases_lt, cases_eq, ne_eqb, eqb-true, eqb-false, leb-true, not-false, or_parts, and_parts, both_ways, eq-eqb}
 use Rattle.std.proofs.lemmas.List.{length-drop, get_or_past}
@@ -9,7 +10,8 @@ use Rattle.c8_wire.specs.Carried.{fits_in}
 use Rattle.c8_wire.specs.Packet.{Packet}
 use Rattle.c8_known.specs.Journal as journals
 use Rattle.c8_known.specs.Journal.{Record, Head, Epoch, Own, Got, held, count, has_freeze}
-use Rattle.c8_known.specs.Known.{PlayerValue, KnownValue, nobody, player_in, count_in, is_frozen_of, is_frozen_in, is_player, known_of, said_of, Plays, IsKnown}
+use Rattle.c8_known.specs.Known.{PlayerValue, KnownValue, nobody, player_in, count_in, is_frozen_of, is_frozen_in, is_player, known_of,
+  said_of, Plays, IsKnown}
 use Rattle.c8_known.specs.Growth.{Begins, Stands}
 use Rattle.c8_known.specs.checked.BeginsLaws.{begins_length, begins_more, begins_take}
 use Rattle.c8_known.specs.checked.OneMore.{player_known}
@@ -25,9 +27,11 @@ use Rattle.c8_round.specs.Round.{owed, answer_from}
 use Rattle.c8_record.specs.Allowed.{IsJournal, IsOrderly}
 use Rattle.c8_record.specs.checked.JournalLaws.{of_game, journal_known}
 use Rattle.c8_record.specs.checked.LeaverLaws.{journal_orderly}
-use Rattle.c8_peer.specs.State.{Memory, Call, Tick, Deliver, Say, Show, Leave, Decide, Checkpoint, Saying, Hello, Welcome, Data, Freeze, Frozen, Cut, Said, Outcome, seen_by}
+use Rattle.c8_peer.specs.State.{Memory, Call, Tick, Deliver, Say, Show, Leave, Decide, Checkpoint, Saying, Hello, Welcome, Data, Freeze,
+  Frozen, Cut, Said, Outcome, seen_by}
 use Rattle.c8_peer.specs.Told.{Told, told_of}
-use Rattle.c8_peer.specs.Saying.{is_not_mine, lacks_record, lacks_link, run_from, newest_mark, cut_length, message, packet, say, rows_for, show_packet, show}
+use Rattle.c8_peer.specs.Saying.{is_not_mine, lacks_record, lacks_link, run_from, newest_mark, cut_length, message, packet, say, rows_for,
+  show_packet, show}
 use Rattle.c8_peer.specs.Steps.{outcome}
 use Rattle.c8_peer.specs.Truth.{IsTrueMark, IsFrozenAt, IsTrueMessage, IsTrue, CarriesMark}
 use Rattle.c8_peer.specs.TrueChecks.{HasTrueChecks}
@@ -63,7 +67,8 @@ plays_of k q is =
 abbrev Tells : Rules → Told → KnownValue → Memory → Packet → Outcome → Type 0
 Tells rules t k m p o = o.reply ≡ Said (Ok p) → IsSaid rules t k m p
 
-say_said : (rules : Rules) (t : Told) (k : KnownValue) (m : Memory) (to : ℕ) (what : Saying) (p : Packet) → Tells rules t k m p (say rules t k m to what)
+say_said : (rules : Rules) (t : Told) (k : KnownValue) (m : Memory) (to : ℕ) (what : Saying) (p : Packet)
+    → Tells rules t k m p (say rules t k m to what)
 unfolding say
 say_said rules t k m to what p =
     unless (Tells rules t k m p) (player_in k k.me).leaving _ _ (λ e. absurd cc) (λ stays.
@@ -83,7 +88,8 @@ show_said k m watcher p said =
     ]
 
 -- only a saying is answered with a packet
-pub what_is_said : (rules : Rules) (t : Told) (k : KnownValue) (m : Memory) (call : Call) (p : Packet) → (outcome rules t k m call).reply ≡ Said (Ok p) → IsSaid rules t k m p ⊎ IsShown k m call p
+pub what_is_said : (rules : Rules) (t : Told) (k : KnownValue) (m : Memory) (call : Call) (p : Packet)
+    → (outcome rules t k m call).reply ≡ Said (Ok p) → IsSaid rules t k m p ⊎ IsShown k m call p
 what_is_said rules t k m (Tick keys) p said = inl (tick_is (Tells rules t k m p) rules k m keys (λ answer keeps e. absurd cc) said)
 what_is_said rules t k m (Deliver (Err error)) p said = inl (no_packet_is (Tells rules t k m p) rules t k m error (λ answer keeps e. absurd cc) said)
 what_is_said rules t k m (Deliver (Ok came)) p said =
@@ -161,10 +167,12 @@ splits q (journals.Cut player length start words ∷ journal) is = later q (jour
 splits q (journals.State player frames piece bytes ∷ journal) is = later q (journals.State player frames piece bytes) journal (splits q journal is)
 splits q (journals.Check player frames digest ∷ journal) is = later q (journals.Check player frames digest) journal (splits q journal is)
 
-frozen_at : (rules : Rules) (q : ℕ) (journal : List Record) (n : ℕ) → has_freeze q journal ≡ true → n ≡ count rules q journal → IsFrozenAt rules q n journal
+frozen_at : (rules : Rules) (q : ℕ) (journal : List Record) (n : ℕ) → has_freeze q journal ≡ true → n ≡ count rules q journal
+    → IsFrozenAt rules q n journal
 frozen_at rules q journal n is all =
     let at = splits q journal is in
-    let longer : count rules q at.before ≤ count rules q (at.before ++ journals.Freeze q ∷ at.rest) = count_rises rules q at.before (journals.Freeze q ∷ at.rest) in
+    let longer : count rules q at.before ≤ count rules q (at.before ++ journals.Freeze q ∷ at.rest) =
+        count_rises rules q at.before (journals.Freeze q ∷ at.rest) in
     let whole : count rules q journal ≡ count rules q (at.before ++ journals.Freeze q ∷ at.rest) = ap (count rules q) at.is in
     record { before = at.before; rest = at.rest; is = at.is; few = omega (arith, longer, whole, all) }
 
@@ -173,12 +181,14 @@ frozen_at rules q journal n is all =
 pub own_player : (rules : Rules) (me : ℕ) (journal : List Record) → (known_of rules me journal).me ≡ me
 own_player rules me journal = (of_game rules me journal).player
 
-pub said_is : (rules : Rules) (me q : ℕ) (journal : List Record) → Plays (known_of rules me journal) q → player_in (known_of rules me journal) q ≡ said_of rules q journal
+pub said_is : (rules : Rules) (me q : ℕ) (journal : List Record) → Plays (known_of rules me journal) q
+    → player_in (known_of rules me journal) q ≡ said_of rules q journal
 said_is rules me q journal plays =
     let within = plays.in_game in
     player_known rules me q journal plays.from_one (omega (arith, within, players_known rules me journal))
 
-count_is : (rules : Rules) (me q : ℕ) (journal : List Record) → Plays (known_of rules me journal) q → count_in (known_of rules me journal) q ≡ count rules q journal
+count_is : (rules : Rules) (me q : ℕ) (journal : List Record) → Plays (known_of rules me journal) q
+    → count_in (known_of rules me journal) q ≡ count rules q journal
 count_is rules me q journal plays = ap (λ (p : PlayerValue). length p.held) (said_is rules me q journal plays)
 
 stands_in : {X : Type 0} (xs ys : List X) (n start : ℕ) → xs ≡ ys → start ≤ length xs → Stands start (take n (drop start xs)) ys
@@ -194,51 +204,65 @@ stands_less : (start n : ℕ) (words ys : List ℕ) → Stands start words ys �
 stands_less start n words ys stands =
     let fewer = begins_take n words in
     let within = stands.within in
-    record { within = omega (arith, within, begins_length (take n words) words fewer); is = begins_more (take n words) words (drop start ys) fewer stands.is }
+    record { within = omega (arith, within, begins_length (take n words) words fewer);
+        is = begins_more (take n words) words (drop start ys) fewer stands.is }
 
 -- ---- each kind
 
 abbrev TrueOf : Rules → ℕ → List Record → Memory → ℕ → Saying → Type 0
 TrueOf rules me journal m to what = IsTrueMessage rules me to journal (message rules (told_of rules me journal) (known_of rules me journal) m to what)
 
-welcome_true : (rules : Rules) (me : ℕ) (journal : List Record) (m : Memory) (to : ℕ) → Plays (known_of rules me journal) to → TrueOf rules me journal m to Welcome
+welcome_true : (rules : Rules) (me : ℕ) (journal : List Record) (m : Memory) (to : ℕ) → Plays (known_of rules me journal) to
+    → TrueOf rules me journal m to Welcome
 welcome_true rules me journal m to plays = omega (arith, count_is rules me to journal plays)
 
 -- the newest mark is that of the machine after the last multiple of 32 confirmed frames
 newest_is : (rules : Rules) (me : ℕ) (journal : List Record) → HasTrueChecks rules me journal
-    → newest_mark (told_of rules me journal) ≡ mark_after rules (known_of rules me journal) (mark_step * (confirmed (known_of rules me journal) / mark_step))
+    → newest_mark (told_of rules me journal) ≡ mark_after rules (known_of rules me journal)
+    (mark_step * (confirmed (known_of rules me journal) / mark_step))
 unfolding told_of
 newest_is rules me journal true_checks =
     let k : KnownValue = known_of rules me journal in
     let way = true_checks.begun in
-    ap (λ (marks : List FrameMark). unwrap_or (newest_of marks) (record { frame = 0; mark = replicate 8 0 })) (marks_on_the_way rules k (begun_at rules journal) (confirmed k) way way.confirmed_is)
+    ap (λ (marks : List FrameMark). unwrap_or (newest_of marks) (record { frame = 0; mark = replicate 8 0 }))
+        (marks_on_the_way rules k (begun_at rules journal) (confirmed k) way way.confirmed_is)
     ∙ ap (λ (newest : Option FrameMark). unwrap_or newest (record { frame = 0; mark = replicate 8 0 })) (newest_up_to rules k (confirmed k))
 
-mark_true : (rules : Rules) (me : ℕ) (journal : List Record) → HasTrueChecks rules me journal → IsTrueMark rules me journal (newest_mark (told_of rules me journal)).frame (newest_mark (told_of rules me journal)).mark
+mark_true : (rules : Rules) (me : ℕ) (journal : List Record) → HasTrueChecks rules me journal
+    → IsTrueMark rules me journal (newest_mark (told_of rules me journal)).frame (newest_mark (told_of rules me journal)).mark
 mark_true rules me journal true_checks =
     subst (λ (newest : FrameMark). IsTrueMark rules me journal newest.frame newest.mark) (sym (newest_is rules me journal true_checks))
     (record { steps = confirmed (known_of rules me journal) / mark_step; at = refl; confirmed = omega arith; is = refl })
 
-data_true : (rules : Rules) (me : ℕ) (journal : List Record) (m : Memory) (to : ℕ) → HasTrueChecks rules me journal → IsKnown (known_of rules me journal) → acked_of m.acks to ≤ count rules me journal → Plays (known_of rules me journal) to → TrueOf rules me journal m to Data
+data_true : (rules : Rules) (me : ℕ) (journal : List Record) (m : Memory) (to : ℕ) → HasTrueChecks rules me journal
+    → IsKnown (known_of rules me journal) → acked_of m.acks to ≤ count rules me journal → Plays (known_of rules me journal) to
+    → TrueOf rules me journal m to Data
 data_true rules me journal m to true_checks known acked plays =
     let k : KnownValue = known_of rules me journal in
     let own : (player_in k k.me).held ≡ held rules me journal =
-    ap (λ (p : PlayerValue). p.held) (said_is rules me k.me journal known.me) ∙ ap (λ (q : ℕ). held rules q journal) (own_player rules me journal) in (
+    ap (λ (p : PlayerValue). p.held) (said_is rules me k.me journal known.me)
+        ∙ ap (λ (q : ℕ). held rules q journal) (own_player rules me journal) in (
       omega (arith, count_is rules me to journal plays),
       stands_less (acked_of m.acks to) (fits_in rules.wire (pending_of m.acks k to)) (pending_of m.acks k to) (held rules me journal)
-          (stands_in (player_in k k.me).held (held rules me journal) longest_run (acked_of m.acks to) own (omega (arith, acked, ap (λ (xs : List ℕ). length xs) own))),
+          (stands_in (player_in k k.me).held (held rules me journal) longest_run (acked_of m.acks to) own
+              (omega (arith, acked, ap (λ (xs : List ℕ). length xs) own))),
       mark_true rules me journal true_checks,
     )
 
-leaver_of : (rules : Rules) (me q : ℕ) (journal : List Record) → IsOrderly (known_of rules me journal) → is_frozen_in (known_of rules me journal) q ≡ true → Plays (known_of rules me journal) q
+leaver_of : (rules : Rules) (me q : ℕ) (journal : List Record) → IsOrderly (known_of rules me journal)
+    → is_frozen_in (known_of rules me journal) q ≡ true → Plays (known_of rules me journal) q
 leaver_of rules me q journal orderly leaves = leaver_plays (known_of rules me journal) q (is_leaver (known_of rules me journal) q orderly leaves)
 
-run_stands : (rules : Rules) (me q start : ℕ) (journal : List Record) → Plays (known_of rules me journal) q → start ≤ count_in (known_of rules me journal) q → Stands start (run_from rules (known_of rules me journal) q start) (held rules q journal)
+run_stands : (rules : Rules) (me q start : ℕ) (journal : List Record) → Plays (known_of rules me journal) q
+    → start ≤ count_in (known_of rules me journal) q → Stands start (run_from rules (known_of rules me journal) q start) (held rules q journal)
 run_stands rules me q start journal plays from =
-    stands_in (player_in (known_of rules me journal) q).held (held rules q journal) (fits_in rules.wire (drop start (player_in (known_of rules me journal) q).held)) start (ap (λ (p : PlayerValue). p.held) (said_is rules me q journal plays)) from
+    stands_in (player_in (known_of rules me journal) q).held (held rules q journal)
+        (fits_in rules.wire (drop start (player_in (known_of rules me journal) q).held)) start
+        (ap (λ (p : PlayerValue). p.held) (said_is rules me q journal plays)) from
 
 freeze_true : (rules : Rules) (me : ℕ) (journal : List Record) (m : Memory) (to leaver : ℕ) → IsOrderly (known_of rules me journal)
-    → is_not_mine (known_of rules me journal) to (Freeze leaver) ≡ false → lacks_record (known_of rules me journal) (Freeze leaver) ≡ false → TrueOf rules me journal m to (Freeze leaver)
+    → is_not_mine (known_of rules me journal) to (Freeze leaver) ≡ false → lacks_record (known_of rules me journal) (Freeze leaver) ≡ false
+    → TrueOf rules me journal m to (Freeze leaver)
 freeze_true rules me journal m to leaver orderly mine has =
     let k : KnownValue = known_of rules me journal in
     let leaves : (player_in k leaver).leaving ≡ true = not-false (player_in k leaver).leaving has in
@@ -256,7 +280,8 @@ frozen_true rules me journal m to leaver orderly has =
     let frozen : (player_in k leaver).frozen ≡ true = not-false (player_in k leaver).frozen has in
     let plays : Plays k leaver = leaver_of rules me leaver journal orderly (frozen_or (player_in k leaver) frozen) in
     let all = count_is rules me leaver journal plays in (
-      frozen_at rules leaver journal (count_in k leaver) (sym (ap (λ (p : PlayerValue). p.frozen) (said_is rules me leaver journal plays)) ∙ frozen) all,
+      frozen_at rules leaver journal (count_in k leaver)
+          (sym (ap (λ (p : PlayerValue). p.frozen) (said_is rules me leaver journal plays)) ∙ frozen) all,
       omega (arith, all),
       run_stands rules me leaver (answer_from m.stayer k leaver) journal plays (omega arith),
     )
@@ -265,8 +290,10 @@ pub some_cut : (o : Option ℕ) → is_none o ≡ false → o ≡ Some (cut_leng
 some_cut None has = absurd cc
 some_cut (Some K) has = refl
 
-cut_true : (rules : Rules) (me : ℕ) (journal : List Record) (m : Memory) (to leaver : ℕ) → IsOrderly (known_of rules me journal) → IsKnown (known_of rules me journal)
-    → is_not_mine (known_of rules me journal) to (Cut leaver) ≡ false → lacks_record (known_of rules me journal) (Cut leaver) ≡ false → TrueOf rules me journal m to (Cut leaver)
+cut_true : (rules : Rules) (me : ℕ) (journal : List Record) (m : Memory) (to leaver : ℕ) → IsOrderly (known_of rules me journal)
+    → IsKnown (known_of rules me journal)
+    → is_not_mine (known_of rules me journal) to (Cut leaver) ≡ false → lacks_record (known_of rules me journal) (Cut leaver) ≡ false
+    → TrueOf rules me journal m to (Cut leaver)
 cut_true rules me journal m to leaver orderly known mine has =
     let k : KnownValue = known_of rules me journal in
     let cut = some_cut (player_in k leaver).cut has in
@@ -277,23 +304,32 @@ cut_true rules me journal m to leaver orderly known mine has =
       run_stands rules me leaver (owed m.chair k to leaver) journal plays (omega arith),
     )
 
-message_true : (rules : Rules) (me : ℕ) (journal : List Record) (m : Memory) (to : ℕ) (what : Saying) → (CarriesMark (message rules (told_of rules me journal) (known_of rules me journal) m to what) → HasTrueChecks rules me journal) → IsOrderly (known_of rules me journal) → IsKnown (known_of rules me journal) → acked_of m.acks to ≤ count rules me journal
-    → Plays (known_of rules me journal) to → is_not_mine (known_of rules me journal) to what ≡ false → lacks_record (known_of rules me journal) what ≡ false → TrueOf rules me journal m to what
+message_true : (rules : Rules) (me : ℕ) (journal : List Record) (m : Memory) (to : ℕ) (what : Saying)
+    → (CarriesMark (message rules (told_of rules me journal) (known_of rules me journal) m to what) → HasTrueChecks rules me journal)
+    → IsOrderly (known_of rules me journal) → IsKnown (known_of rules me journal) → acked_of m.acks to ≤ count rules me journal
+    → Plays (known_of rules me journal) to → is_not_mine (known_of rules me journal) to what ≡ false
+    → lacks_record (known_of rules me journal) what ≡ false → TrueOf rules me journal m to what
 message_true rules me journal m to Hello true_checks orderly known acked plays mine has = tt
 message_true rules me journal m to Welcome true_checks orderly known acked plays mine has = welcome_true rules me journal m to plays
-message_true rules me journal m to Data true_checks orderly known acked plays mine has = data_true rules me journal m to (true_checks tt) known acked plays
-message_true rules me journal m to (Freeze leaver) true_checks orderly known acked plays mine has = freeze_true rules me journal m to leaver orderly mine has
-message_true rules me journal m to (Frozen leaver) true_checks orderly known acked plays mine has = frozen_true rules me journal m to leaver orderly has
-message_true rules me journal m to (Cut leaver) true_checks orderly known acked plays mine has = cut_true rules me journal m to leaver orderly known mine has
+message_true rules me journal m to Data true_checks orderly known acked plays mine has =
+    data_true rules me journal m to (true_checks tt) known acked plays
+message_true rules me journal m to (Freeze leaver) true_checks orderly known acked plays mine has =
+    freeze_true rules me journal m to leaver orderly mine has
+message_true rules me journal m to (Frozen leaver) true_checks orderly known acked plays mine has =
+    frozen_true rules me journal m to leaver orderly has
+message_true rules me journal m to (Cut leaver) true_checks orderly known acked plays mine has =
+    cut_true rules me journal m to leaver orderly known mine has
 
 -- the rows that are shown are confirmed ones
-show_true : (rules : Rules) (me room : ℕ) (journal : List Record) (m : Memory) (watcher : ℕ) → (known_of rules me journal).me ≡ 1 → IsMemory rules room me journal m
+show_true : (rules : Rules) (me room : ℕ) (journal : List Record) (m : Memory) (watcher : ℕ) → (known_of rules me journal).me ≡ 1
+    → IsMemory rules room me journal m
     → IsTrueMessage rules me watcher journal (rows_for (known_of rules me journal) m watcher)
 show_true rules me room journal m watcher one is =
     let k : KnownValue = known_of rules me journal in
     let all : length (confirmed_rows k) ≡ confirmed k = length-map-range_with_len (row k) 0 (confirmed k) in
     let few = is.shown watcher in
-    (sym (own_player rules me journal) ∙ one, stands_in (confirmed_rows k) (confirmed_rows k) most_rows (seen_by m.seen watcher) refl (omega (arith, few, all)))
+    (sym (own_player rules me journal) ∙ one,
+        stands_in (confirmed_rows k) (confirmed_rows k) most_rows (seen_by m.seen watcher) refl (omega (arith, few, all)))
 
 -- ---- all of it
 
@@ -310,7 +346,9 @@ said_true rules me room journal m call p range from to journal_is is fits true_c
       | inl s ↦ subst (λ (one : Packet). IsTrue rules me journal one) (sym s.is) (record {
         from = is.player;
         epoch = is.epoch;
-        message = message_true rules me journal m s.to s.what (subst (λ (one : Packet). CarriesMark one.message → HasTrueChecks rules me journal) s.is true_checks) (journal_orderly rules me room journal journal_is) known (is.acked s.to) s.plays s.mine s.has;
+        message = message_true rules me journal m s.to s.what
+            (subst (λ (one : Packet). CarriesMark one.message → HasTrueChecks rules me journal) s.is true_checks)
+            (journal_orderly rules me room journal journal_is) known (is.acked s.to) s.plays s.mine s.has;
       })
       | inr s ↦ subst (λ (one : Packet). IsTrue rules me journal one) (sym s.is) (record {
         from = is.player;

@@ -1,5 +1,6 @@
 -- What an open peer says has a spelling.
-use Rattle.std.proofs.Common.{◌+◌, ◌≡◌, ◌≢◌, ℕ, zero, suc, ◌^◌, ◌<◌, ◌≤◌, List, [], ◌∷◌, ◌++◌, length, take, drop, replicate, get_or, Bool, true, false, Option, Some, Ok, refl, sym, ap, subst, ◌∙◌, arith, None, inl, inr}
+use Rattle.std.proofs.Common.{◌+◌, ◌≡◌, ◌≢◌, ℕ, zero, suc, ◌^◌, ◌<◌, ◌≤◌, List, [], ◌∷◌, ◌++◌, length, take, drop, replicate, get_or, Bool,
+  true, false, Option, Some, Ok, refl, sym, ap, subst, ◌∙◌, arith, None, inl, inr}
 use Rattle.std.specs.Prelude.{◌-◌, ◌==◌, slice_index, unwrap_or, if◌then◌else◌, IfSome, nat_le, map}
 use Rattle.std.specs.Int.{from_be_bytes, to_be_bytes, w64}
 use Rattle.std.specs.List.{slice_get, flat_map, range_with_len}
@@ -14,7 +15,8 @@ use Rattle.c8_game.specs.declared.wire.WireVersion.{WireVersion}
 use Rattle.c8_wire.specs.Sizes.{longest_run, most_rows}
 use Rattle.c8_wire.specs.Carried.{fits_in, carried}
 use Rattle.c8_wire.specs.checked.CarriedLaws.{carried_few, carried_room}
-use Rattle.c8_wire.specs.Packet.{Message, Packet, IsLeaverMessage, AreBytes, AreWords, IsMark, IsRun, Fits, IsMessage, IsHead, IsPacket, has_room, kind_of, IsRow, AreRows}
+use Rattle.c8_wire.specs.Packet.{Message, Packet, IsLeaverMessage, AreBytes, AreWords, IsMark, IsRun, Fits, IsMessage, IsHead, IsPacket,
+  has_room, kind_of, IsRow, AreRows}
 use Rattle.c8_hand.specs.Links.{head_to}
 use Rattle.c8_known.specs.Journal as journals
 use Rattle.c8_known.specs.Journal.{Record, Head, Epoch, Own, Got, words_of, held, count}
@@ -49,7 +51,8 @@ use Rattle.c8_peer.specs.checked.BoundLaws.{session_low, confirmed_frames}
 
 -- ---- parts of lists
 
-append_low : (xs ys : List ℕ) (bound : ℕ) → ((i : ℕ) → slice_index xs i < bound) → ((i : ℕ) → slice_index ys i < bound) → (i : ℕ) → slice_index (xs ++ ys) i < bound
+append_low : (xs ys : List ℕ) (bound : ℕ) → ((i : ℕ) → slice_index xs i < bound) → ((i : ℕ) → slice_index ys i < bound) → (i : ℕ)
+    → slice_index (xs ++ ys) i < bound
 append_low [] ys bound one two i = two i
 append_low (x ∷ xs) ys bound one two zero = one 0
 append_low (x ∷ xs) ys bound one two (suc i) = append_low xs ys bound (λ j. one (suc j)) two i
@@ -85,9 +88,11 @@ words_fit q (journals.Cut player K start words) has = words_if (player == q) wor
 words_fit q (journals.State player frames piece bytes) has = no_words
 words_fit q (journals.Check player frames digest) has = no_words
 
-all_words : (q : ℕ) (journal : List Record) → ((n : ℕ) (r : Record) → slice_get journal n ≡ Some r → HasSpelling r) → AreWords (flat_map (words_of q) journal)
+all_words : (q : ℕ) (journal : List Record) → ((n : ℕ) (r : Record) → slice_get journal n ≡ Some r → HasSpelling r)
+    → AreWords (flat_map (words_of q) journal)
 all_words q [] has = no_words
-all_words q (r ∷ journal) has = append_low (words_of q r) (flat_map (words_of q) journal) (2 ^ 16) (words_fit q r (has 0 r refl)) (all_words q journal (λ n s e. has (suc n) s e))
+all_words q (r ∷ journal) has = append_low (words_of q r) (flat_map (words_of q) journal) (2 ^ 16) (words_fit q r (has 0 r refl))
+    (all_words q journal (λ n s e. has (suc n) s e))
 
 empty_sets : (n : ℕ) → AreWords (replicate n 0)
 empty_sets zero i = omega arith
@@ -98,9 +103,11 @@ empty_sets (suc n) (suc i) = empty_sets n i
 pub held_words : (rules : Rules) (me room q : ℕ) (journal : List Record) → IsJournal rules me room journal → AreWords (held rules q journal)
 unfolding held
 held_words rules me room q journal is =
-    append_low (replicate rules.delay 0) (flat_map (words_of q) journal) (2 ^ 16) (empty_sets rules.delay) (all_words q journal (λ n r e. (is n r e).spelled))
+    append_low (replicate rules.delay 0) (flat_map (words_of q) journal) (2 ^ 16) (empty_sets rules.delay)
+        (all_words q journal (λ n r e. (is n r e).spelled))
 
-known_words : (rules : Rules) (me room q : ℕ) (journal : List Record) → IsJournal rules me room journal → Plays (known_of rules me journal) q → AreWords (player_in (known_of rules me journal) q).held
+known_words : (rules : Rules) (me room q : ℕ) (journal : List Record) → IsJournal rules me room journal
+    → Plays (known_of rules me journal) q → AreWords (player_in (known_of rules me journal) q).held
 known_words rules me room q journal is plays =
     subst AreWords (sym (ap (λ (p : PlayerValue). p.held) (said_is rules me q journal plays))) (held_words rules me room q journal is)
 
@@ -130,7 +137,8 @@ few k q known =
     omega (arith, within, limit)
 
 -- the newest mark is that of a confirmed frame
-newest_of_marks : (frames : ℕ) (marks : List FrameMark) (default : FrameMark) → AreMarksAfter frames marks → (m : FrameMark) × (unwrap_or (newest_of marks) default ≡ m) × IsMark m.mark × (m.frame ≤ frames)
+newest_of_marks : (frames : ℕ) (marks : List FrameMark) (default : FrameMark) → AreMarksAfter frames marks
+    → (m : FrameMark) × (unwrap_or (newest_of marks) default ≡ m) × IsMark m.mark × (m.frame ≤ frames)
 newest_of_marks frames marks default are =
     let last : ℕ = length marks - 1 in
     let below : last < length marks = omega (arith, are.count) in
@@ -147,10 +155,12 @@ newest_fits rules me room journal range from to is =
     let origin = begun_in_order rules me room journal range from to is in
     let starts = begun_confirmed rules me room journal range from to is in
     let marks = (origin_goes_on rules (begun_at rules journal) k (confirmed k) range origin starts).marks_are in
-    let (m, newest, fits, low) = newest_of_marks (confirmed k) (marks_since rules (begun_at rules journal) k (confirmed k)) (record { frame = 0; mark = replicate 8 0 }) marks in
+    let (m, newest, fits, low) = newest_of_marks (confirmed k) (marks_since rules (begun_at rules journal) k (confirmed k))
+        (record { frame = 0; mark = replicate 8 0 }) marks in
     subst (λ (x : FrameMark). IsMark x.mark × (x.frame ≤ confirmed k)) (sym newest) (fits, low)
 
-data_spelled : (rules : Rules) (me room : ℕ) (journal : List Record) (m : Memory) (to : ℕ) → AreInRange rules → 1 ≤ me → me ≤ rules.players → IsJournal rules me room journal → IsMemory rules room me journal m
+data_spelled : (rules : Rules) (me room : ℕ) (journal : List Record) (m : Memory) (to : ℕ) → AreInRange rules → 1 ≤ me → me ≤ rules.players
+    → IsJournal rules me room journal → IsMemory rules room me journal m
     → IsKnown (known_of rules me journal) → IsSpelled rules.wire (message rules (told_of rules me journal) (known_of rules me journal) m to Data)
 data_spelled rules me room journal m to range from within is memory known =
     let newest = newest_fits rules me room journal range from within is in
@@ -159,7 +169,8 @@ data_spelled rules me room journal m to range from within is memory known =
     let left : List ℕ = drop (acked_of m.acks to) own in
     let pending : List ℕ = take longest_run left in
     let all : count_in k k.me ≡ count rules me journal =
-    ap (λ (p : PlayerValue). length p.held) (said_is rules me k.me journal known.me) ∙ ap (λ (q : ℕ). count rules q journal) (own_player rules me journal) in
+    ap (λ (p : PlayerValue). length p.held) (said_is rules me k.me journal known.me)
+        ∙ ap (λ (q : ℕ). count rules q journal) (own_player rules me journal) in
     let acked = memory.acked to in
     let least = few k k.me known in
     let ticked = (confirmed_is k).ticked in
@@ -167,7 +178,8 @@ data_spelled rules me room journal m to range from within is memory known =
     record {
       fits = (
         newest.0,
-        carried_words rules.wire pending (take_low left longest_run (2 ^ 16) (drop_low own (acked_of m.acks to) (2 ^ 16) (known_words rules me room k.me journal is known.me))),
+        carried_words rules.wire pending (take_low left longest_run (2 ^ 16)
+            (drop_low own (acked_of m.acks to) (2 ^ 16) (known_words rules me room k.me journal is known.me))),
       );
       may = record {
         ack = few k to known;
@@ -178,11 +190,13 @@ data_spelled rules me room journal m to range from within is memory known =
       room = carried_room rules.wire pending;
     }
 
-freeze_spelled : (rules : Rules) (t : Told) (k : KnownValue) (m : Memory) (to leaver : ℕ) → IsKnown k → IsLeaver k leaver → IsSpelled rules.wire (message rules t k m to (Freeze leaver))
+freeze_spelled : (rules : Rules) (t : Told) (k : KnownValue) (m : Memory) (to leaver : ℕ) → IsKnown k → IsLeaver k leaver
+    → IsSpelled rules.wire (message rules t k m to (Freeze leaver))
 freeze_spelled rules t k m to leaver known leaves =
     let four = known.at_most_four in
     let within = leaves.in_game in
-    record { fits = tt; may = record { leaver_from_two = leaves.from_two; leaver_to_four = omega (arith, four, within); have = few k leaver known }; room = refl }
+    record { fits = tt; may = record { leaver_from_two = leaves.from_two; leaver_to_four = omega (arith, four, within);
+        have = few k leaver known }; room = refl }
 
 -- FROZEN and CUT carry inputs of a leaver from a start that is not past the length
 leaver_spelled : (rules : Rules) (k : KnownValue) (leaver : ℕ) (end start : ℕ) → IsKnown k → IsLeaver k leaver → count_in k leaver ≡ end → start ≤ end
@@ -195,49 +209,63 @@ leaver_spelled rules k leaver end start known leaves all from =
       leaver_from_two = leaves.from_two;
       leaver_to_four = omega (arith, four, within);
       length = omega (arith, all, least);
-      run = carried_is rules.wire (drop start (player_in k leaver).held) start end (left_within (player_in k leaver).held start end from (omega (arith, all)));
+      run = carried_is rules.wire (drop start (player_in k leaver).held) start end
+          (left_within (player_in k leaver).held start end from (omega (arith, all)));
     }
 
-frozen_spelled : (rules : Rules) (t : Told) (k : KnownValue) (m : Memory) (to leaver : ℕ) → IsKnown k → IsLeaver k leaver → AreWords (player_in k leaver).held → IsSpelled rules.wire (message rules t k m to (Frozen leaver))
+frozen_spelled : (rules : Rules) (t : Told) (k : KnownValue) (m : Memory) (to leaver : ℕ) → IsKnown k → IsLeaver k leaver
+    → AreWords (player_in k leaver).held → IsSpelled rules.wire (message rules t k m to (Frozen leaver))
 frozen_spelled rules t k m to leaver known leaves words = record {
-  fits = carried_words rules.wire (drop (answer_from m.stayer k leaver) (player_in k leaver).held) (drop_low (player_in k leaver).held (answer_from m.stayer k leaver) (2 ^ 16) words);
+  fits = carried_words rules.wire (drop (answer_from m.stayer k leaver) (player_in k leaver).held)
+      (drop_low (player_in k leaver).held (answer_from m.stayer k leaver) (2 ^ 16) words);
   room = carried_room rules.wire (drop (answer_from m.stayer k leaver) (player_in k leaver).held);
   may = leaver_spelled rules k leaver (count_in k leaver) (answer_from m.stayer k leaver) known leaves refl (omega arith);
 }
 
-cut_spelled : (rules : Rules) (t : Told) (k : KnownValue) (m : Memory) (to leaver : ℕ) → IsKnown k → IsLeaver k leaver → count_in k leaver ≡ cut_length (player_in k leaver).cut
+cut_spelled : (rules : Rules) (t : Told) (k : KnownValue) (m : Memory) (to leaver : ℕ) → IsKnown k → IsLeaver k leaver
+    → count_in k leaver ≡ cut_length (player_in k leaver).cut
     → AreWords (player_in k leaver).held → IsSpelled rules.wire (message rules t k m to (Cut leaver))
 cut_spelled rules t k m to leaver known leaves all words = record {
-  fits = carried_words rules.wire (drop (owed m.chair k to leaver) (player_in k leaver).held) (drop_low (player_in k leaver).held (owed m.chair k to leaver) (2 ^ 16) words);
+  fits = carried_words rules.wire (drop (owed m.chair k to leaver) (player_in k leaver).held)
+      (drop_low (player_in k leaver).held (owed m.chair k to leaver) (2 ^ 16) words);
   room = carried_room rules.wire (drop (owed m.chair k to leaver) (player_in k leaver).held);
   may = leaver_spelled rules k leaver (cut_length (player_in k leaver).cut) (owed m.chair k to leaver) known leaves all (omega (arith, all));
 }
 
-message_spelled : (rules : Rules) (me room : ℕ) (journal : List Record) (m : Memory) (to : ℕ) (what : Saying) → AreInRange rules → 1 ≤ me → me ≤ rules.players → IsJournal rules me room journal → IsMemory rules room me journal m
-    → IsOrderly (known_of rules me journal) → IsKnown (known_of rules me journal) → lacks_record (known_of rules me journal) what ≡ false → IsSpelled rules.wire (message rules (told_of rules me journal) (known_of rules me journal) m to what)
+message_spelled : (rules : Rules) (me room : ℕ) (journal : List Record) (m : Memory) (to : ℕ) (what : Saying) → AreInRange rules → 1 ≤ me
+    → me ≤ rules.players → IsJournal rules me room journal → IsMemory rules room me journal m
+    → IsOrderly (known_of rules me journal) → IsKnown (known_of rules me journal) → lacks_record (known_of rules me journal) what ≡ false
+    → IsSpelled rules.wire (message rules (told_of rules me journal) (known_of rules me journal) m to what)
 message_spelled rules me room journal m to Hello range from within is memory orderly known has = record { fits = tt; may = tt; room = refl }
-message_spelled rules me room journal m to Welcome range from within is memory orderly known has = record { fits = tt; may = few (known_of rules me journal) to known; room = refl }
-message_spelled rules me room journal m to Data range from within is memory orderly known has = data_spelled rules me room journal m to range from within is memory known
+message_spelled rules me room journal m to Welcome range from within is memory orderly known has =
+    record { fits = tt; may = few (known_of rules me journal) to known; room = refl }
+message_spelled rules me room journal m to Data range from within is memory orderly known has =
+    data_spelled rules me room journal m to range from within is memory known
 message_spelled rules me room journal m to (Freeze leaver) range from within is memory orderly known has =
     let k : KnownValue = known_of rules me journal in
-    freeze_spelled rules (told_of rules me journal) k m to leaver known (is_leaver k leaver orderly (leaving_or (player_in k leaver) (not-false (player_in k leaver).leaving has)))
+    freeze_spelled rules (told_of rules me journal) k m to leaver known
+        (is_leaver k leaver orderly (leaving_or (player_in k leaver) (not-false (player_in k leaver).leaving has)))
 message_spelled rules me room journal m to (Frozen leaver) range from within is memory orderly known has =
     let k : KnownValue = known_of rules me journal in
     let leaves = is_leaver k leaver orderly (frozen_or (player_in k leaver) (not-false (player_in k leaver).frozen has)) in
-    frozen_spelled rules (told_of rules me journal) k m to leaver known leaves (known_words rules me room leaver journal is (leaver_plays k leaver leaves))
+    frozen_spelled rules (told_of rules me journal) k m to leaver known leaves
+        (known_words rules me room leaver journal is (leaver_plays k leaver leaves))
 message_spelled rules me room journal m to (Cut leaver) range from within is memory orderly known has =
     let k : KnownValue = known_of rules me journal in
     let ends = known.cuts leaver (cut_length (player_in k leaver).cut) (some_cut (player_in k leaver).cut has) in
     let leaves = is_leaver k leaver orderly ends.leaves in
-    cut_spelled rules (told_of rules me journal) k m to leaver known leaves ends.count (known_words rules me room leaver journal is (leaver_plays k leaver leaves))
+    cut_spelled rules (told_of rules me journal) k m to leaver known leaves ends.count
+        (known_words rules me room leaver journal is (leaver_plays k leaver leaves))
 
 -- ---- the head, and all of it
 
 -- the seats of kinds from one player to another
 are_players : (from to : ℕ) → 1 ≤ from → from ≤ 4 → 1 ≤ to → to ≤ 4 → from ≢ to → are_two_players from to ≡ true
-are_players from to from_one from_four to_one to_four apart = rw (le-leb 1 from from_one, le-leb from 4 from_four, le-leb 1 to to_one, le-leb to 4 to_four, ne_eqb from to apart) refl
+are_players from to from_one from_four to_one to_four apart =
+    rw (le-leb 1 from from_one, le-leb from 4 from_four, le-leb 1 to to_one, le-leb to 4 to_four, ne_eqb from to apart) refl
 
-seats_of : (rules : Rules) (t : Told) (k : KnownValue) (m : Memory) (from to : ℕ) (what : Saying) → are_two_players from to ≡ true → are_seats (kind_of (message rules t k m to what)) from to ≡ true
+seats_of : (rules : Rules) (t : Told) (k : KnownValue) (m : Memory) (from to : ℕ) (what : Saying) → are_two_players from to ≡ true
+    → are_seats (kind_of (message rules t k m to what)) from to ≡ true
 seats_of rules t k m from to Hello are = are
 seats_of rules t k m from to Welcome are = are
 seats_of rules t k m from to Data are = are
@@ -245,7 +273,8 @@ seats_of rules t k m from to (Freeze leaver) are = are
 seats_of rules t k m from to (Frozen leaver) are = are
 seats_of rules t k m from to (Cut leaver) are = are
 
-head_of : (rules : Rules) (me room : ℕ) (journal : List Record) (m : Memory) (to : ℕ) (kind : DatagramKind) → IsMemory rules room me journal m → are_seats kind m.links.me to ≡ true → IsHead (head_to m.links to kind)
+head_of : (rules : Rules) (me room : ℕ) (journal : List Record) (m : Memory) (to : ℕ) (kind : DatagramKind)
+    → IsMemory rules room me journal m → are_seats kind m.links.me to ≡ true → IsHead (head_to m.links to kind)
 head_of rules me room journal m to kind memory seats = record {
   session = subst (λ (n : ℕ). n < 2 ^ 64) (sym memory.session) (session_low rules room);
   seats = seats;
@@ -253,21 +282,25 @@ head_of rules me room journal m to kind memory seats = record {
   addressee_epoch = memory.known_fits to;
 }
 
-head_spelled : (rules : Rules) (me room : ℕ) (journal : List Record) (m : Memory) (to : ℕ) (what : Saying) → AreInRange rules → 1 ≤ me → me ≤ rules.players → IsMemory rules room me journal m
-    → to ≢ (known_of rules me journal).me → Plays (known_of rules me journal) to → IsHead (head_to m.links to (kind_of (message rules (told_of rules me journal) (known_of rules me journal) m to what)))
+head_spelled : (rules : Rules) (me room : ℕ) (journal : List Record) (m : Memory) (to : ℕ) (what : Saying) → AreInRange rules → 1 ≤ me
+    → me ≤ rules.players → IsMemory rules room me journal m
+    → to ≢ (known_of rules me journal).me → Plays (known_of rules me journal) to
+    → IsHead (head_to m.links to (kind_of (message rules (told_of rules me journal) (known_of rules me journal) m to what)))
 head_spelled rules me room journal m to what range from within memory apart plays =
     let player = memory.player in
     let four = range.at_most_four in
     let first = plays.from_one in
     let last = plays.in_game in
     let are : are_two_players m.links.me to ≡ true =
-    are_players m.links.me to (omega (arith, player, from)) (omega (arith, player, within, four)) first (omega (arith, last, four, players_known rules me journal)) (λ same. apart (sym same ∙ player ∙ sym (own_player rules me journal))) in
+    are_players m.links.me to (omega (arith, player, from)) (omega (arith, player, within, four)) first
+        (omega (arith, last, four, players_known rules me journal)) (λ same. apart (sym same ∙ player ∙ sym (own_player rules me journal))) in
     head_of rules me room journal m to _ memory (seats_of rules (told_of rules me journal) (known_of rules me journal) m m.links.me to what are)
 
 -- ---- rows for a watcher
 
 -- a settled input is one that is held, or the empty set
-input_low : (input : Option ℕ) (past : Option ℕ) → IfSome input (λ n. n < 2 ^ 16) → IfSome past (λ n. n < 2 ^ 16) → or_empty (unless_held input past) < 2 ^ 16
+input_low : (input : Option ℕ) (past : Option ℕ) → IfSome input (λ n. n < 2 ^ 16) → IfSome past (λ n. n < 2 ^ 16)
+    → or_empty (unless_held input past) < 2 ^ 16
 input_low (Some n) past held cut = held
 input_low None (Some n) held cut = cut
 input_low None None held cut = omega arith
@@ -290,7 +323,8 @@ unfolding input_of
 set_low p frame words = input_low (slice_get p.held frame) (past_cut p.cut frame) (item_low p.held frame words) (past_low p.cut frame)
 
 -- the held inputs of any seat are key sets; a player who is not in the game has none
-seat_words : (rules : Rules) (me room q : ℕ) (journal : List Record) → IsJournal rules me room journal → 1 ≤ q → AreWords (player_in (known_of rules me journal) q).held
+seat_words : (rules : Rules) (me room q : ℕ) (journal : List Record) → IsJournal rules me room journal → 1 ≤ q
+    → AreWords (player_in (known_of rules me journal) q).held
 seat_words rules me room q journal is from =
     let k : KnownValue = known_of rules me journal in
     elim (cases_lt (length k.players) q) [
@@ -300,14 +334,16 @@ seat_words rules me room q journal is from =
       | inr within ↦ known_words rules me room q journal is (record { from_one = from; in_game = within })
     ]
 
-row_low : (rules : Rules) (me room : ℕ) (journal : List Record) → IsJournal rules me room journal → (frame place : ℕ) → set_at (row (known_of rules me journal) frame) place < 2 ^ 16
+row_low : (rules : Rules) (me room : ℕ) (journal : List Record) → IsJournal rules me room journal → (frame place : ℕ)
+    → set_at (row (known_of rules me journal) frame) place < 2 ^ 16
 row_low rules me room journal is frame zero = set_low _ frame (seat_words rules me room 1 journal is (omega arith))
 row_low rules me room journal is frame (suc zero) = set_low _ frame (seat_words rules me room 2 journal is (omega arith))
 row_low rules me room journal is frame (suc (suc zero)) = set_low _ frame (seat_words rules me room 3 journal is (omega arith))
 row_low rules me room journal is frame (suc (suc (suc zero))) = set_low _ frame (seat_words rules me room 4 journal is (omega arith))
 row_low rules me room journal is frame (suc (suc (suc (suc place)))) = omega arith
 
-rows_between : (rules : Rules) (me room : ℕ) (journal : List Record) → IsJournal rules me room journal → (from count : ℕ) → AreRows (map (row (known_of rules me journal)) (range_with_len from count))
+rows_between : (rules : Rules) (me room : ℕ) (journal : List Record) → IsJournal rules me room journal → (from count : ℕ)
+    → AreRows (map (row (known_of rules me journal)) (range_with_len from count))
 rows_between rules me room journal is from zero i = tt
 rows_between rules me room journal is from (suc count) zero = record { four = refl; sets = row_low rules me room journal is from }
 rows_between rules me room journal is from (suc count) (suc i) = rows_between rules me room journal is (from + 1) count i
@@ -323,7 +359,9 @@ rows_dropped zero rows are i = are i
 rows_dropped (suc n) [] are i = tt
 rows_dropped (suc n) (first ∷ rows) are i = rows_dropped n rows (λ j. are (suc j)) i
 
-show_spelled : (rules : Rules) (me room : ℕ) (journal : List Record) (m : Memory) (watcher : ℕ) → AreInRange rules → 1 ≤ me → me ≤ rules.players → IsJournal rules me room journal → IsMemory rules room me journal m → (known_of rules me journal).me ≡ 1 → is_watcher watcher ≡ true
+show_spelled : (rules : Rules) (me room : ℕ) (journal : List Record) (m : Memory) (watcher : ℕ) → AreInRange rules → 1 ≤ me
+    → me ≤ rules.players → IsJournal rules me room journal → IsMemory rules room me journal m → (known_of rules me journal).me ≡ 1
+    → is_watcher watcher ≡ true
     → IsPacket (show_packet (known_of rules me journal) m watcher)
 show_spelled rules me room journal m watcher range from in_game is memory one watches =
     let k : KnownValue = known_of rules me journal in
@@ -338,7 +376,8 @@ show_spelled rules me room journal m watcher range from in_game is memory one wa
       fits = rows_taken most_rows left (rows_dropped start (confirmed_rows k) (rows_between rules me room journal is 0 (confirmed k)));
       message = record {
         short = omega (arith, length-take most_rows left);
-        within = omega (arith, length-take most_rows left, length-drop start (confirmed_rows k), all, few, confirmed_frames rules me room journal range from in_game is, range.frames);
+        within = omega (arith, length-take most_rows left, length-drop start (confirmed_rows k), all, few,
+            confirmed_frames rules me room journal range from in_game is, range.frames);
       };
       room = refl;
     }
@@ -354,7 +393,8 @@ said_spelled rules me room journal m call p range from within journal_is memory 
     let known : IsKnown k = journal_known rules me room journal range from within journal_is in
     elim (what_is_said rules (told_of rules me journal) k m call p said) [
       | inl s ↦
-          let spelled = message_spelled rules me room journal m s.to s.what range from within journal_is memory (journal_orderly rules me room journal journal_is) known s.has in
+          let spelled = message_spelled rules me room journal m s.to s.what range from within journal_is memory
+              (journal_orderly rules me room journal journal_is) known s.has in
           subst IsPacket (sym s.is) (record {
             head = head_spelled rules me room journal m s.to s.what range from within memory s.apart s.plays;
             kind = refl;
@@ -362,5 +402,6 @@ said_spelled rules me room journal m call p range from within journal_is memory 
             message = spelled.may;
             room = ap (λ (v : WireVersion). has_room v (message rules (told_of rules me journal) k m s.to s.what)) memory.version ∙ spelled.room;
           })
-      | inr s ↦ subst IsPacket (sym s.is) (show_spelled rules me room journal m s.watcher range from within journal_is memory s.one (subst IsCall s.call_is fits))
+      | inr s ↦ subst IsPacket (sym s.is) (show_spelled rules me room journal m s.watcher range from within journal_is memory s.one
+      (subst IsCall s.call_is fits))
     ]

@@ -4,7 +4,8 @@ use Rattle.c8_known.specs.Journal.{Record}
 use Rattle.c8_peer.specs.State.{Memory, Reply, Outcome, answered}
 
 -- if the outcome has a record and its refusal none, the test is false
-pub failed : (test : Bool) (m : Memory) (reply : Reply) (others : Outcome) (r : Record) → (cond test (answered m reply) others).keeps ≡ Some r → (test ≡ false) × (others.keeps ≡ Some r)
+pub failed : (test : Bool) (m : Memory) (reply : Reply) (others : Outcome) (r : Record)
+    → (cond test (answered m reply) others).keeps ≡ Some r → (test ≡ false) × (others.keeps ≡ Some r)
 failed true m reply others r is = absurd cc
 failed false m reply others r is = (refl, is)
 

@@ -19,11 +19,14 @@ abbrev pub StayWithin : Type 0
 StayWithin = (rules : Rules) (me room : ℕ) (journal : List Record) → AreInRange rules → 1 ≤ me → me ≤ rules.players → IsJournal rules me room journal
     → (known_of rules me journal).ticks ≤ confirmed (known_of rules me journal) + rules.window
 
-pub is_within : StayWithin → {D : Type 0} (rules : Rules) (room : ℕ) (j : JournalValue D) (k : KnownValue) (m : Memory) → IsPeer rules room j k m → k.ticks ≤ confirmed k + rules.window
+pub is_within : StayWithin → {D : Type 0} (rules : Rules) (room : ℕ) (j : JournalValue D) (k : KnownValue) (m : Memory)
+    → IsPeer rules room j k m → k.ticks ≤ confirmed k + rules.window
 is_within law rules room j k m is =
-    subst (λ (x : KnownValue). x.ticks ≤ confirmed x + rules.window) (sym is.known) (law rules k.me room (records_of j.bodies) is.range is.from_one is.in_game is.bodies.journal)
+    subst (λ (x : KnownValue). x.ticks ≤ confirmed x + rules.window) (sym is.known)
+        (law rules k.me room (records_of j.bodies) is.range is.from_one is.in_game is.bodies.journal)
 
-pub roll_within : (rules : Rules) (from : Origin) (k : KnownValue) (v : RollValue) → v ≡ roll_since rules from k → k.ticks ≤ confirmed k + rules.window → IsWithinWindow v
+pub roll_within : (rules : Rules) (from : Origin) (k : KnownValue) (v : RollValue) → v ≡ roll_since rules from k
+    → k.ticks ≤ confirmed k + rules.window → IsWithinWindow v
 roll_within rules from k v is few =
     let ticks = roll_ticks rules from k v is in
     let sure = roll_confirmed rules from k v is in

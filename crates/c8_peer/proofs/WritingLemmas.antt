@@ -34,7 +34,8 @@ rest_from xs start to all = take_all (to - start) (drop start xs) (omega (arith,
 
 -- ---- what is said has a spelling, and is true
 
-kind_said : (rules : Rules) (t : Told) (k : KnownValue) (m : Memory) (to : ℕ) (kind : Kind) → kind_of (message rules t k m to (saying_of kind)) ≡ wire_of kind
+kind_said : (rules : Rules) (t : Told) (k : KnownValue) (m : Memory) (to : ℕ) (kind : Kind)
+    → kind_of (message rules t k m to (saying_of kind)) ≡ wire_of kind
 kind_said rules t k m to kinds.Hello = refl
 kind_said rules t k m to kinds.Welcome = refl
 kind_said rules t k m to kinds.Data = refl
@@ -43,7 +44,8 @@ kind_said rules t k m to (kinds.Frozen leaver) = refl
 kind_said rules t k m to (kinds.Cut leaver) = refl
 
 -- a header and a body that are to be written
-pub record IsWritten (rules : Rules) (t : Told) (k : KnownValue) (m : Memory) (to : ℕ) (what : Saying) (head : HeadValue) (body : Message) : Type 0 where
+pub record IsWritten (rules : Rules) (t : Told) (k : KnownValue) (m : Memory) (to : ℕ) (what : Saying) (head : HeadValue)
+    (body : Message) : Type 0 where
   pub is : ◌≡◌ {A = Packet} (record { head = head; message = body }) (packet rules t k m to what)
   pub kind : head.kind ≡ kind_of body
   pub message_is : IsMessage body
@@ -69,17 +71,21 @@ module _ {D : Type 0} where
   abbrev told_in : Rules → JournalValue D → KnownValue → Told
   told_in rules j k = told_of rules k.me (records_of j.bodies)
 
-  pub may_say : (rules : Rules) (room : ℕ) (j : JournalValue D) (k : KnownValue) (m : Memory) (to : ℕ) (kind : Kind) (head : HeadValue) (body : Message) → IsPeer rules room j k m
+  pub may_say : (rules : Rules) (room : ℕ) (j : JournalValue D) (k : KnownValue) (m : Memory) (to : ℕ) (kind : Kind) (head : HeadValue)
+      (body : Message) → IsPeer rules room j k m
       → say rules (told_in rules j k) k m to (saying_of kind) ≡ answered m (Said (Ok (packet rules (told_in rules j k) k m to (saying_of kind))))
-      → head ≡ head_to m.links to (wire_of kind) → body ≡ message rules (told_in rules j k) k m to (saying_of kind) → IsWritten rules (told_in rules j k) k m to (saying_of kind) head body
+      → head ≡ head_to m.links to (wire_of kind) → body ≡ message rules (told_in rules j k) k m to (saying_of kind)
+      → IsWritten rules (told_in rules j k) k m to (saying_of kind) head body
   may_say rules room j k m to kind head body is comes heads says =
       let what : Saying = saying_of kind in
       let t : Told = told_in rules j k in
       let same : kind_of (message rules t k m to what) ≡ wire_of kind = kind_said rules t k m to kind in
       let replies : (outcome rules t (known_of rules k.me (records_of j.bodies)) m (Say to what)).reply ≡ Said (Ok (packet rules t k m to what)) =
-      subst (λ (known : KnownValue). (outcome rules t known m (Say to what)).reply ≡ Said (Ok (packet rules t k m to what))) is.known (ap (λ (o : Outcome). o.reply) comes) in
+      subst (λ (known : KnownValue). (outcome rules t known m (Say to what)).reply ≡ Said (Ok (packet rules t k m to what))) is.known
+          (ap (λ (o : Outcome). o.reply) comes) in
       let spelled : IsPacket (packet rules t k m to what) =
-      said_spelled rules k.me room (records_of j.bodies) m (Say to what) (packet rules t k m to what) is.range is.from_one is.in_game is.bodies.journal is.memory tt replies in
+      said_spelled rules k.me room (records_of j.bodies) m (Say to what) (packet rules t k m to what) is.range is.from_one is.in_game
+          is.bodies.journal is.memory tt replies in
       record {
         is = λ i. record { head = (heads ∙ ap (head_to m.links to) (sym same)) i; message = says i };
         kind = rw (heads, says) (sym same);
@@ -87,30 +93,37 @@ module _ {D : Type 0} where
         room = rw (heads, says) spelled.room;
       }
 
-  pub is_said : {ran : ℕ} (v : PeerValue D) (rules : Rules) (room : ℕ) (j : JournalValue D) (k : KnownValue) (m : Memory) (to : ℕ) (what : Saying) (bytes : List ℕ) (p : Packet)
+  pub is_said : {ran : ℕ} (v : PeerValue D) (rules : Rules) (room : ℕ) (j : JournalValue D) (k : KnownValue) (m : Memory) (to : ℕ)
+      (what : Saying) (bytes : List ℕ) (p : Packet)
       → view rules room k.me j m ran ≡ v → IsPeer rules room j k m → v.state.mode ≡ Open
       → say rules (told_in rules j k) k m to what ≡ answered m (Said (Ok p)) → Spells bytes p → IsSaid v (Say to what) bytes
   is_said v rules room j k m to what bytes p seen is mode comes spells =
       let t : Told = told_in rules j k in
-      let here : outcome v.rules (told_by v) (known_by v) v.state.memory (Say to what) ≡ answered v.state.memory (Said (Ok p)) = outcome_seen v rules room j k m is seen (Say to what) (λ noted. answered noted (Said (Ok p))) comes in
-      let sound : (CarriesMark p.message → HasTrueChecks rules k.me (records_of j.bodies)) → IsTrue rules k.me (records_of j.bodies) p = λ true_checks.
+      let here : outcome v.rules (told_by v) (known_by v) v.state.memory (Say to what) ≡ answered v.state.memory (Said (Ok p)) =
+          outcome_seen v rules room j k m is seen (Say to what) (λ noted. answered noted (Said (Ok p))) comes in
+      let sound : (CarriesMark p.message → HasTrueChecks rules k.me (records_of j.bodies)) → IsTrue rules k.me (records_of j.bodies) p =
+          λ true_checks.
       said_true rules k.me room (records_of j.bodies) m (Say to what) p is.range is.from_one is.in_game is.bodies.journal is.memory tt true_checks
       (subst (λ (known : KnownValue). (outcome rules t known m (Say to what)).reply ≡ Said (Ok p)) is.known (ap (λ (o : Outcome). o.reply) comes)) in
       record {
         packet = p;
         spelled = spells;
         step = rw (mode, here) refl;
-        is_true = subst (λ (x : PeerValue D). (CarriesMark p.message → HasTrueChecks x.rules x.me x.state.journal) → IsTrue x.rules x.me x.state.journal p) seen sound;
+        is_true = subst (λ (x : PeerValue D). (CarriesMark p.message → HasTrueChecks x.rules x.me x.state.journal)
+            → IsTrue x.rules x.me x.state.journal p) seen sound;
       }
 
-  pub may_show : (rules : Rules) (room : ℕ) (j : JournalValue D) (k : KnownValue) (m : Memory) (watcher : ℕ) (head : HeadValue) (body : Message) → IsPeer rules room j k m → is_watcher watcher ≡ true → k.me ≡ 1
+  pub may_show : (rules : Rules) (room : ℕ) (j : JournalValue D) (k : KnownValue) (m : Memory) (watcher : ℕ) (head : HeadValue)
+      (body : Message) → IsPeer rules room j k m → is_watcher watcher ≡ true → k.me ≡ 1
       → head ≡ head_to m.links watcher wires.Show → body ≡ rows_for k m watcher → IsShowWritten k m watcher head body
   may_show rules room j k m watcher head body is watches one heads rows =
       let t : Told = told_in rules j k in
       let replies : (outcome rules t (known_of rules k.me (records_of j.bodies)) m (Show watcher)).reply ≡ Said (Ok (show_packet k m watcher)) =
-      subst (λ (known : KnownValue). (show known m watcher).reply ≡ Said (Ok (show_packet k m watcher))) is.known (ap (λ (o : Outcome). o.reply) (shows k m watcher one)) in
+      subst (λ (known : KnownValue). (show known m watcher).reply ≡ Said (Ok (show_packet k m watcher))) is.known
+          (ap (λ (o : Outcome). o.reply) (shows k m watcher one)) in
       let spelled : IsPacket (show_packet k m watcher) =
-      said_spelled rules k.me room (records_of j.bodies) m (Show watcher) (show_packet k m watcher) is.range is.from_one is.in_game is.bodies.journal is.memory watches replies in
+      said_spelled rules k.me room (records_of j.bodies) m (Show watcher) (show_packet k m watcher) is.range is.from_one is.in_game
+          is.bodies.journal is.memory watches replies in
       record {
         is = λ i. record { head = heads i; message = rows i };
         kind = rw (heads, rows) refl;
@@ -118,26 +131,33 @@ module _ {D : Type 0} where
         room = rw (heads, rows) spelled.room;
       }
 
-  pub is_shown : {ran : ℕ} (v : PeerValue D) (rules : Rules) (room : ℕ) (j : JournalValue D) (k : KnownValue) (m : Memory) (watcher : ℕ) (bytes : List ℕ) → view rules room k.me j m ran ≡ v → IsPeer rules room j k m → v.state.mode ≡ Open
+  pub is_shown : {ran : ℕ} (v : PeerValue D) (rules : Rules) (room : ℕ) (j : JournalValue D) (k : KnownValue) (m : Memory) (watcher : ℕ)
+      (bytes : List ℕ) → view rules room k.me j m ran ≡ v → IsPeer rules room j k m → v.state.mode ≡ Open
       → is_watcher watcher ≡ true → k.me ≡ 1 → Spells bytes (show_packet k m watcher) → IsSaid v (Show watcher) bytes
   is_shown v rules room j k m watcher bytes seen is mode watches one spells =
       let t : Told = told_in rules j k in
       let p : Packet = show_packet k m watcher in
       let comes = shows k m watcher one in
-      let here : outcome v.rules (told_by v) (known_by v) v.state.memory (Show watcher) ≡ answered v.state.memory (Said (Ok p)) = outcome_seen v rules room j k m is seen (Show watcher) (λ noted. answered noted (Said (Ok p))) comes in
-      let sound : (CarriesMark p.message → HasTrueChecks rules k.me (records_of j.bodies)) → IsTrue rules k.me (records_of j.bodies) p = λ true_checks.
-      said_true rules k.me room (records_of j.bodies) m (Show watcher) p is.range is.from_one is.in_game is.bodies.journal is.memory watches true_checks
+      let here : outcome v.rules (told_by v) (known_by v) v.state.memory (Show watcher) ≡ answered v.state.memory (Said (Ok p)) =
+          outcome_seen v rules room j k m is seen (Show watcher) (λ noted. answered noted (Said (Ok p))) comes in
+      let sound : (CarriesMark p.message → HasTrueChecks rules k.me (records_of j.bodies)) → IsTrue rules k.me (records_of j.bodies) p =
+          λ true_checks.
+      said_true rules k.me room (records_of j.bodies) m (Show watcher) p is.range is.from_one is.in_game is.bodies.journal is.memory watches
+          true_checks
       (subst (λ (known : KnownValue). (show known m watcher).reply ≡ Said (Ok p)) is.known (ap (λ (o : Outcome). o.reply) comes)) in
       record {
         packet = p;
         spelled = spells;
         step = rw (mode, here) refl;
-        is_true = subst (λ (x : PeerValue D). (CarriesMark p.message → HasTrueChecks x.rules x.me x.state.journal) → IsTrue x.rules x.me x.state.journal p) seen sound;
+        is_true = subst (λ (x : PeerValue D). (CarriesMark p.message → HasTrueChecks x.rules x.me x.state.journal)
+            → IsTrue x.rules x.me x.state.journal p) seen sound;
       }
 
-  pub show_refused : {ran : ℕ} (v : PeerValue D) (rules : Rules) (room : ℕ) (j : JournalValue D) (k : KnownValue) (m : Memory) (watcher : ℕ) → view rules room k.me j m ran ≡ v → IsPeer rules room j k m → v.state.mode ≡ Open
+  pub show_refused : {ran : ℕ} (v : PeerValue D) (rules : Rules) (room : ℕ) (j : JournalValue D) (k : KnownValue) (m : Memory) (watcher : ℕ)
+      → view rules room k.me j m ran ≡ v → IsPeer rules room j k m → v.state.mode ≡ Open
       → k.me ≢ 1 → IsStep v (Show watcher) (Said (Err unsayables.NotMine)) v
   show_refused v rules room j k m watcher seen is mode other =
       let here : outcome v.rules (told_by v) (known_by v) v.state.memory (Show watcher) ≡ answered v.state.memory (Said (Err unsayables.NotMine)) =
-      outcome_seen v rules room j k m is seen (Show watcher) (λ noted. answered noted (Said (Err unsayables.NotMine))) (shows_nothing k m watcher other) in
+      outcome_seen v rules room j k m is seen (Show watcher) (λ noted. answered noted (Said (Err unsayables.NotMine)))
+          (shows_nothing k m watcher other) in
       rw (mode, here) refl

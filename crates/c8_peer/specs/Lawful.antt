@@ -17,7 +17,8 @@ use Rattle.c8_peer.specs.State.{Memory, seen_by, Call, Tick, Deliver, Say, Show,
 pub record IsSaving (rules : Rules) (me : ℕ) (journal : List Record) : Type 0 where
   pub form : (checks_of journal).form ≡ 2
   pub starts : (p : Pieces) → (checks_of journal).under_way ≡ Some p → (begun_at rules journal).frames ≤ p.frames
-  pub bytes : (p : Pieces) → (checks_of journal).under_way ≡ Some p → p.bytes ≡ take (before_piece p.count) ((told_of rules me journal).saved p.frames)
+  pub bytes : (p : Pieces) → (checks_of journal).under_way ≡ Some p
+      → p.bytes ≡ take (before_piece p.count) ((told_of rules me journal).saved p.frames)
 
 -- The memory is in order. The links are those of this player in this match, with the game's wire version and an epoch
 -- that the journal has had. All epochs fit 32 bits. Nobody has acknowledged more than the own inputs, and no watcher

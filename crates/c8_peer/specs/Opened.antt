@@ -56,7 +56,8 @@ module _ {D : Type 0} (g : Ghosts D) (disk : D) where
   -- the kept bodies is open or missing, and there is no room for it.
   abbrev pub HasReadingCause : DiskError → D → Type 0
   HasReadingCause errors.Failed left = g.failures disk < g.failures left
-  HasReadingCause errors.Full left = (has_closed_gate (g.seen disk) ≡ false) × (g.capacity disk < slot_length * length bodies_found + 1) × (g.failures left ≡ g.failures disk)
+  HasReadingCause errors.Full left = (has_closed_gate (g.seen disk) ≡ false) × (g.capacity disk < slot_length * length bodies_found + 1)
+      × (g.failures left ≡ g.failures disk)
 
   -- Why the disk refuses the opening's record. Failed: it has room, and a call failed. Full: it has no room for the
   -- record and the gate after it, and no call failed.
@@ -143,4 +144,5 @@ module _ {D : Type 0} (g : Ghosts D) (disk : D) (rules : Rules) (room me : ℕ) 
   -- epoch may begin in what was found, an image that keeps that and the opening's record.
   abbrev pub OpeningLeaves : List ℕ → Type 0
   OpeningLeaves image =
-      KeepsOneOf (g.may_leave disk) image ⊎ (MayBegin rules room me (bodies_found g disk) × (kept image ≡ bodies_found g disk ++ opening_body rules room me (bodies_found g disk) ∷ []))
+      KeepsOneOf (g.may_leave disk) image ⊎ (MayBegin rules room me (bodies_found g disk)
+          × (kept image ≡ bodies_found g disk ++ opening_body rules room me (bodies_found g disk) ∷ []))

@@ -68,7 +68,8 @@ opened rules room me s found Stands = record {
     memory = fresh_memory rules room me (epoch (found ++ opening_record rules room me found ∷ []));
   };
 }
-opened rules room me s found (NotWritten why) = record { reply = Opened (Err (opens.Disk why)); state = away s found (Some (opening_record rules room me found)) }
+opened rules room me s found (NotWritten why) =
+    record { reply = Opened (Err (opens.Disk why)); state = away s found (Some (opening_record rules room me found)) }
 opened rules room me s found NoPlayer = record { reply = Opened (Err opens.WrongPlayer); state = away s s.journal s.pending }
 opened rules room me s found NoMemory = record { reply = Opened (Err opens.Memory); state = away s s.journal s.pending }
 opened rules room me s found (NotRead why) = record { reply = Opened (Err (opens.Disk why)); state = away s s.journal s.pending }

@@ -1,5 +1,6 @@
 -- A peer as its callers see it, the contract that its calls share, and what a crash may leave.
-use Rattle.std.specs.Prelude.{◌≡◌, ◌⊎◌, ℕ, ◌+◌, ◌*◌, ◌^◌, ◌<◌, ◌≤◌, List, length, ◌++◌, map, Bool, Option, Some, None, Result, Ok, Err, option_map, option_to_list, if◌then◌else◌}
+use Rattle.std.specs.Prelude.{◌≡◌, ◌⊎◌, ℕ, ◌+◌, ◌*◌, ◌^◌, ◌<◌, ◌≤◌, List, length, ◌++◌, map, Bool, Option, Some, None, Result, Ok, Err,
+  option_map, option_to_list, if◌then◌else◌}
 use Rattle.c8_game.specs.Rules.{Rules, AreInRange}
 use Rattle.c8_disk.specs.declared.disk.Disk.{Ghosts}
 use Rattle.c8_disk.specs.declared.error.DiskError.{DiskError}
@@ -26,7 +27,8 @@ use Rattle.c8_refusals.specs.declared.error.DecideError.TheVariants as decides
 use Rattle.c8_refusals.specs.declared.error.CheckError.{CheckError}
 use Rattle.c8_refusals.specs.declared.error.CheckError.TheVariants as checks
 use Rattle.c8_peer.specs.declared.check.Check.{Check}
-use Rattle.c8_peer.specs.State.{Memory, Mode, Open, Down, Away, State, Call, Tick, Deliver, Say, Show, Leave, Decide, Checkpoint, Reply, Opened, Ticked, Delivered, Said, Left, Decided, Checked}
+use Rattle.c8_peer.specs.State.{Memory, Mode, Open, Down, Away, State, Call, Tick, Deliver, Say, Show, Leave, Decide, Checkpoint, Reply,
+  Opened, Ticked, Delivered, Said, Left, Decided, Checked}
 use Rattle.c8_wire.specs.Packet.{Packet}
 use Rattle.c8_wire.specs.Spelling.{Spells}
 use Rattle.c8_peer.specs.Truth.{IsTrue, CarriesMark}
@@ -180,7 +182,8 @@ IsLastRun (Some r) (Refuses why) most before now was is = is ≡ was
 IsLastRun None on_disk most before now was is = is ≡ was
 
 abbrev pub TellsFrames : {D : Type 0} → PeerValue D → Call → Reply → PeerValue D → Type 0
-TellsFrames old call reply new = IsLastRun (added old call) (disk_outcome_of reply) (most_run old.rules call) (known_by old) (known_by new) old.last_run new.last_run
+TellsFrames old call reply new = IsLastRun (added old call) (disk_outcome_of reply) (most_run old.rules call) (known_by old) (known_by new)
+    old.last_run new.last_run
 
 -- the image keeps exactly these records
 abbrev pub Keeps : List Record → List ℕ → Type 0
@@ -207,7 +210,8 @@ LeavesJournal {D} disk p = (image : List ℕ) → disk.may_leave p.disk image �
 -- Why the disk refuses a record. Failed: it has room for one more slot and the gate after it, and it failed in the
 -- call. Full: it has no room, and was not called.
 abbrev pub HasAppendCause : {D : Type 0} → Ghosts D → PeerValue D → PeerValue D → DiskError → Type 0
-HasAppendCause disk old new errors.Failed = (slot_length * (length old.state.journal + 1) + 1 ≤ disk.capacity old.disk) × (disk.failures old.disk < disk.failures new.disk)
+HasAppendCause disk old new errors.Failed =
+    (slot_length * (length old.state.journal + 1) + 1 ≤ disk.capacity old.disk) × (disk.failures old.disk < disk.failures new.disk)
 HasAppendCause disk old new errors.Full = (disk.capacity old.disk < slot_length * (length old.state.journal + 1) + 1) × (new.disk ≡ old.disk)
 
 -- the disk's answer to a record
@@ -231,11 +235,13 @@ disk_answer (Refuses why) = Err why
 pub record IsAnswered {D : Type 0} (disk : Ghosts D) (old : PeerValue D) (call : Call) (reply : Reply) (new : PeerValue D) : Type 0 where
   pub step : IsStep old call reply new
   pub cause : (why : DiskError) → disk_outcome_of reply ≡ Refuses why → HasAppendCause disk old new why
-  pub full : (r : Record) → added old call ≡ Some r → disk.capacity old.disk < slot_length * (length old.state.journal + 1) + 1 → disk_outcome_of reply ≡ Refuses errors.Full
+  pub full : (r : Record) → added old call ≡ Some r → disk.capacity old.disk < slot_length * (length old.state.journal + 1) + 1
+      → disk_outcome_of reply ≡ Refuses errors.Full
   pub any_moment : LeavesOnly disk old.disk new.disk (MayLeave old call)
   pub journal : LeavesJournal disk new
   pub asks : (r : Record) → added old call ≡ Some r
-      → Asks disk (AppendWithin (disk.capacity old.disk) (length old.state.journal) (body_of r)) (disk_answer (disk_outcome_of reply)) old.disk new.disk
+      → Asks disk (AppendWithin (disk.capacity old.disk) (length old.state.journal) (body_of r)) (disk_answer (disk_outcome_of reply))
+      old.disk new.disk
   pub untouched : added old call ≡ None → new.disk ≡ old.disk
   pub changes : disk.changes new.disk ≤ disk.changes old.disk + 4
   pub ran : TellsFrames old call reply new

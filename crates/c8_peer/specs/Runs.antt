@@ -26,7 +26,8 @@ never_opened = record {
   pending = None;
   mode = Away;
   memory = record {
-    links = record { me = 0; players = 0; version = versions.One; session = 0; epoch = 0; one = no_link; two = no_link; three = no_link; four = no_link };
+    links = record { me = 0; players = 0; version = versions.One; session = 0; epoch = 0; one = no_link; two = no_link; three = no_link;
+        four = no_link };
     acks = first_window 0;
     chair = no_reports;
     stayer = no_haves;
@@ -69,7 +70,8 @@ after rules room me s (Does call on_disk) = as_answered (step rules me s call on
 after rules room me s (Opens finds opening) = as_answered (opened rules room me s (found s finds) opening)
 after rules room me s Closes = record { answer = None; state = away s s.journal s.pending }
 after rules room me s (Stops call on_disk leaves) = record { answer = None; state = crashed (step rules me s call on_disk).state leaves }
-after rules room me s (StopsOpening finds opening leaves) = record { answer = None; state = crashed (opened rules room me s (found s finds) opening).state leaves }
+after rules room me s (StopsOpening finds opening leaves) =
+    record { answer = None; state = crashed (opened rules room me s (found s finds) opening).state leaves }
 
 -- only a peer that is down or away is opened, and the opening ends in a possible way
 abbrev pub MayOpen : Rules → ℕ → ℕ → State → Bool → Opening → Type 0

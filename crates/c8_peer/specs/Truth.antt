@@ -34,7 +34,8 @@ IsTrueMessage rules me to journal (packets.Data d) =
 IsTrueMessage rules me to journal (packets.Freeze f) = (me ≡ 1) × (has_leave f.leaver journal ≡ true) × (f.have ≤ count rules f.leaver journal)
 IsTrueMessage rules me to journal (packets.Frozen f) =
     IsFrozenAt rules f.leaver f.length journal × (f.length ≤ count rules f.leaver journal) × Stands f.start f.words (held rules f.leaver journal)
-IsTrueMessage rules me to journal (packets.Cut c) = (me ≡ 1) × (cut_of c.leaver journal ≡ Some c.length) × Stands c.start c.words (held rules c.leaver journal)
+IsTrueMessage rules me to journal (packets.Cut c) =
+    (me ≡ 1) × (cut_of c.leaver journal ≡ Some c.length) × Stands c.start c.words (held rules c.leaver journal)
 IsTrueMessage rules me to journal (packets.Show m) = (me ≡ 1) × Stands m.start m.rows (confirmed_rows (known_of rules me journal))
 IsTrueMessage rules me to journal (packets.Seen ack) = ⊥
 

@@ -15,16 +15,22 @@ use Rattle.c8_play.specs.Frames.{IsFrame, HasWaited, AreFrames}
 use Rattle.c8_play.proofs.DeskLemmas.{same_chain}
 
 module _ {D W C : Type 0} (disk : DiskGhosts D) (wire : WireGhosts W) (console : ConsoleGhosts C) where
-  pub frames_more : (window patience n : ℕ) (p played ready q : PeerValue D) (before between due after : W) (old rested awake new : Desk C) (led so_far leads : ℕ)
-      → AreFrames disk wire console window patience n p played before between old rested led so_far → HasWaited disk wire console played ready between due rested awake
-      → IsFrame disk wire console window patience ready q due after awake new so_far leads → AreFrames disk wire console window patience (n + 1) p q before after old new led leads
+  pub frames_more : (window patience n : ℕ) (p played ready q : PeerValue D) (before between due after : W) (old rested awake new : Desk C)
+      (led so_far leads : ℕ)
+      → AreFrames disk wire console window patience n p played before between old rested led so_far
+      → HasWaited disk wire console played ready between due rested awake
+      → IsFrame disk wire console window patience ready q due after awake new so_far leads
+      → AreFrames disk wire console window patience (n + 1) p q before after old new led leads
   frames_more window patience n p played ready q before between due after old rested awake new led so_far leads frames waited frame =
       let more : suc n ≡ n + 1 = omega arith in
-      subst (λ (m : ℕ). AreFrames disk wire console window patience m p q before after old new led leads) more (played, ready, between, due, rested, awake, so_far, frames, waited, frame)
+      subst (λ (m : ℕ). AreFrames disk wire console window patience m p q before after old new led leads) more
+          (played, ready, between, due, rested, awake, so_far, frames, waited, frame)
 
   -- a frame of the same window and patience
-  pub led_with : (p q : PeerValue D) (before after : W) (old new : Desk C) (led leads window patience same_window same_patience : ℕ) → window ≡ same_window → patience ≡ same_patience
-      → IsFrame disk wire console window patience p q before after old new led leads → IsFrame disk wire console same_window same_patience p q before after old new led leads
+  pub led_with : (p q : PeerValue D) (before after : W) (old new : Desk C) (led leads window patience same_window same_patience : ℕ)
+      → window ≡ same_window → patience ≡ same_patience
+      → IsFrame disk wire console window patience p q before after old new led leads
+      → IsFrame disk wire console same_window same_patience p q before after old new led leads
   led_with p q before after old new led leads window patience same_window same_patience one two frame =
       subst (λ (w : ℕ). IsFrame disk wire console w same_patience p q before after old new led leads) one
       (subst (λ (n : ℕ). IsFrame disk wire console window n p q before after old new led leads) two frame)
@@ -34,8 +40,10 @@ module _ {D W C : Type 0} (disk : DiskGhosts D) (wire : WireGhosts W) (console :
   HearingsJoin = (most more : ℕ) (first middle last : PeerValue D) (before between after : W) → HasHeard disk wire most first middle before between
       → HasHeard disk wire more middle last between after → HasHeard disk wire (most + more) first last before after
 
-  pub waited_more : HearingsJoin → (more : ℕ) (first middle last : PeerValue D) (before between after : W) (old rested new : Desk C) → HasWaited disk wire console first middle before between old rested
-      → IsSameDesk console rested new → HasHeard disk wire more middle last between after → HasWaited disk wire console first last before after old new
+  pub waited_more : HearingsJoin → (more : ℕ) (first middle last : PeerValue D) (before between after : W) (old rested new : Desk C)
+      → HasWaited disk wire console first middle before between old rested
+      → IsSameDesk console rested new → HasHeard disk wire more middle last between after
+      → HasWaited disk wire console first last before after old new
   waited_more join more first middle last before between after old rested new waited same heard = record {
     packets = waited.packets + more;
     heard = join waited.packets more first middle last before between after waited.heard heard;
@@ -47,8 +55,10 @@ module _ {D W C : Type 0} (disk : DiskGhosts D) (wire : WireGhosts W) (console :
   none_taken true p q before after handed = absurd handed.ticked
   none_taken false p q before after handed = refl
 
-pub alone_more : {C : Type 0} (console : ConsoleGhosts C) (rules : Rules) (n : ℕ) (before : List Row) (row : Row) (old rested ready new : Desk C) → AreFramesAlone console rules n before old rested
-    → IsSameDesk console rested ready → IsFrameAlone console rules before row ready new → AreFramesAlone console rules (n + 1) (before ++ row ∷ []) old new
+pub alone_more : {C : Type 0} (console : ConsoleGhosts C) (rules : Rules) (n : ℕ) (before : List Row) (row : Row)
+    (old rested ready new : Desk C) → AreFramesAlone console rules n before old rested
+    → IsSameDesk console rested ready → IsFrameAlone console rules before row ready new
+    → AreFramesAlone console rules (n + 1) (before ++ row ∷ []) old new
 alone_more console rules n before row old rested ready new frames same frame =
     let more : suc n ≡ n + 1 = omega arith in
     subst (λ (m : ℕ). AreFramesAlone console rules m (before ++ row ∷ []) old new) more (before, row, rested, ready, refl, frames, same, frame)

@@ -1,5 +1,6 @@
 -- How the bytes of a keyboard join.
-use Rattle.std.proofs.Common.{◌≡◌, ◌<◌, ◌+◌, ℕ, suc, length, take, get_or, arith, List, [], ◌∷◌, ◌++◌, Option, Some, None, refl, ap, sym, ◌∙◌, append_assoc}
+use Rattle.std.proofs.Common.{◌≡◌, ◌<◌, ◌+◌, ℕ, suc, length, take, get_or, arith, List, [], ◌∷◌, ◌++◌, Option, Some, None, refl, ap, sym,
+  ◌∙◌, append_assoc}
 use Rattle.std.proofs.Math.Seq.{take-suc}
 use Rattle.c8_terminal.specs.declared.signal.Signal.{Signal}
 use Rattle.c8_terminal.specs.Decoding.{Decoding, step, pause}
@@ -22,9 +23,11 @@ with_told-append (Some signal) xs ys = refl
 pub told-append : (xs ys : List ℕ) (d : Decoding) → told_by (xs ++ ys) d ≡ told_by xs d ++ told_by ys (read_after xs d)
 told-append [] ys d = refl
 told-append (x ∷ xs) ys d =
-    ap (with_told (step x d).told) (told-append xs ys (step x d).next) ∙ with_told-append (step x d).told (told_by xs (step x d).next) (told_by ys (read_after xs (step x d).next))
+    ap (with_told (step x d).told) (told-append xs ys (step x d).next)
+        ∙ with_told-append (step x d).told (told_by xs (step x d).next) (told_by ys (read_after xs (step x d).next))
 
-pub signals-append : (hold : ℕ) (xs ys : List Signal) (key : ℕ) (p : Press) → after_signals hold (xs ++ ys) key p ≡ after_signals hold ys key (after_signals hold xs key p)
+pub signals-append : (hold : ℕ) (xs ys : List Signal) (key : ℕ) (p : Press)
+    → after_signals hold (xs ++ ys) key p ≡ after_signals hold ys key (after_signals hold xs key p)
 signals-append hold [] ys key p = refl
 signals-append hold (signal ∷ xs) ys key p = signals-append hold xs ys key (noted hold signal key p)
 
@@ -45,7 +48,8 @@ come_joined xs ys t u v one two = record {
 }
 
 -- nothing came, and a pause ended the sequence that was being read
-pub paused_after : (t u v : Typing) → u ≡ t → v.typed ≡ u.typed → v.read ≡ (pause u.read).next → v.hold ≡ u.hold → ((key : ℕ) → v.press key ≡ u.press key) → HasPaused t v
+pub paused_after : (t u v : Typing) → u ≡ t → v.typed ≡ u.typed → v.read ≡ (pause u.read).next → v.hold ≡ u.hold
+    → ((key : ℕ) → v.press key ≡ u.press key) → HasPaused t v
 paused_after t u v same typed read hold press = record {
   typed = typed ∙ ap (λ (x : Typing). x.typed) same;
   read = read ∙ ap (λ (x : Typing). (pause x.read).next) same;

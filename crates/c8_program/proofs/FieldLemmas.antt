@@ -1,5 +1,6 @@
 -- The lines of the fields, and the game that they give.
-use Rattle.std.proofs.Common.{◌≡◌, ℕ, ◌+◌, ◌^◌, ◌<◌, ◌≤◌, Bool, true, false, cond, List, [], ◌∷◌, ◌++◌, get_or, take, refl, ap, sym, ◌∙◌, inl, inr, arith, add-one, append_assoc}
+use Rattle.std.proofs.Common.{◌≡◌, ℕ, ◌+◌, ◌^◌, ◌<◌, ◌≤◌, Bool, true, false, cond, List, [], ◌∷◌, ◌++◌, get_or, take, refl, ap, sym, ◌∙◌,
+  inl, inr, arith, add-one, append_assoc}
 use Rattle.std.specs.Prelude.{nat_le, flat_map, slice_index, if◌then◌else◌}
 use Rattle.std.specs.List.{list_all}
 use Rattle.std.proofs.lemmas.Bool.{cases_Bool, lt-leb, le-leb}
@@ -46,7 +47,8 @@ within_limit Mask2 number lies = omega arith
 within_limit Mask3 number lies = omega arith
 within_limit Mask4 number lies = omega arith
 
-line_says : (field : Field) (number : ℕ) → IsWithin field number → IsBlock (line_text (word_of field) (value_text field number)) (Number field number ∷ [])
+line_says : (field : Field) (number : ℕ) → IsWithin field number
+    → IsBlock (line_text (word_of field) (value_text field number)) (Number field number ∷ [])
 line_says field number lies =
     let fine = value_fine (is_mask field) number (within_limit field number lies) in
     block_line (word_of field) (value_text field number) (Number field number)
@@ -60,14 +62,17 @@ field_says rules field lies =
       | inr absent ↦ rw absent block_none
     ]
 
-pub fields_say : (rules : Rules) (some : List Field) → ((field : Field) → IsWithin field (rule_of field rules)) → IsBlock (flat_map (field_text rules) some) (flat_map (field_items rules) some)
+pub fields_say : (rules : Rules) (some : List Field) → ((field : Field) → IsWithin field (rule_of field rules))
+    → IsBlock (flat_map (field_text rules) some) (flat_map (field_items rules) some)
 fields_say rules [] each = block_none
-fields_say rules (field ∷ more) each = block_both (field_text rules field) (flat_map (field_text rules) more) (field_items rules field) (flat_map (field_items rules) more) (field_says rules field (each field)) (fields_say rules more each)
+fields_say rules (field ∷ more) each = block_both (field_text rules field) (flat_map (field_text rules) more) (field_items rules field)
+    (flat_map (field_items rules) more) (field_says rules field (each field)) (fields_say rules more each)
 
 -- ---- each field of the game has its number once, and the others none
 
 abbrev front : Rules → List Item → List Item
-front rules more = Number Players rules.players ∷ Number Ipf rules.ipf ∷ Number Frames rules.frames ∷ Number Delay rules.delay ∷ Number Window rules.window ∷ Number Seed rules.seed ∷ Number Wire (version_number rules.wire) ∷ more
+front rules more = Number Players rules.players ∷ Number Ipf rules.ipf ∷ Number Frames rules.frames ∷ Number Delay rules.delay ∷ Number
+    Window rules.window ∷ Number Seed rules.seed ∷ Number Wire (version_number rules.wire) ∷ more
 
 abbrev fourth : Rules → Bool → List Item
 fourth rules has = cond has (Number Mask4 (slice_index rules.masks 3) ∷ []) []
@@ -78,13 +83,15 @@ third rules three four = cond three (Number Mask3 (slice_index rules.masks 2) �
 abbrev listed : Rules → Bool → Bool → List Item
 listed rules three four = front rules (Number Mask1 (slice_index rules.masks 0) ∷ Number Mask2 (slice_index rules.masks 1) ∷ third rules three four)
 
-listed_fields : (rules : Rules) → 2 ≤ rules.players → flat_map (field_items rules) fields ≡ listed rules (nat_le 3 rules.players) (nat_le 4 rules.players)
+listed_fields : (rules : Rules) → 2 ≤ rules.players
+    → flat_map (field_items rules) fields ≡ listed rules (nat_le 3 rules.players) (nat_le 4 rules.players)
 listed_fields rules two = rw (le-leb 0 rules.players (omega arith), le-leb 1 rules.players (omega arith), le-leb 2 rules.players (omega arith)) refl
 
 IsOnce : Rules → Field → Bool → Bool → Type 0
 IsOnce rules field three four = numbers_for field (listed rules three four) ≡ rule_of field rules ∷ []
 
-once_in : (rules : Rules) (field : Field) (three four : Bool) → (owner_of field ≡ 3 → three ≡ true) → (owner_of field ≡ 4 → four ≡ true) → IsOnce rules field three four
+once_in : (rules : Rules) (field : Field) (three four : Bool) → (owner_of field ≡ 3 → three ≡ true) → (owner_of field ≡ 4 → four ≡ true)
+    → IsOnce rules field three four
 unfolding IsOnce
 once_in rules Players true true third fourth = refl
 once_in rules Players true false third fourth = refl
@@ -129,13 +136,16 @@ once_in rules Mask4 true true third fourth = refl
 once_in rules Mask4 false true third fourth = refl
 once_in rules Mask4 three false third fourth = let no_way : false ≡ true = fourth refl in absurd (cc)
 
-pub told_once : (rules : Rules) → 2 ≤ rules.players → (field : Field) → owner_of field ≤ rules.players → numbers_for field (flat_map (field_items rules) fields) ≡ rule_of field rules ∷ []
+pub told_once : (rules : Rules) → 2 ≤ rules.players → (field : Field) → owner_of field ≤ rules.players
+    → numbers_for field (flat_map (field_items rules) fields) ≡ rule_of field rules ∷ []
 unfolding IsOnce
 told_once rules two field there =
     ap (numbers_for field) (listed_fields rules two)
-    ∙ once_in rules field (nat_le 3 rules.players) (nat_le 4 rules.players) (λ three. le-leb 3 rules.players (omega arith)) (λ four. le-leb 4 rules.players (omega arith))
+    ∙ once_in rules field (nat_le 3 rules.players) (nat_le 4 rules.players) (λ three. le-leb 3 rules.players (omega arith))
+    (λ four. le-leb 4 rules.players (omega arith))
 
-none_in : (rules : Rules) (field : Field) (three four : Bool) → (owner_of field ≤ 2 → ⊥) → (owner_of field ≡ 3 → three ≡ false) → (owner_of field ≡ 4 → four ≡ false) → numbers_for field (listed rules three four) ≡ []
+none_in : (rules : Rules) (field : Field) (three four : Bool) → (owner_of field ≤ 2 → ⊥) → (owner_of field ≡ 3 → three ≡ false)
+    → (owner_of field ≡ 4 → four ≡ false) → numbers_for field (listed rules three four) ≡ []
 none_in rules Players three four beyond third fourth = absurd (beyond (omega arith))
 none_in rules Ipf three four beyond third fourth = absurd (beyond (omega arith))
 none_in rules Frames three four beyond third fourth = absurd (beyond (omega arith))
@@ -152,17 +162,23 @@ none_in rules Mask4 true false beyond third fourth = refl
 none_in rules Mask4 false false beyond third fourth = refl
 none_in rules Mask4 three true beyond third fourth = let no_way : true ≡ false = fourth refl in absurd (cc)
 
-pub told_nowhere : (rules : Rules) → 2 ≤ rules.players → (field : Field) → rules.players < owner_of field → numbers_for field (flat_map (field_items rules) fields) ≡ []
+pub told_nowhere : (rules : Rules) → 2 ≤ rules.players → (field : Field) → rules.players < owner_of field
+    → numbers_for field (flat_map (field_items rules) fields) ≡ []
 told_nowhere rules two field beyond =
     ap (numbers_for field) (listed_fields rules two)
-    ∙ none_in rules field (nat_le 3 rules.players) (nat_le 4 rules.players) (λ low. omega arith) (λ three. lt-leb 3 rules.players (omega arith)) (λ four. lt-leb 4 rules.players (omega arith))
+    ∙ none_in rules field (nat_le 3 rules.players) (nat_le 4 rules.players) (λ low. omega arith)
+    (λ three. lt-leb 3 rules.players (omega arith)) (λ four. lt-leb 4 rules.players (omega arith))
 
 -- ---- a loop over the fields
 
-pub one_more_field : (rules : Rules) (initial text new : List ℕ) (place : ℕ) → place < 11 → text ≡ initial ++ flat_map (field_text rules) (take place fields) → new ≡ text ++ field_text rules (get_or fields place Players)
+pub one_more_field : (rules : Rules) (initial text new : List ℕ) (place : ℕ) → place < 11
+    → text ≡ initial ++ flat_map (field_text rules) (take place fields) → new ≡ text ++ field_text rules (get_or fields place Players)
     → new ≡ initial ++ flat_map (field_text rules) (take (place + 1) fields)
 one_more_field rules initial text new place within before longer =
     let field = get_or fields place Players in
     let taken : take (place + 1) fields ≡ take place fields ++ get_or fields place Players ∷ [] = rw (add-one, take-suc fields place Players) refl in
-    longer ∙ ap (λ front. front ++ field_text rules (get_or fields place Players)) before ∙ append_assoc initial (flat_map (field_text rules) (take place fields)) (field_text rules (get_or fields place Players))
-    ∙ ap (λ end. initial ++ end) (ap (λ end. flat_map (field_text rules) (take place fields) ++ end) (sym (append-nil (field_text rules (get_or fields place Players)))) ∙ sym (flat_map-append (field_text rules) (take place fields) (get_or fields place Players ∷ [])) ∙ ap (flat_map (field_text rules)) (sym taken))
+    longer ∙ ap (λ front. front ++ field_text rules (get_or fields place Players)) before
+        ∙ append_assoc initial (flat_map (field_text rules) (take place fields)) (field_text rules (get_or fields place Players))
+    ∙ ap (λ end. initial ++ end) (ap (λ end. flat_map (field_text rules) (take place fields) ++ end)
+    (sym (append-nil (field_text rules (get_or fields place Players))))
+    ∙ sym (flat_map-append (field_text rules) (take place fields) (get_or fields place Players ∷ [])) ∙ ap (flat_map (field_text rules)) (sym taken))

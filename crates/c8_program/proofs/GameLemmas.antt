@@ -1,5 +1,6 @@
 -- The text that is written spells the game that is asked for.
-use Rattle.std.proofs.Common.{◌≡◌, ℕ, zero, suc, ◌<◌, ◌≤◌, Bool, true, false, cond, length, List, [], ◌∷◌, ◌++◌, Option, Some, None, get_or, refl, ap, sym, ◌∙◌, inl, inr, arith, nat_lt, ◌==◌, ◌||◌}
+use Rattle.std.proofs.Common.{◌≡◌, ℕ, zero, suc, ◌<◌, ◌≤◌, Bool, true, false, cond, length, List, [], ◌∷◌, ◌++◌, Option, Some, None, get_or,
+  refl, ap, sym, ◌∙◌, inl, inr, arith, nat_lt, ◌==◌, ◌||◌}
 use Rattle.std.specs.Prelude.{nat_le, flat_map}
 use Rattle.std.specs.List.{list_any}
 use Rattle.std.proofs.lemmas.Bool.{cases_Bool, or_parts, ltb-false, eqb-false, le-ltb}
@@ -33,8 +34,11 @@ pub record IsFine (settings : Settings) (program : List ℕ) : Type 0 where
 pub fine : (settings : Settings) (program : List ℕ) → fault_of settings program ≡ None → IsFine settings program
 fine settings program none =
     let range = cond (has_shared (masks_of settings)) (Some Twice) None in
-    let first = passed (length program == 0) Missing (cond (nat_lt most_program (length program) || list_any (is_outside settings) fields || has_stray settings) (Some Range) (cond (has_shared (masks_of settings)) (Some Twice) None)) none in
-    let second = passed (nat_lt most_program (length program) || list_any (is_outside settings) fields || has_stray settings) Range (cond (has_shared (masks_of settings)) (Some Twice) None) first.1 in
+    let first = passed (length program == 0) Missing
+        (cond (nat_lt most_program (length program) || list_any (is_outside settings) fields || has_stray settings) (Some Range)
+        (cond (has_shared (masks_of settings)) (Some Twice) None)) none in
+    let second = passed (nat_lt most_program (length program) || list_any (is_outside settings) fields || has_stray settings) Range
+        (cond (has_shared (masks_of settings)) (Some Twice) None) first.1 in
     let parts = or_parts (nat_lt most_program (length program) || list_any (is_outside settings) fields) (has_stray settings) second.0 in
     let both = or_parts (nat_lt most_program (length program)) (list_any (is_outside settings) fields) parts.0 in
     record {
@@ -43,7 +47,8 @@ fine settings program none =
       inside = both.1;
     }
 
-none_at : (test : Field → Bool) (some : List Field) (place : ℕ) → place < length some → list_any test some ≡ false → test (get_or some place Players) ≡ false
+none_at : (test : Field → Bool) (some : List Field) (place : ℕ) → place < length some → list_any test some ≡ false
+    → test (get_or some place Players) ≡ false
 none_at test [] place within none = absurd (omega arith)
 none_at test (field ∷ more) zero within none = (or_parts (test field) (list_any test more) none).0
 none_at test (field ∷ more) (suc place) within none = none_at test more place (omega arith) (or_parts (test field) (list_any test more) none).1
@@ -61,15 +66,19 @@ each_inside test none Mask2 = none_at test fields 8 (omega arith) none
 each_inside test none Mask3 = none_at test fields 9 (omega arith) none
 each_inside test none Mask4 = none_at test fields 10 (omega arith) none
 
-within : (settings : Settings) → list_any (is_outside settings) fields ≡ false → (field : Field) → IsWithin field (rule_of field (rules_of settings []))
+within : (settings : Settings) → list_any (is_outside settings) fields ≡ false → (field : Field)
+    → IsWithin field (rule_of field (rules_of settings []))
 within settings none field =
     let number = rule_of field (rules_of settings []) in
-    let parts = or_parts (nat_lt (rule_of field (rules_of settings [])) (least_of field)) (nat_lt (greatest_of field) (rule_of field (rules_of settings []))) (each_inside (is_outside settings) none field) in
-    (ltb-false (rule_of field (rules_of settings [])) (least_of field) parts.0, ltb-false (greatest_of field) (rule_of field (rules_of settings [])) parts.1)
+    let parts = or_parts (nat_lt (rule_of field (rules_of settings [])) (least_of field))
+        (nat_lt (greatest_of field) (rule_of field (rules_of settings []))) (each_inside (is_outside settings) none field) in
+    (ltb-false (rule_of field (rules_of settings [])) (least_of field) parts.0,
+        ltb-false (greatest_of field) (rule_of field (rules_of settings [])) parts.1)
 
 -- ---- what the lines give
 
-same_rule : (settings : Settings) (program : List ℕ) (field : Field) → rule_of field (rules_of settings []) ≡ rule_of field (rules_of settings program)
+same_rule : (settings : Settings) (program : List ℕ) (field : Field)
+    → rule_of field (rules_of settings []) ≡ rule_of field (rules_of settings program)
 same_rule settings program Players = refl
 same_rule settings program Ipf = refl
 same_rule settings program Frames = refl
@@ -85,7 +94,8 @@ same_rule settings program Mask4 = refl
 absent_mask : (settings : Settings) (place : ℕ) → settings.players ≤ place → later_mask settings place ≡ 0
 absent_mask settings place beyond = rw (le-ltb place settings.players beyond) refl
 
-absent_rule : (settings : Settings) (field : Field) → 2 ≤ settings.players → settings.players < owner_of field → rule_of field (rules_of settings []) ≡ 0
+absent_rule : (settings : Settings) (field : Field) → 2 ≤ settings.players → settings.players < owner_of field
+    → rule_of field (rules_of settings []) ≡ 0
 absent_rule settings Players two beyond = absurd (omega arith)
 absent_rule settings Ipf two beyond = absurd (omega arith)
 absent_rule settings Frames two beyond = absurd (omega arith)
@@ -107,7 +117,8 @@ no_code rules (field ∷ more) =
       | inr absent ↦ rw absent (no_code rules more)
     ]
 
-pub game_spelled : (settings : Settings) (program text code : List ℕ) → fault_of settings program ≡ None → text ≡ fields_text (rules_of settings []) ++ code → IsProgramText code program → Spells text (rules_of settings program)
+pub game_spelled : (settings : Settings) (program text code : List ℕ) → fault_of settings program ≡ None
+    → text ≡ fields_text (rules_of settings []) ++ code → IsProgramText code program → Spells text (rules_of settings program)
 game_spelled settings program text code none is written =
     let good = fine settings program none in
     let lies = within settings good.inside in
@@ -115,8 +126,10 @@ game_spelled settings program text code none is written =
     let rules = rules_of settings [] in
     let told = flat_map (field_items (rules_of settings [])) fields in
     let block : IsBlock text (flat_map (field_items (rules_of settings [])) fields ++ written.items) =
-    rw is (block_both (fields_text (rules_of settings [])) code (flat_map (field_items (rules_of settings [])) fields) written.items (fields_say (rules_of settings []) fields lies) written.block) in
-    let numbers : (field : Field) → numbers_for field (flat_map (field_items (rules_of settings [])) fields ++ written.items) ≡ numbers_for field (flat_map (field_items (rules_of settings [])) fields) =
+    rw is (block_both (fields_text (rules_of settings [])) code (flat_map (field_items (rules_of settings [])) fields) written.items
+        (fields_say (rules_of settings []) fields lies) written.block) in
+    let numbers : (field : Field) → numbers_for field (flat_map (field_items (rules_of settings [])) fields ++ written.items)
+        ≡ numbers_for field (flat_map (field_items (rules_of settings [])) fields) =
     λ field. flat_map-append (number_in field) (flat_map (field_items (rules_of settings [])) fields) written.items
     ∙ ap (λ end. numbers_for field (flat_map (field_items (rules_of settings [])) fields) ++ end) (written.numberless field)
     ∙ append-nil (numbers_for field (flat_map (field_items (rules_of settings [])) fields)) in
@@ -126,8 +139,10 @@ game_spelled settings program text code none is written =
       flat_map (field_items (rules_of settings [])) fields ++ written.items,
       block_lines text (flat_map (field_items (rules_of settings [])) fields ++ written.items) block,
       record {
-        once = λ field there. inl (numbers field ∙ told_once (rules_of settings []) two field there ∙ ap (λ number. number ∷ []) (same_rule settings program field));
-        nowhere = λ field beyond. (numbers field ∙ told_nowhere (rules_of settings []) two field beyond, sym (same_rule settings program field) ∙ absent_rule settings field two beyond);
+        once = λ field there. inl (numbers field ∙ told_once (rules_of settings []) two field there
+            ∙ ap (λ number. number ∷ []) (same_rule settings program field));
+        nowhere = λ field beyond. (numbers field ∙ told_nowhere (rules_of settings []) two field beyond,
+            sym (same_rule settings program field) ∙ absent_rule settings field two beyond);
         masks = refl;
         program = sym bytes;
         some_code = omega (arith, good.some);

@@ -1,11 +1,13 @@
 -- Key sets, key by key.
-use Rattle.std.proofs.Common.{◌≡◌, ℕ, zero, suc, ◌+◌, ◌*◌, ◌/◌, ◌%◌, ◌^◌, ◌<◌, ◌≤◌, ◌⊎◌, Bool, true, false, length, List, Option, Some, None, refl, ap, sym, ◌∙◌, inl, inr, arith, nat_lt, bit_and, bit_or}
+use Rattle.std.proofs.Common.{◌≡◌, ℕ, zero, suc, ◌+◌, ◌*◌, ◌/◌, ◌%◌, ◌^◌, ◌<◌, ◌≤◌, ◌⊎◌, Bool, true, false, length, List, Option, Some,
+  None, refl, ap, sym, ◌∙◌, inl, inr, arith, nat_lt, bit_and, bit_or}
 use Rattle.std.specs.Prelude.{◌↔◌, slice_index, IfSome, ◌||◌}
 use Rattle.std.specs.Int.{bit_at, w16}
 use Rattle.std.proofs.lemmas.Bool.{cases_Bool, cases_eq, cases_lt, lt-ltb, ltb-true}
 use Rattle.std.proofs.lemmas.List.{get_or_past}
 use Rattle.std.proofs.lemmas.Nat.{or_of_16}
-use Rattle.std.proofs.lemmas.Nat.Bits.{bit_at_and, bit_at_or, bit_at-lt, bit_at-zero, bit_at-suc, bit_at_lowest, bit_at_not, bit_at_set_same, bit_at_set_other}
+use Rattle.std.proofs.lemmas.Nat.Bits.{bit_at_and, bit_at_or, bit_at-lt, bit_at-zero, bit_at-suc, bit_at_lowest, bit_at_not,
+  bit_at_set_same, bit_at_set_other}
 use Rattle.hex.specs.Hex.{hex_digit_value}
 use Rattle.c8_game.specs.Rules.{HasKey}
 use Rattle.c8_program.specs.Asked.{usual_keys, given_or, given_at, AreKeySets, later_mask, keys_of_others, masks_of}
@@ -30,7 +32,9 @@ none_named digits key = (λ has. absurd (omega (arith, bit_at-zero key, has)), �
 same_key : (one other : ℕ) → Some one ≡ Some other → one ≡ other
 same_key one other same = cc
 
-named_now : (digits : List ℕ) (count keys digit key : ℕ) → AreNamed digits count keys → hex_digit_value (slice_index digits count) ≡ Some digit → digit < 16 → HasKey (bit_or keys (1 * 2 ^ digit % 2 ^ 16)) key → HasDigitBefore digits (count + 1) key
+named_now : (digits : List ℕ) (count keys digit key : ℕ) → AreNamed digits count keys
+    → hex_digit_value (slice_index digits count) ≡ Some digit → digit < 16 → HasKey (bit_or keys (1 * 2 ^ digit % 2 ^ 16)) key
+    → HasDigitBefore digits (count + 1) key
 named_now digits count keys digit key named names small has =
     elim (cases_eq key digit) [
       | inl same ↦ record { place = count; within = omega arith; names = names ∙ ap Some (sym same) }
@@ -39,12 +43,15 @@ named_now digits count keys digit key named names small has =
           record { place = before.place; within = omega (arith, before.within); names = before.names }
     ]
 
-named_then : (digits : List ℕ) (count keys digit key : ℕ) → AreNamed digits count keys → hex_digit_value (slice_index digits count) ≡ Some digit → digit < 16 → HasDigitBefore digits (count + 1) key → HasKey (bit_or keys (1 * 2 ^ digit % 2 ^ 16)) key
+named_then : (digits : List ℕ) (count keys digit key : ℕ) → AreNamed digits count keys
+    → hex_digit_value (slice_index digits count) ≡ Some digit → digit < 16 → HasDigitBefore digits (count + 1) key
+    → HasKey (bit_or keys (1 * 2 ^ digit % 2 ^ 16)) key
 named_then digits count keys digit key named names small has =
     elim (cases_eq key digit) [
       | inl same ↦ rw same (bit_at_set_same w16 keys digit small)
       | inr other ↦ elim (cases_lt has.place count) [
-        | inl within ↦ bit_at_set_other w16 keys digit small key other ∙ (named key).1 (record { place = has.place; within = within; names = has.names })
+        | inl within ↦ bit_at_set_other w16 keys digit small key other
+        ∙ (named key).1 (record { place = has.place; within = within; names = has.names })
         | inr past ↦
             let here : has.place ≡ count = omega (arith, has.within) in
             let is : Some key ≡ Some digit = sym has.names ∙ ap (λ place. hex_digit_value (slice_index digits place)) here ∙ names in
@@ -52,8 +59,10 @@ named_then digits count keys digit key named names small has =
       ]
     ]
 
-pub named_more : (digits : List ℕ) (count keys digit : ℕ) → AreNamed digits count keys → hex_digit_value (slice_index digits count) ≡ Some digit → digit < 16 → AreNamed digits (count + 1) (bit_or keys (1 * 2 ^ digit % 2 ^ 16))
-named_more digits count keys digit named names small key = (named_now digits count keys digit key named names small, named_then digits count keys digit key named names small)
+pub named_more : (digits : List ℕ) (count keys digit : ℕ) → AreNamed digits count keys
+    → hex_digit_value (slice_index digits count) ≡ Some digit → digit < 16 → AreNamed digits (count + 1) (bit_or keys (1 * 2 ^ digit % 2 ^ 16))
+named_more digits count keys digit named names small key =
+    (named_now digits count keys digit key named names small, named_then digits count keys digit key named names small)
 
 -- ---- sets with a key in common
 
@@ -66,7 +75,8 @@ some_bit (suc fuel) number few some =
     ]
 
 in_both : (one other key : ℕ) → HasKey (bit_and one other) key → HasKey one key × HasKey other key
-in_both one other key has = (omega (arith, bit_at_and one other key, bit_at-lt one key, bit_at-lt other key), omega (arith, bit_at_and one other key, bit_at-lt one key, bit_at-lt other key))
+in_both one other key has = (omega (arith, bit_at_and one other key, bit_at-lt one key, bit_at-lt other key),
+    omega (arith, bit_at_and one other key, bit_at-lt one key, bit_at-lt other key))
 
 from_both : (one other key : ℕ) → HasKey one key → HasKey other key → do_meet one other ≡ true
 from_both one other key first second =
@@ -79,7 +89,9 @@ from_both one other key first second =
 shared_at : (masks : List ℕ) (one other : ℕ) → one < other → do_meet (slice_index masks one) (slice_index masks other) ≡ true → IsShared masks
 shared_at masks one other apart meet =
     let both = bit_and (slice_index masks one) (slice_index masks other) in
-    let some = some_bit (bit_and (slice_index masks one) (slice_index masks other)) (bit_and (slice_index masks one) (slice_index masks other)) (omega arith) (ltb-true 0 (bit_and (slice_index masks one) (slice_index masks other)) meet) in
+    let some = some_bit (bit_and (slice_index masks one) (slice_index masks other))
+        (bit_and (slice_index masks one) (slice_index masks other)) (omega arith)
+        (ltb-true 0 (bit_and (slice_index masks one) (slice_index masks other)) meet) in
     let has = in_both (slice_index masks one) (slice_index masks other) some.0 some.1 in
     record { one = one; other = other; key = some.0; apart = apart; first = has.0; second = has.1 }
 
@@ -113,19 +125,28 @@ any_pair false false true d e f some = refl
 any_pair false false false true e f some = refl
 any_pair false false false false true f some = refl
 any_pair false false false false false true some = refl
-any_pair false false false false false false some = elim some [ inl a ↦ a | inr (inl b) ↦ b | inr (inr (inl c)) ↦ c | inr (inr (inr (inl d))) ↦ d | inr (inr (inr (inr (inl e)))) ↦ e | inr (inr (inr (inr (inr f)))) ↦ f ]
+any_pair false false false false false false some =
+    elim some [ inl a ↦ a | inr (inl b) ↦ b | inr (inr (inl c)) ↦ c | inr (inr (inr (inl d))) ↦ d | inr (inr (inr (inr (inl e)))) ↦ e
+    | inr (inr (inr (inr (inr f)))) ↦ f ]
 
-pub shared_pair : (masks : List ℕ) (one other key : ℕ) → length masks ≡ 4 → one < other → HasKey (slice_index masks one) key → HasKey (slice_index masks other) key
-    → (meet_at masks 0 1 ≡ true) ⊎ (meet_at masks 0 2 ≡ true) ⊎ (meet_at masks 0 3 ≡ true) ⊎ (meet_at masks 1 2 ≡ true) ⊎ (meet_at masks 1 3 ≡ true) ⊎ (meet_at masks 2 3 ≡ true)
+pub shared_pair : (masks : List ℕ) (one other key : ℕ) → length masks ≡ 4 → one < other → HasKey (slice_index masks one) key
+    → HasKey (slice_index masks other) key
+    → (meet_at masks 0 1 ≡ true) ⊎ (meet_at masks 0 2 ≡ true) ⊎ (meet_at masks 0 3 ≡ true) ⊎ (meet_at masks 1 2 ≡ true)
+    ⊎ (meet_at masks 1 3 ≡ true) ⊎ (meet_at masks 2 3 ≡ true)
 shared_pair masks one zero key size apart first second = absurd (omega arith)
 shared_pair masks zero (suc zero) key size apart first second = inl (from_both (slice_index masks 0) (slice_index masks 1) key first second)
 shared_pair masks (suc one) (suc zero) key size apart first second = absurd (omega arith)
-shared_pair masks zero (suc (suc zero)) key size apart first second = inr (inl (from_both (slice_index masks 0) (slice_index masks 2) key first second))
-shared_pair masks (suc zero) (suc (suc zero)) key size apart first second = inr (inr (inr (inl (from_both (slice_index masks 1) (slice_index masks 2) key first second))))
+shared_pair masks zero (suc (suc zero)) key size apart first second =
+    inr (inl (from_both (slice_index masks 0) (slice_index masks 2) key first second))
+shared_pair masks (suc zero) (suc (suc zero)) key size apart first second =
+    inr (inr (inr (inl (from_both (slice_index masks 1) (slice_index masks 2) key first second))))
 shared_pair masks (suc (suc one)) (suc (suc zero)) key size apart first second = absurd (omega arith)
-shared_pair masks zero (suc (suc (suc zero))) key size apart first second = inr (inr (inl (from_both (slice_index masks 0) (slice_index masks 3) key first second)))
-shared_pair masks (suc zero) (suc (suc (suc zero))) key size apart first second = inr (inr (inr (inr (inl (from_both (slice_index masks 1) (slice_index masks 3) key first second)))))
-shared_pair masks (suc (suc zero)) (suc (suc (suc zero))) key size apart first second = inr (inr (inr (inr (inr (from_both (slice_index masks 2) (slice_index masks 3) key first second)))))
+shared_pair masks zero (suc (suc (suc zero))) key size apart first second =
+    inr (inr (inl (from_both (slice_index masks 0) (slice_index masks 3) key first second)))
+shared_pair masks (suc zero) (suc (suc (suc zero))) key size apart first second =
+    inr (inr (inr (inr (inl (from_both (slice_index masks 1) (slice_index masks 3) key first second)))))
+shared_pair masks (suc (suc zero)) (suc (suc (suc zero))) key size apart first second =
+    inr (inr (inr (inr (inr (from_both (slice_index masks 2) (slice_index masks 3) key first second)))))
 shared_pair masks (suc (suc (suc one))) (suc (suc (suc zero))) key size apart first second = absurd (omega arith)
 shared_pair masks one (suc (suc (suc (suc other)))) key size apart first second =
     let none : slice_index masks (suc (suc (suc (suc other)))) ≡ 0 = get_or_past masks (suc (suc (suc (suc other)))) 0 (omega arith) in
@@ -169,11 +190,13 @@ others_small settings small =
     or_of_16 (later_mask settings 1) (bit_or (later_mask settings 2) (later_mask settings 3)) (later_small settings 1 small)
     (or_of_16 (later_mask settings 2) (later_mask settings 3) (later_small settings 2 small) (later_small settings 3 small))
 
-pub key_kept : (settings : Settings) → AreKeySets settings → given_at settings 0 ≡ None → (key : ℕ) → key < 16 → (place : ℕ) × HasKey (slice_index (masks_of settings) place) key
+pub key_kept : (settings : Settings) → AreKeySets settings → given_at settings 0 ≡ None → (key : ℕ) → key < 16
+    → (place : ℕ) × HasKey (slice_index (masks_of settings) place) key
 key_kept settings small none key within =
     elim (cases_lt (bit_at (keys_of_others settings) key) 1) [
       | inl free ↦ (0, rw none (bit_at_not w16 (keys_of_others settings) key (others_small settings small) within ∙ omega arith))
-      | inr taken ↦ elim (in_either (later_mask settings 1) (bit_or (later_mask settings 2) (later_mask settings 3)) key (omega (arith, bit_at-lt (keys_of_others settings) key))) [
+      | inr taken ↦ elim (in_either (later_mask settings 1) (bit_or (later_mask settings 2) (later_mask settings 3)) key
+      (omega (arith, bit_at-lt (keys_of_others settings) key))) [
         | inl two ↦ (1, two)
         | inr more ↦ elim (in_either (later_mask settings 2) (later_mask settings 3) key more) [ inl three ↦ (2, three) | inr four ↦ (3, four) ]
       ]

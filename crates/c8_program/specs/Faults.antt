@@ -1,5 +1,6 @@
 -- Which fault refuses a game that is asked for.
-use Rattle.std.specs.Prelude.{ℕ, ◌<◌, ◌==◌, ◌&&◌, ◌||◌, Bool, nat_lt, List, [], length, Option, Some, None, is_some, bit_and, slice_index, if◌then◌else◌}
+use Rattle.std.specs.Prelude.{ℕ, ◌<◌, ◌==◌, ◌&&◌, ◌||◌, Bool, nat_lt, List, [], length, Option, Some, None, is_some, bit_and, slice_index,
+  if◌then◌else◌}
 use Rattle.std.specs.List.{list_any}
 use Rattle.c8_game.specs.Fields.{fields, least_of, greatest_of}
 use Rattle.c8_game.specs.GameText.{rule_of}
@@ -12,7 +13,8 @@ use Rattle.c8_program.specs.declared.settings.Settings.{Settings}
 
 -- the number for a field is out of the field's range
 abbrev pub is_outside : Settings → Field → Bool
-is_outside settings field = nat_lt (rule_of field (rules_of settings [])) (least_of field) || nat_lt (greatest_of field) (rule_of field (rules_of settings []))
+is_outside settings field = nat_lt (rule_of field (rules_of settings [])) (least_of field) || nat_lt (greatest_of field)
+    (rule_of field (rules_of settings []))
 
 -- keys are given for player 3 or 4, who is not in the game
 abbrev pub has_stray : Settings → Bool
@@ -25,8 +27,10 @@ do_meet one other = nat_lt 0 (bit_and one other)
 -- two players have the same key, by the masks of all four; the law `shared_keys` says so of each key
 abbrev pub has_shared : List ℕ → Bool
 has_shared masks =
-    do_meet (slice_index masks 0) (slice_index masks 1) || do_meet (slice_index masks 0) (slice_index masks 2) || do_meet (slice_index masks 0) (slice_index masks 3)
-    || do_meet (slice_index masks 1) (slice_index masks 2) || do_meet (slice_index masks 1) (slice_index masks 3) || do_meet (slice_index masks 2) (slice_index masks 3)
+    do_meet (slice_index masks 0) (slice_index masks 1) || do_meet (slice_index masks 0) (slice_index masks 2) || do_meet
+        (slice_index masks 0) (slice_index masks 3)
+    || do_meet (slice_index masks 1) (slice_index masks 2) || do_meet (slice_index masks 1) (slice_index masks 3) || do_meet
+        (slice_index masks 2) (slice_index masks 3)
 
 -- a key that the players at two places have
 pub record IsShared (masks : List ℕ) : Type 0 where

@@ -9,7 +9,8 @@ use Rattle.c8_record.specs.Allowed.{Past, IsHead, IsAllowedAfter}
 use Rattle.c8_record.specs.checked.Taken.{IsUnfit, IsUnfitBody}
 use Rattle.c8_record.specs.checked.BodyLaws.{one_record}
 
-pub unfit_body : (rules : Rules) (room : ℕ) (past : Past) (body : List ℕ) (r : Record) (error : ReplayError) → Spells body r → IsUnfit rules room past r error → IsUnfitBody rules room past body error
+pub unfit_body : (rules : Rules) (room : ℕ) (past : Past) (body : List ℕ) (r : Record) (error : ReplayError) → Spells body r
+    → IsUnfit rules room past r error → IsUnfitBody rules room past body error
 unfit_body rules room past body r WrongGame spells unfit = (unfit.0, r, spells, unfit.1)
 unfit_body rules room past body r WrongPlayer spells unfit = (unfit.0, r, spells, unfit.1)
 unfit_body rules room past body r (BadRecord n) spells unfit = (

@@ -1,5 +1,6 @@
 -- What was sent stays due, as more is received.
-use Rattle.std.proofs.Common.{◌≡◌, ◌≤◌, ◌⊎◌, ◌+◌, ℕ, List, [], ◌∷◌, ◌++◌, length, refl, arith, subst, rules, inl, inr, length-append, add_assoc, sym, ap, ◌∙◌}
+use Rattle.std.proofs.Common.{◌≡◌, ◌≤◌, ◌⊎◌, ◌+◌, ℕ, List, [], ◌∷◌, ◌++◌, length, refl, arith, subst, rules, inl, inr, length-append,
+  add_assoc, sym, ap, ◌∙◌}
 use Rattle.std.specs.List.{All, Contains}
 use Rattle.std.proofs.lemmas.List.Elements.{All-append, Contains-append_left, Contains-append_right}
 use Rattle.c8_relay.specs.Ether.{MaySend}
@@ -25,7 +26,8 @@ weight-append [] x = omega arith
 weight-append (y ∷ ys) x = ap (λ n. length y.1 + n) (weight-append ys x) ∙ sym (add_assoc (length y.1) (weight ys) (length x.1))
 
 -- who had asked has asked when more was received
-asked_more : (key : List ℕ) (received : List (Address × List ℕ)) (x : Address × List ℕ) (address : Address) (place : Place) → HasAsked key received address place → HasAsked key (received ++ x ∷ []) address place
+asked_more : (key : List ℕ) (received : List (Address × List ℕ)) (x : Address × List ℕ) (address : Address) (place : Place)
+    → HasAsked key received address place → HasAsked key (received ++ x ∷ []) address place
 asked_more key received x address place asked =
     (asked.0, (asked.1.0, (asked.1.1.0, (Contains-append_left received (x ∷ []) _ asked.1.1.1.0, asked.1.1.1.1, asked.1.1.1.2, asked.1.1.1.3))))
 
@@ -75,12 +77,14 @@ module _ (now : ℕ) (from : Address) (packet : List ℕ) (old new : Standing) (
       → length other ≤ length packet → IsHonest new (received ++ (from, packet) ∷ []) after
   after_one after to other went due short =
       let Q : List (Address × List ℕ) → Type 0 = λ xs. IsHonest new (received ++ (from, packet) ∷ []) xs in
-      let P : List ℕ → Type 0 = λ k. IsHonest (record { key = k; members = new.members }) (received ++ (from, packet) ∷ []) (sent ++ (to, other) ∷ []) in
+      let P : List ℕ → Type 0 = λ k. IsHonest (record { key = k; members = new.members }) (received ++ (from, packet) ∷ [])
+          (sent ++ (to, other) ∷ []) in
       elim went [
         | inl same ↦ subst Q (sym same) after_nothing
         | inr one ↦ subst Q (sym one) (subst P (sym key) (record {
           seated = seated;
-          due = All-append (λ x. IsCarried old.key (received ++ (from, packet) ∷ []) x ⊎ IsAnswer (received ++ (from, packet) ∷ []) x) sent ((to, other) ∷ []) due_more
+          due = All-append (λ x. IsCarried old.key (received ++ (from, packet) ∷ []) x ⊎ IsAnswer (received ++ (from, packet) ∷ []) x) sent
+              ((to, other) ∷ []) due_more
               (only (λ x. IsCarried old.key (received ++ (from, packet) ∷ []) x ⊎ IsAnswer (received ++ (from, packet) ∷ []) x) (to, other) due);
           fewer = let f = was.fewer in omega (arith, length-append received ((from, packet) ∷ []), length-append sent ((to, other) ∷ []), f);
           lighter = let f = was.lighter in omega (arith, weight-append received (from, packet), weight-append sent (to, other), f, short);
@@ -88,7 +92,8 @@ module _ (now : ℕ) (from : Address) (packet : List ℕ) (old new : Standing) (
       ]
 
   -- a datagram was sent on
-  pub after_forward : (after : List (Address × List ℕ)) (to : Address) (route : Route) → MaySend sent to packet after → IsDatagram packet route → Shares old.members from route to
+  pub after_forward : (after : List (Address × List ℕ)) (to : Address) (route : Route) → MaySend sent to packet after
+      → IsDatagram packet route → Shares old.members from route to
       → IsHonest new (received ++ (from, packet) ∷ []) after
   after_forward after to route went is shares =
       after_one after to packet went (inl (
@@ -107,10 +112,12 @@ module _ (now : ℕ) (from : Address) (packet : List ℕ) (old new : Standing) (
       (omega arith)
 
   -- a JOIN was answered
-  pub after_answer : (after : List (Address × List ℕ)) (answer : List ℕ) (join : Join) → MaySend sent from answer after → IsJoin packet join → length answer ≡ 24
+  pub after_answer : (after : List (Address × List ℕ)) (answer : List ℕ) (join : Join) → MaySend sent from answer after → IsJoin packet join
+      → length answer ≡ 24
       → IsHonest new (received ++ (from, packet) ∷ []) after
   after_answer after answer join went is short =
-      after_one after from answer went (inr (packet, last received (from, packet), (join, is, short))) (let size = is.size in omega (arith, size, short))
+      after_one after from answer went (inr (packet, last received (from, packet), (join, is, short)))
+          (let size = is.size in omega (arith, size, short))
 
 -- nothing was received and nothing sent
 pub at_first : (key : List ℕ) → IsHonest (record { key = key; members = [] }) [] []
@@ -122,7 +129,8 @@ at_first key = record {
 }
 
 -- who stood up does not have to have asked
-pub fewer_seats : (now : ℕ) (old new : Standing) (received sent : List (Address × List ℕ)) → new.key ≡ old.key → Expels now old.members new.members → IsHonest old received sent
+pub fewer_seats : (now : ℕ) (old new : Standing) (received sent : List (Address × List ℕ)) → new.key ≡ old.key
+    → Expels now old.members new.members → IsHonest old received sent
     → IsHonest new received sent
 fewer_seats now old new received sent key expels was =
     let P : List ℕ → Type 0 = λ k. IsHonest (record { key = k; members = new.members }) received sent in

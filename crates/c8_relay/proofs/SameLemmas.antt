@@ -23,7 +23,8 @@ address_decides : (a b : Address) → Decides (same_address a b) (a ≡ b)
 address_decides (Udp h p) (Udp i q) = Decides-like _ (λ e. ap₂ Udp e.0 e.1) (λ e. (cc, cc)) (Decides-and _ _ (Decides-eqb h i) (Decides-eqb p q))
 address_decides (Udp h p) (Connection i q) = (λ e. cc, λ e. cc)
 address_decides (Connection h p) (Udp i q) = (λ e. cc, λ e. cc)
-address_decides (Connection h p) (Connection i q) = Decides-like _ (λ e. ap₂ Connection e.0 e.1) (λ e. (cc, cc)) (Decides-and _ _ (Decides-eqb h i) (Decides-eqb p q))
+address_decides (Connection h p) (Connection i q) =
+    Decides-like _ (λ e. ap₂ Connection e.0 e.1) (λ e. (cc, cc)) (Decides-and _ _ (Decides-eqb h i) (Decides-eqb p q))
 
 a_sender : Address → Lane → Sender
 a_sender address lane = record { address = address; lane = lane }
@@ -46,5 +47,6 @@ one_place a b name lane seat = ap₂ a_place name (λ i. (lane i, seat i))
 
 pub place_decides : (a b : Place) → Decides (same_place a b) (a ≡ b)
 unfolding a_place
-place_decides a b = Decides-like _ (λ e. ap₂ a_place e.0 (λ i. (e.1.0 i, e.1.1 i))) (λ e. (ap (λ s. s.name) e, (ap (λ s. s.lane) e, ap (λ s. s.seat) e)))
+place_decides a b = Decides-like _ (λ e. ap₂ a_place e.0 (λ i. (e.1.0 i, e.1.1 i)))
+    (λ e. (ap (λ s. s.name) e, (ap (λ s. s.lane) e, ap (λ s. s.seat) e)))
     (Decides-and _ _ (Decides-eqb a.name b.name) (Decides-and (same_lane a.lane b.lane) _ (lane_decides a.lane b.lane) (Decides-eqb a.seat b.seat)))

@@ -32,7 +32,8 @@ one_route packet a b one other =
     let to : a.to ≡ b.to = one.to ∙ sym other.to in
     λ i. a_route (lane i) (from i) (to i)
 
-pub may_only : (S : Type 0) (address : Address) (place : Place) (old mid new : List (Sender × Seated)) → mid ≡ old → S → SeatsOnly address place mid new
+pub may_only : (S : Type 0) (address : Address) (place : Place) (old mid new : List (Sender × Seated)) → mid ≡ old → S
+    → SeatsOnly address place mid new
     → (other : Address) (seat : Place) → Sits new other seat → Sits old other seat ⊎ ((other ≡ address) × (seat ≡ place) × S)
 may_only S address place old mid new same shown only other seat sits = elim (only other seat sits) [
   | inl was ↦ inl (let P : List (Sender × Seated) → Type 0 = λ m. Sits m other seat in subst P same was)

@@ -15,7 +15,8 @@ abbrev pub HasAsked : List ℕ → List (Address × List ℕ) → Address → Pl
 HasAsked key received address place = (packet : List ℕ) × ((join : Join) × ((slot : ℕ) × (
     Contains received (address, packet) × IsJoin packet join × (join.place ≡ place) × HasShown key slot address join.cookie)))
 
--- a packet was received from an address that had asked for the place that it names as its sender's, and goes to one that had asked for its addressee's, in one room
+-- a packet was received from an address that had asked for the place that it names as its sender's, and goes to one that had asked for its
+-- addressee's, in one room
 abbrev pub IsCarried : List ℕ → List (Address × List ℕ) → Address × List ℕ → Type 0
 IsCarried key received packet = (from : Address) × Contains received (from, packet.1) × ((route : Route) × IsDatagram packet.1 route × ((name : ℕ) ×
     HasAsked key received from (origin route name) × HasAsked key received packet.0 (target route name)))

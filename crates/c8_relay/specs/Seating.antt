@@ -47,7 +47,8 @@ IsSilent now seated = seated.heard + 3_000_000 ≤ now
 
 -- who sits in a place has this address, if anybody does
 abbrev pub IsHolder : List (Sender × Seated) → Place → Option Address → Type 0
-IsHolder members place holder = (sender : Sender) (seated : Seated) → seat_of members sender ≡ Some seated → place_of sender seated ≡ place → holder ≡ Some sender.address
+IsHolder members place holder = (sender : Sender) (seated : Seated) → seat_of members sender ≡ Some seated → place_of sender seated ≡ place
+    → holder ≡ Some sender.address
 
 -- an address in the lane of a place
 abbrev pub sender_at : Address → Place → Sender
@@ -55,19 +56,23 @@ sender_at address place = record { address = address; lane = place.lane }
 
 -- the address sits in this place
 abbrev pub Sits : List (Sender × Seated) → Address → Place → Type 0
-Sits members address place = (seated : Seated) × (seat_of members (sender_at address place) ≡ Some seated) × (seated.name ≡ place.name) × (seated.seat ≡ place.seat)
+Sits members address place = (seated : Seated) × (seat_of members (sender_at address place) ≡ Some seated) × (seated.name ≡ place.name)
+    × (seated.seat ≡ place.seat)
 
 -- the address sits in this place, and was heard in the last 3 seconds
 abbrev pub Listens : ℕ → List (Sender × Seated) → Address → Place → Type 0
-Listens now members address place = (seated : Seated) × (seat_of members (sender_at address place) ≡ Some seated) × (seated.name ≡ place.name) × (seated.seat ≡ place.seat) × (now < seated.heard + 3_000_000)
+Listens now members address place = (seated : Seated) × (seat_of members (sender_at address place) ≡ Some seated)
+    × (seated.name ≡ place.name) × (seated.seat ≡ place.seat) × (now < seated.heard + 3_000_000)
 
 -- the address sits in this place, and was heard now
 abbrev pub IsHeard : ℕ → List (Sender × Seated) → Address → Place → Type 0
-IsHeard now members address place = (seated : Seated) × (seat_of members (sender_at address place) ≡ Some seated) × (seated.name ≡ place.name) × (seated.seat ≡ place.seat) × (seated.heard ≡ now)
+IsHeard now members address place = (seated : Seated) × (seat_of members (sender_at address place) ≡ Some seated)
+    × (seated.name ≡ place.name) × (seated.seat ≡ place.seat) × (seated.heard ≡ now)
 
 -- only this address moves or is heard; others who were heard in the last 3 seconds stay as they are
 abbrev pub KeepsOthers : ℕ → Address → List (Sender × Seated) → List (Sender × Seated) → Type 0
-KeepsOthers now address old new = (other : Sender) (seated : Seated) → (other.address ≡ address → ⊥) → seat_of old other ≡ Some seated → now < seated.heard + 3_000_000
+KeepsOthers now address old new = (other : Sender) (seated : Seated) → (other.address ≡ address → ⊥) → seat_of old other ≡ Some seated
+    → now < seated.heard + 3_000_000
     → seat_of new other ≡ Some seated
 
 -- who sits somewhere sat there before, or is this address in this place
@@ -95,9 +100,11 @@ target route name = record { name = name; lane = route.lane; seat = route.to }
 abbrev pub Shares : List (Sender × Seated) → Address → Route → Address → Type 0
 Shares members from route to = (name : ℕ) × Sits members from (origin route name) × Sits members to (target route name)
 
--- a datagram that is to be carried: it comes from who sits in the place that it names as its sender's and has a budget left, and who sits in the other listens
+-- a datagram that is to be carried: it comes from who sits in the place that it names as its sender's and has a budget left, and who sits
+-- in the other listens
 abbrev pub IsServed : ℕ → List (Sender × Seated) → Address → Route → Address → Type 0
-IsServed now members from route to = (mine : Seated) × (seat_of members (record { address = from; lane = route.lane }) ≡ Some mine) × (mine.seat ≡ route.from)
+IsServed now members from route to = (mine : Seated) × (seat_of members (record { address = from; lane = route.lane }) ≡ Some mine)
+    × (mine.seat ≡ route.from)
     × (mine.bucket.full_at + 1_000 ≤ now + 128_000) × Listens now members to (target route mine.name)
 
 -- the sender of a datagram was heard now, and paid for it
@@ -110,8 +117,10 @@ IsPaid now old new sender = (mine : Seated) × (seat_of old sender ≡ Some mine
 abbrev pub IsLost : ℕ → List (Sender × Seated) → Address → Route → Cause → Type 0
 IsLost now members from route Unknown = ⊥
 IsLost now members from route Stranger = (name : ℕ) → Sits members from (origin route name) → ⊥
-IsLost now members from route Nobody = (name : ℕ) × Sits members from (origin route name) × ((to : Address) → Listens now members to (target route name) → ⊥)
-IsLost now members from route TooFast = (mine : Seated) × (seat_of members (record { address = from; lane = route.lane }) ≡ Some mine) × (mine.seat ≡ route.from)
+IsLost now members from route Nobody = (name : ℕ) × Sits members from (origin route name)
+    × ((to : Address) → Listens now members to (target route name) → ⊥)
+IsLost now members from route TooFast = (mine : Seated) × (seat_of members (record { address = from; lane = route.lane }) ≡ Some mine)
+    × (mine.seat ≡ route.from)
     × (now + 128_000 < mine.bucket.full_at + 1_000)
 IsLost now members from route Crowd = ⊥
 
@@ -123,7 +132,8 @@ Expels now old new = (other : Sender) (seated : Seated) →
 
 -- others who were heard in the last 3 seconds stay as they are, but for one in this place
 abbrev pub Moves : ℕ → Address → Place → List (Sender × Seated) → List (Sender × Seated) → Type 0
-Moves now address place old new = (other : Sender) (seated : Seated) → (other.address ≡ address → ⊥) → seat_of old other ≡ Some seated → now < seated.heard + 3_000_000
+Moves now address place old new = (other : Sender) (seated : Seated) → (other.address ≡ address → ⊥) → seat_of old other ≡ Some seated
+    → now < seated.heard + 3_000_000
     → (place_of other seated ≡ place → ⊥) → seat_of new other ≡ Some seated
 
 -- What an address was told, and what holds then: it sits in the place, and was heard now; or another address does, and was heard in

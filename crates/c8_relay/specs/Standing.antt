@@ -55,7 +55,8 @@ IsReplied (Dropped cause) = ⊥
 -- A datagram goes from who sits in the place that it names as its sender's to who sits in the other one, in one room, and its
 -- sender pays; or it goes to nobody, for its cause.
 abbrev pub IsRouted : ℕ → Address → Route → Standing → Standing → Fate → Type 0
-IsRouted now from route old new (Forward to) = Shares old.members from route to × IsPaid now old.members new.members (record { address = from; lane = route.lane })
+IsRouted now from route old new (Forward to) =
+    Shares old.members from route to × IsPaid now old.members new.members (record { address = from; lane = route.lane })
 IsRouted now from route old new (Answer answer) = ⊥
 IsRouted now from route old new (Dropped cause) = IsLost now old.members from route cause
 

@@ -1,5 +1,6 @@
 -- Which rows the lines of a text of keys spell.
-use Rattle.std.proofs.Common.{◌≡◌, ◌≢◌, ℕ, zero, suc, ◌+◌, ◌-◌, ◌/◌, ◌%◌, ◌^◌, ◌≤◌, ◌<◌, ◌==◌, true, false, ◌&&◌, None, Some, Ok, List, [], ◌∷◌, ◌++◌, length, map, take, slice_index, if◌then◌else◌, refl, ap, sym, subst, ◌∙◌, arith}
+use Rattle.std.proofs.Common.{◌≡◌, ◌≢◌, ℕ, zero, suc, ◌+◌, ◌-◌, ◌/◌, ◌%◌, ◌^◌, ◌≤◌, ◌<◌, ◌==◌, true, false, ◌&&◌, None, Some, Ok, List, [],
+  ◌∷◌, ◌++◌, length, map, take, slice_index, if◌then◌else◌, refl, ap, sym, subst, ◌∙◌, arith}
 use Rattle.std.specs.Prelude.{is_ok}
 use Rattle.std.proofs.lemmas.Bool.{lt-leb, ne_eqb}
 use Rattle.std.proofs.lemmas.List.{append_assoc, append-nil, length-append}
@@ -56,7 +57,8 @@ plain_at d within = ne_eqb (slice_index lower_digits d) 10 (not_feed (slice_inde
 
 all_four : (a b c d : ℕ) → IsPlain a → IsPlain b → IsPlain c → IsPlain d → All IsPlain (a ∷ b ∷ c ∷ d ∷ [])
 all_four a b c d first second third fourth =
-    All-cons IsPlain a (b ∷ c ∷ d ∷ []) first (All-cons IsPlain b (c ∷ d ∷ []) second (All-cons IsPlain c (d ∷ []) third (All-cons IsPlain d [] fourth (All-nil IsPlain))))
+    All-cons IsPlain a (b ∷ c ∷ d ∷ []) first
+        (All-cons IsPlain b (c ∷ d ∷ []) second (All-cons IsPlain c (d ∷ []) third (All-cons IsPlain d [] fourth (All-nil IsPlain))))
 
 two_bytes : (high low : ℕ) → high < 256 → low < 256 → IsBytes (high ∷ low ∷ [])
 two_bytes high low first second zero = first
@@ -81,8 +83,10 @@ digits_of n fits =
       spelled = ap is_ok back;
       number = ap (λ r. from_be_bytes w16 (result_unwrap_or r [])) back ∙ from_be_bytes-to_be_bytes_2 n fits;
       plain =
-          all_four (slice_index lower_digits (high / 16)) (slice_index lower_digits (high % 16)) (slice_index lower_digits (low / 16)) (slice_index lower_digits (low % 16))
-          (plain_at (high / 16) (omega arith)) (plain_at (high % 16) (omega arith)) (plain_at (low / 16) (omega arith)) (plain_at (low % 16) (omega arith));
+          all_four (slice_index lower_digits (high / 16)) (slice_index lower_digits (high % 16)) (slice_index lower_digits (low / 16))
+              (slice_index lower_digits (low % 16))
+          (plain_at (high / 16) (omega arith)) (plain_at (high % 16) (omega arith)) (plain_at (low / 16) (omega arith))
+              (plain_at (low % 16) (omega arith));
       end = not_return (slice_index lower_digits (low % 16)) (low % 16) (IsDigits-lower_digits (low % 16) (omega arith));
     }
 
@@ -138,12 +142,14 @@ of_three a b c fits_a fits_b fits_c =
     let line : List ℕ = xs ++ 32 ∷ (ys ++ 32 ∷ zs) in
     let is : line_of 3 (four a b c 0) ≡ line = λ i. x.text_is i ++ 32 ∷ (y.text_is i ++ 32 ∷ z.text_is i) in
     let good : is_key_line 3 line ≡ true =
-    ap (λ p. p && (is_keys_text ys && (is_keys_text zs && true))) x.spelled ∙ ap (λ p. p && (is_keys_text zs && true)) y.spelled ∙ ap (λ p. p && true) z.spelled in
+    ap (λ p. p && (is_keys_text ys && (is_keys_text zs && true))) x.spelled ∙ ap (λ p. p && (is_keys_text zs && true)) y.spelled
+        ∙ ap (λ p. p && true) z.spelled in
     let row_is : row_of 3 line ≡ four a b c 0 = λ i. four (x.number i) (y.number i) (z.number i) 0 in
     subst (SpellsAs 3 (four a b c 0)) (sym is) (record {
       good = good;
       row_is = row_is;
-      plain = All-append IsPlain xs (32 ∷ (ys ++ 32 ∷ zs)) x.plain (All-cons IsPlain 32 (ys ++ 32 ∷ zs) refl (All-append IsPlain ys (32 ∷ zs) y.plain (All-cons IsPlain 32 zs refl z.plain)));
+      plain = All-append IsPlain xs (32 ∷ (ys ++ 32 ∷ zs)) x.plain
+          (All-cons IsPlain 32 (ys ++ 32 ∷ zs) refl (All-append IsPlain ys (32 ∷ zs) y.plain (All-cons IsPlain 32 zs refl z.plain)));
       whole = unstripped line z.d refl z.end;
     })
 
@@ -161,7 +167,8 @@ of_four a b c d fits_a fits_b fits_c fits_d =
     let line : List ℕ = xs ++ 32 ∷ (ys ++ 32 ∷ (zs ++ 32 ∷ ws)) in
     let is : line_of 4 (four a b c d) ≡ line = λ i. x.text_is i ++ 32 ∷ (y.text_is i ++ 32 ∷ (z.text_is i ++ 32 ∷ w.text_is i)) in
     let good : is_key_line 4 line ≡ true =
-    ap (λ p. p && (is_keys_text ys && (is_keys_text zs && (is_keys_text ws && true)))) x.spelled ∙ ap (λ p. p && (is_keys_text zs && (is_keys_text ws && true))) y.spelled
+    ap (λ p. p && (is_keys_text ys && (is_keys_text zs && (is_keys_text ws && true)))) x.spelled
+        ∙ ap (λ p. p && (is_keys_text zs && (is_keys_text ws && true))) y.spelled
     ∙ ap (λ p. p && (is_keys_text ws && true)) z.spelled ∙ ap (λ p. p && true) w.spelled in
     let row_is : row_of 4 line ≡ four a b c d = λ i. four (x.number i) (y.number i) (z.number i) (w.number i) in
     subst (SpellsAs 4 (four a b c d)) (sym is) (record {
@@ -169,15 +176,19 @@ of_four a b c d fits_a fits_b fits_c fits_d =
       row_is = row_is;
       plain =
           All-append IsPlain xs (32 ∷ (ys ++ 32 ∷ (zs ++ 32 ∷ ws))) x.plain (All-cons IsPlain 32 (ys ++ 32 ∷ (zs ++ 32 ∷ ws)) refl
-          (All-append IsPlain ys (32 ∷ (zs ++ 32 ∷ ws)) y.plain (All-cons IsPlain 32 (zs ++ 32 ∷ ws) refl (All-append IsPlain zs (32 ∷ ws) z.plain (All-cons IsPlain 32 ws refl w.plain)))));
+          (All-append IsPlain ys (32 ∷ (zs ++ 32 ∷ ws)) y.plain
+              (All-cons IsPlain 32 (zs ++ 32 ∷ ws) refl (All-append IsPlain zs (32 ∷ ws) z.plain (All-cons IsPlain 32 ws refl w.plain)))));
       whole = unstripped line w.d refl w.end;
     })
 
-of_any : (players a b c d : ℕ) → 2 ≤ players → players ≤ 4 → All IsSet (take players (four a b c d).sets) → (players < 3 → c ≡ 0) → (players < 4 → d ≡ 0) → SpellsRow players (four a b c d)
+of_any : (players a b c d : ℕ) → 2 ≤ players → players ≤ 4 → All IsSet (take players (four a b c d).sets) → (players < 3 → c ≡ 0)
+    → (players < 4 → d ≡ 0) → SpellsRow players (four a b c d)
 of_any zero a b c d least most fits third fourth = absurd (omega (arith, least))
 of_any (suc zero) a b c d least most fits third fourth = absurd (omega (arith, least))
-of_any (suc (suc zero)) a b c d least most fits third fourth = rw (third (omega arith), fourth (omega arith)) (of_two a b (fits 0 none (omega arith)) (fits 1 none (omega arith)))
-of_any (suc (suc (suc zero))) a b c d least most fits third fourth = rw (fourth (omega arith)) (of_three a b c (fits 0 none (omega arith)) (fits 1 none (omega arith)) (fits 2 none (omega arith)))
+of_any (suc (suc zero)) a b c d least most fits third fourth =
+    rw (third (omega arith), fourth (omega arith)) (of_two a b (fits 0 none (omega arith)) (fits 1 none (omega arith)))
+of_any (suc (suc (suc zero))) a b c d least most fits third fourth =
+    rw (fourth (omega arith)) (of_three a b c (fits 0 none (omega arith)) (fits 1 none (omega arith)) (fits 2 none (omega arith)))
 of_any (suc (suc (suc (suc zero)))) a b c d least most fits third fourth =
     of_four a b c d (fits 0 none (omega arith)) (fits 1 none (omega arith)) (fits 2 none (omega arith)) (fits 3 none (omega arith))
 of_any (suc (suc (suc (suc (suc more))))) a b c d least most fits third fourth = absurd (omega (arith, most))
@@ -191,14 +202,16 @@ abbrev settled : KnownValue → ℕ → ℕ → ℕ
 settled k frame q = or_empty (input_of (player_in k q) frame)
 
 -- the line of a row that is known spells it
-pub known_row : (k : KnownValue) (frame players : ℕ) → length k.players ≡ players → 2 ≤ players → players ≤ 4 → All IsSet (take players (row k frame).sets) → SpellsRow players (row k frame)
+pub known_row : (k : KnownValue) (frame players : ℕ) → length k.players ≡ players → 2 ≤ players → players ≤ 4
+    → All IsSet (take players (row k frame).sets) → SpellsRow players (row k frame)
 known_row k frame players all least most fits =
     of_any players (settled k frame 1) (settled k frame 2) (settled k frame 3) (settled k frame 4) least most fits
     (λ few. absent k 3 frame (omega (arith, all, few))) (λ few. absent k 4 frame (omega (arith, all, few)))
 
 -- ---- the lines of all rows
 
-first_part : (part : List ℕ) (parts : List (List ℕ)) → 1 ≤ length parts → lines_of_parts (part ∷ parts) ≡ strip_carriage_return part ∷ lines_of_parts parts
+first_part : (part : List ℕ) (parts : List (List ℕ)) → 1 ≤ length parts
+    → lines_of_parts (part ∷ parts) ≡ strip_carriage_return part ∷ lines_of_parts parts
 first_part part [] some = absurd (omega (arith, some))
 first_part part (next ∷ more) some = refl
 
@@ -206,7 +219,8 @@ first_line : (line rest : List ℕ) → All IsPlain line → strip_carriage_retu
 first_line line rest plain whole =
     let split : slice_split (λ b. b == 10) ((line ++ 10 ∷ []) ++ rest) ≡ line ∷ slice_split (λ b. b == 10) rest =
     ap (slice_split (λ b. b == 10)) (append_assoc line (10 ∷ []) rest) ∙ slice_split_at (λ b. b == 10) line 10 rest plain refl in
-    ap lines_of_parts split ∙ first_part line (slice_split (λ b. b == 10) rest) (omega (arith, length-slice_split (λ b. b == 10) rest)) ∙ ap (λ l. l ∷ lines rest) whole
+    ap lines_of_parts split ∙ first_part line (slice_split (λ b. b == 10) rest) (omega (arith, length-slice_split (λ b. b == 10) rest))
+        ∙ ap (λ l. l ∷ lines rest) whole
 
 lines_are : (players : ℕ) (rows : List Row) → All (SpellsRow players) rows → lines (keys_text players rows) ≡ map (line_of players) rows
 lines_are players [] all = refl
@@ -223,10 +237,12 @@ rows_back players (one ∷ rows) all =
     λ i. here.row_is i ∷ rest i
 
 -- a key line with a frame left for it has no fault
-good_line : (rules : Rules) (before : List (List ℕ)) (line : List ℕ) → length before < rules.frames → is_key_line rules.players line ≡ true → key_line_fault rules before line ≡ None
+good_line : (rules : Rules) (before : List (List ℕ)) (line : List ℕ) → length before < rules.frames → is_key_line rules.players line ≡ true
+    → key_line_fault rules before line ≡ None
 good_line rules before line left good = rw (lt-leb rules.frames (length before) left, good) refl
 
-faultless_after : (rules : Rules) (before : List (List ℕ)) (rows : List Row) → AreFaultless (key_line_fault rules) before → length before + length rows ≤ rules.frames → All (SpellsRow rules.players) rows
+faultless_after : (rules : Rules) (before : List (List ℕ)) (rows : List Row) → AreFaultless (key_line_fault rules) before
+    → length before + length rows ≤ rules.frames → All (SpellsRow rules.players) rows
     → AreFaultless (key_line_fault rules) (before ++ map (line_of rules.players) rows)
 faultless_after rules before [] faultless few all = rw (append-nil before) faultless
 faultless_after rules before (one ∷ rows) faultless few all =
@@ -234,13 +250,16 @@ faultless_after rules before (one ∷ rows) faultless few all =
     let here = All-head (SpellsRow rules.players) one rows all in
     let more = faultless_more (key_line_fault rules) before line faultless (good_line rules before line (omega (arith, few)) here.good) in
     subst (AreFaultless (key_line_fault rules)) (append_assoc before (line ∷ []) (map (line_of rules.players) rows))
-    (faultless_after rules (before ++ line ∷ []) rows more (omega (arith, few, length-append before (line ∷ []))) (All-tail (SpellsRow rules.players) one rows all))
+    (faultless_after rules (before ++ line ∷ []) rows more (omega (arith, few, length-append before (line ∷ [])))
+        (All-tail (SpellsRow rules.players) one rows all))
 
-pub spell_rows : (rules : Rules) (rows : List Row) → length rows ≤ rules.frames → All (SpellsRow rules.players) rows → SpellRows rules (keys_text rules.players rows) rows
+pub spell_rows : (rules : Rules) (rows : List Row) → length rows ≤ rules.frames → All (SpellsRow rules.players) rows
+    → SpellRows rules (keys_text rules.players rows) rows
 spell_rows rules rows few all =
     let are = lines_are rules.players rows all in
     record {
-      faultless = subst (AreFaultless (key_line_fault rules)) (sym are) (faultless_after rules [] rows (faultless_none (key_line_fault rules)) (omega (arith, few)) all);
+      faultless = subst (AreFaultless (key_line_fault rules)) (sym are)
+          (faultless_after rules [] rows (faultless_none (key_line_fault rules)) (omega (arith, few)) all);
       rows_are = ap (map (row_of rules.players)) are ∙ rows_back rules.players rows all;
     }
 
@@ -252,13 +271,16 @@ row_more k n = map-range_with_len_more (row k) 0 n n (omega arith)
 pub length-rows : (k : KnownValue) (n : ℕ) → length (rows_below k n) ≡ n
 length-rows k n = length-map-range_with_len (row k) 0 n
 
-pub text_more : (players : ℕ) (k : KnownValue) (n : ℕ) → keys_text players (rows_below k (n + 1)) ≡ keys_text players (rows_below k n) ++ (line_of players (row k n) ++ 10 ∷ [])
+pub text_more : (players : ℕ) (k : KnownValue) (n : ℕ)
+    → keys_text players (rows_below k (n + 1)) ≡ keys_text players (rows_below k n) ++ (line_of players (row k n) ++ 10 ∷ [])
 text_more players k n =
     ap (keys_text players) (row_more k n) ∙ flat_map-append (λ r. line_of players r ++ 10 ∷ []) (rows_below k n) (row k n ∷ [])
     ∙ ap (λ more. keys_text players (rows_below k n) ++ more) (append-nil (line_of players (row k n) ++ 10 ∷ []))
 
-pub spell_more : (players : ℕ) (k : KnownValue) (n : ℕ) → All (SpellsRow players) (rows_below k n) → SpellsRow players (row k n) → All (SpellsRow players) (rows_below k (n + 1))
-spell_more players k n all here = subst (All (SpellsRow players)) (sym (row_more k n)) (All-push (SpellsRow players) (rows_below k n) (row k n) all here)
+pub spell_more : (players : ℕ) (k : KnownValue) (n : ℕ) → All (SpellsRow players) (rows_below k n) → SpellsRow players (row k n)
+    → All (SpellsRow players) (rows_below k (n + 1))
+spell_more players k n all here = subst (All (SpellsRow players)) (sym (row_more k n))
+    (All-push (SpellsRow players) (rows_below k n) (row k n) all here)
 
 -- a player's ticks are frames of the game, and so are the confirmed ones
 pub few_rows : (rules : Rules) (k : KnownValue) (n : ℕ) → IsKnown k → IsOfGame rules k.me k → n ≤ confirmed k → n ≤ rules.frames

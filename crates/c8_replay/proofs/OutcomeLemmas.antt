@@ -11,7 +11,9 @@ use Rattle.c8_replay.specs.declared.arguments.Wish.{Wish}
 use Rattle.c8_replay.specs.declared.error.ReplayFault.{ReplayFault}
 use Rattle.c8_replay.specs.declared.showing.Shown.{Shown}
 
-pub outcome_of : (game image : List ℕ) (wish : Wish) (read : Result Rules GameError) (outcome : Result Shown ReplayFault) → IfOk read (λ rules. Spells game rules)
-    → IfErr read (λ error. (error ≡ games.Memory) ⊎ IsRefused game error) → IsOutcomeOfRead read image wish outcome → IsOutcome game image wish outcome
+pub outcome_of : (game image : List ℕ) (wish : Wish) (read : Result Rules GameError) (outcome : Result Shown ReplayFault)
+    → IfOk read (λ rules. Spells game rules)
+    → IfErr read (λ error. (error ≡ games.Memory) ⊎ IsRefused game error) → IsOutcomeOfRead read image wish outcome
+    → IsOutcome game image wish outcome
 outcome_of game image wish (Ok rules) outcome spells refused is = inl (rules, spells, is)
 outcome_of game image wish (Err error) outcome spells refused is = inr (error, refused, is)

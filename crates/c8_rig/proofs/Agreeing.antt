@@ -20,7 +20,8 @@ use Rattle.c8_rig.specs.Gathered.{HaveAgreedOrNot}
 use Rattle.c8_rig.specs.Rigged.{states_of}
 
 abbrev pub AgreeInWorlds : Type 0
-AgreeInWorlds = (rules : Rules) (room : ℕ) (w : World) (reads : Reads) (p r : ℕ) → AreInRange rules → room < 2 ^ 64 → IsReached rules room w → IsPlayer rules p → IsPlayer rules r → AgreeByReads rules w reads p r
+AgreeInWorlds = (rules : Rules) (room : ℕ) (w : World) (reads : Reads) (p r : ℕ) → AreInRange rules → room < 2 ^ 64 → IsReached rules room w
+    → IsPlayer rules p → IsPlayer rules r → AgreeByReads rules w reads p r
 
 abbrev pub ArePeersOf : Rules → List (PeerValue MemDisk) → Type 0
 ArePeersOf rules peers = (i : ℕ) (q : PeerValue MemDisk) → slice_get peers i ≡ Some q → IsPeerOf rules (i + 1) q
@@ -33,7 +34,8 @@ mapped : {X Y : Type 0} (f : X → Y) (o : Option X) (y : Y) → Some y ≡ opti
 mapped f None y e = absurd cc
 mapped f (Some x) y e = (x, refl, cc)
 
-module _ (law : AgreeInWorlds) (rules : Rules) (log : List NoteValue) (peers : List (PeerValue MemDisk)) (range : AreInRange rules) (size : length peers ≡ rules.players) (plays : ArePeersOf rules peers)
+module _ (law : AgreeInWorlds) (rules : Rules) (log : List NoteValue) (peers : List (PeerValue MemDisk)) (range : AreInRange rules)
+    (size : length peers ≡ rules.players) (plays : ArePeersOf rules peers)
     (is : IsWorld rules 0 log (states_of peers)) where
   abbrev journal : ℕ → List Record
   journal p = (peer_of is.world p).journal
@@ -47,8 +49,10 @@ module _ (law : AgreeInWorlds) (rules : Rules) (log : List NoteValue) (peers : L
       let within = slice_get_within peers i q at in
       let place : i + 1 - 1 ≡ i = omega arith in
       let state : q.state ≡ peer_of is.world (i + 1) =
-      ap (λ (x : PeerValue MemDisk). x.state) (sym (get_or_from_slice_get peers i q q at)) ∙ sym (get_or-map (λ (x : PeerValue MemDisk). x.state) peers i q never_opened within)
-      ∙ ap (λ (j : ℕ). slice_index_or (map (λ (x : PeerValue MemDisk). x.state) peers) j never_opened) (sym place) ∙ sym (is.peers (i + 1) (player_at i within)) in
+      ap (λ (x : PeerValue MemDisk). x.state) (sym (get_or_from_slice_get peers i q q at))
+          ∙ sym (get_or-map (λ (x : PeerValue MemDisk). x.state) peers i q never_opened within)
+      ∙ ap (λ (j : ℕ). slice_index_or (map (λ (x : PeerValue MemDisk). x.state) peers) j never_opened) (sym place)
+      ∙ sym (is.peers (i + 1) (player_at i within)) in
       let one = plays i q at in
       λ k. known_of (one.rules_are k) (one.me_is k) (state k).journal
 
@@ -59,7 +63,8 @@ module _ (law : AgreeInWorlds) (rules : Rules) (log : List NoteValue) (peers : L
     known_here : (i : ℕ) (one : Standing) → slice_get standings i ≡ Some one → known_at one ≡ known_of rules (i + 1) (journal (i + 1))
     known_here i one at =
         let a = mapped known_by (slice_get peers i) (known_at one)
-        (sym (ap (option_map known_at) at) ∙ sym (slice_get-map known_at standings i) ∙ ap (λ (ks : List KnownValue). slice_get ks i) known ∙ slice_get-map known_by peers i) in
+        (sym (ap (option_map known_at) at) ∙ sym (slice_get-map known_at standings i) ∙ ap (λ (ks : List KnownValue). slice_get ks i) known
+            ∙ slice_get-map known_by peers i) in
         a.2 ∙ known_there i a.0 a.1
 
     stayed : (i : ℕ) (one : Standing) → slice_get standings i ≡ Some one → HasStayedAt standings i → has_leave (i + 1) (journal 1) ≡ false
@@ -68,16 +73,19 @@ module _ (law : AgreeInWorlds) (rules : Rules) (log : List NoteValue) (peers : L
         let plays_here = player_at i (omega (arith, within, as_many)) in
         let first = slice_get-get_or standings 0 one (omega (arith, within)) in
         sym (ap (λ (x : PlayerValue). x.leaving) (player_known rules 1 (i + 1) (journal 1) plays_here.from_one plays_here.in_game))
-        ∙ sym (ap (λ (k : KnownValue). (player_in k (i + 1)).leaving) (known_here 0 (slice_index_or standings 0 one) first)) ∙ stays (slice_index_or standings 0 one) first
+        ∙ sym (ap (λ (k : KnownValue). (player_in k (i + 1)).leaving) (known_here 0 (slice_index_or standings 0 one) first))
+        ∙ stays (slice_index_or standings 0 one) first
 
     all_agreed : HaveAgreed standings
     all_agreed i i_within j j_within i_stays j_stays one other i_at j_at =
         let reached : IsReached rules 0 is.world = record { events = map event_of log; answers = is.goes.answers; chain = is.goes.chain } in
         let a = known_of rules (i + 1) (journal (i + 1)) in
         let b = known_of rules (j + 1) (journal (j + 1)) in
-        let same = law rules 0 is.world none_is_read (i + 1) (j + 1) range (omega arith) reached (player_at i (omega (arith, i_within, as_many))) (player_at j (omega (arith, j_within, as_many)))
+        let same = law rules 0 is.world none_is_read (i + 1) (j + 1) range (omega arith) reached
+            (player_at i (omega (arith, i_within, as_many))) (player_at j (omega (arith, j_within, as_many)))
         (stayed i one i_at i_stays) (stayed j other j_at j_stays) (both a b) (omega arith) (omega arith) in
-        subst (λ (k : KnownValue). AreSameRows k (known_at other)) (sym (known_here i one i_at)) (subst (λ (k : KnownValue). AreSameRows a k) (sym (known_here j other j_at)) same.rows)
+        subst (λ (k : KnownValue). AreSameRows k (known_at other)) (sym (known_here i one i_at))
+            (subst (λ (k : KnownValue). AreSameRows a k) (sym (known_here j other j_at)) same.rows)
 
   pub agreed : (agree : Bool) → HaveAgreedOrNot peers agree → agree ≡ true
   agreed agree told = told.2.1 (all_agreed told.0 told.1)

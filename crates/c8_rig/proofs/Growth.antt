@@ -17,7 +17,8 @@ abbrev GoesBeyond : List NoteValue → List NoteValue → List NoteValue → Not
 GoesBeyond log front rest n m = (more : List NoteValue) × (log ≡ front ++ m ∷ more)
 
 -- a note in a list that ends with another note is that last one, or stands before it
-last_or_before : (log front rest : List NoteValue) (n m : NoteValue) → log ++ n ∷ [] ≡ front ++ m ∷ rest → Ends log front rest n m ⊎ GoesBeyond log front rest n m
+last_or_before : (log front rest : List NoteValue) (n m : NoteValue) → log ++ n ∷ [] ≡ front ++ m ∷ rest
+    → Ends log front rest n m ⊎ GoesBeyond log front rest n m
 last_or_before [] [] rest n m e = inl (refl, cc)
 last_or_before [] (x ∷ []) rest n m e = absurd cc
 last_or_before [] (x ∷ y ∷ front) rest n m e = absurd cc
@@ -30,7 +31,8 @@ last_or_before (y ∷ log) (x ∷ front) rest n m e =
     (λ (b : GoesBeyond log front rest n m). inr (b.0, λ i. head i ∷ b.1 i))
     (last_or_before log front rest n m tail)
 
-pub lawful_with : (players : ℕ) (log : List NoteValue) (n : NoteValue) → IsLawful players log → MayFollow players log n → IsLawful players (log ++ n ∷ [])
+pub lawful_with : (players : ℕ) (log : List NoteValue) (n : NoteValue) → IsLawful players log → MayFollow players log n
+    → IsLawful players (log ++ n ∷ [])
 lawful_with players log n lawful may front rest m e =
     ⊎_elim
     (λ (l : Ends log front rest n m). subst (λ (x : List NoteValue × NoteValue). MayFollow players x.0 x.1) (λ i. (l.0 i, l.1 i)) may)
@@ -55,14 +57,17 @@ short_said most (Seen watcher) bytes few = λ k d none. absurd (omega (arith, no
 short_said most (Fresh watcher) bytes few = λ k d none. absurd (omega (arith, none))
 
 -- what the book holds with one more note
-pub book_with : (players most : ℕ) (log log' : List NoteValue) (said said' : List (List ℕ)) (n : NoteValue) → log' ≡ log ++ n ∷ [] → said' ≡ said ++ said_in n.act n.bytes
+pub book_with : (players most : ℕ) (log log' : List NoteValue) (said said' : List (List ℕ)) (n : NoteValue) → log' ≡ log ++ n ∷ []
+    → said' ≡ said ++ said_in n.act n.bytes
     → said ≡ said_by log → All (λ bytes. length bytes ≤ most) said → IsLawful players log
     → 1 ≤ player_of n.act → player_of n.act ≤ players → WasSaid (said_by log) n.act n.bytes → length n.bytes ≤ most
     → (said' ≡ said_by log') × All (λ bytes. length bytes ≤ most) said' × IsLawful players log'
 book_with players most log log' said said' n more also is short lawful from_one in_game was few = (
   also ∙ ap (λ (x : List (List ℕ)). x ++ said_in n.act n.bytes) is ∙ sym (said_with log n) ∙ ap said_by (sym more),
-  subst (λ (x : List (List ℕ)). All (λ bytes. length bytes ≤ most) x) (sym also) (All-append (λ bytes. length bytes ≤ most) said (said_in n.act n.bytes) short (short_said most n.act n.bytes few)),
-  subst (λ (x : List NoteValue). IsLawful players x) (sym more) (lawful_with players log n lawful (record { from_one = from_one; in_game = in_game; was_said = was })),
+  subst (λ (x : List (List ℕ)). All (λ bytes. length bytes ≤ most) x) (sym also)
+      (All-append (λ bytes. length bytes ≤ most) said (said_in n.act n.bytes) short (short_said most n.act n.bytes few)),
+  subst (λ (x : List NoteValue). IsLawful players x) (sym more)
+      (lawful_with players log n lawful (record { from_one = from_one; in_game = in_game; was_said = was })),
 )
 
 -- ---- a draw
@@ -94,13 +99,16 @@ silent_part p (n ∷ log) e =
       | inr apart ↦ rw (ne_eqb (player_of n.act) p apart) (silent_part p log parts.1)
     ]
 
-pub nobody_said : (p : ℕ) (log notes : List NoteValue) (said : List (List ℕ)) → length said ≡ 0 → said ≡ said_by log → notes ≡ part_of p log → said_by notes ≡ []
+pub nobody_said : (p : ℕ) (log notes : List NoteValue) (said : List (List ℕ)) → length said ≡ 0 → said ≡ said_by log → notes ≡ part_of p log
+    → said_by notes ≡ []
 nobody_said p log notes said none is part = ap said_by part ∙ silent_part p log (sym is ∙ nothing said none)
 
 -- a copy of the packet at a place
-pub picked : (said pool : List (List ℕ)) (number : ℕ) (packet : List ℕ) → pool ≡ said → number < length pool → packet ≡ slice_index_or pool number packet → slice_get said number ≡ Some packet
+pub picked : (said pool : List (List ℕ)) (number : ℕ) (packet : List ℕ) → pool ≡ said → number < length pool
+    → packet ≡ slice_index_or pool number packet → slice_get said number ≡ Some packet
 picked said pool number packet is within at =
-    subst (λ (x : List (List ℕ)). slice_get x number ≡ Some packet) is (slice_get-get_or pool number packet within ∙ ap (λ (x : List ℕ). Some x) (sym at))
+    subst (λ (x : List (List ℕ)). slice_get x number ≡ Some packet) is
+        (slice_get-get_or pool number packet within ∙ ap (λ (x : List ℕ). Some x) (sym at))
 
 -- what is copied to the front of a buffer is there
 pub copied : (bytes front rest : List ℕ) → front ≡ bytes → take (length bytes) (front ++ rest) ≡ bytes

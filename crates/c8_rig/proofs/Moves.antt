@@ -1,5 +1,6 @@
 -- Each step keeps the ether's rule.
-use Rattle.std.proofs.Common.{◌≡◌, ◌≢◌, ◌⊎◌, ◌≤◌, ℕ, zero, suc, ◌+◌, List, [], ◌∷◌, ◌++◌, length, set, refl, sym, ap, ◌∙◌, subst, inl, inr, ⊎_elim, append-nil, arith}
+use Rattle.std.proofs.Common.{◌≡◌, ◌≢◌, ◌⊎◌, ◌≤◌, ℕ, zero, suc, ◌+◌, List, [], ◌∷◌, ◌++◌, length, set, refl, sym, ap, ◌∙◌, subst, inl, inr,
+  ⊎_elim, append-nil, arith}
 use Rattle.std.specs.Prelude.{◌==◌}
 use Rattle.std.proofs.lemmas.Bool.{eq-eqb, ne_eqb}
 use Rattle.std.proofs.lemmas.List.Elements.{filter-append}
@@ -15,7 +16,8 @@ use Rattle.c8_rig.specs.checked.Rule.{Fits, Owns, Keeps, Compares}
 
 -- ---- parts of a longer log
 
-pub part_with : (note : NoteValue) (log : List NoteValue) → part_of (player_of note.act) (log ++ note ∷ []) ≡ part_of (player_of note.act) log ++ note ∷ []
+pub part_with : (note : NoteValue) (log : List NoteValue)
+    → part_of (player_of note.act) (log ++ note ∷ []) ≡ part_of (player_of note.act) log ++ note ∷ []
 part_with note log =
     filter-append (λ (n : NoteValue). player_of n.act == player_of note.act) log (note ∷ [])
     ∙ ap (λ (more : List NoteValue). part_of (player_of note.act) log ++ more) (rw (eq-eqb (player_of note.act) (player_of note.act) refl) refl)
@@ -34,19 +36,23 @@ abbrev AreAlone : List View → Type 0
 AreAlone views = (p a b : ℕ) (v w : View) → get_elem? views a ≡ some v → get_elem? views b ≡ some w → Owns p v → Owns p w → a ≡ b
 
 fit_set : (players : ℕ) (log : List NoteValue) (views : List View) (id : ℕ) (w : View)
-    → ((seat : ℕ) (v : View) → seat ≢ id → get_elem? views seat ≡ some v → Fits players log seat v) → Fits players log id w → AllFit players log (set views id w)
+    → ((seat : ℕ) (v : View) → seat ≢ id → get_elem? views seat ≡ some v → Fits players log seat v) → Fits players log id w
+    → AllFit players log (set views id w)
 fit_set players log views id w others mine seat v e =
     ⊎_elim
     (λ (x : (seat ≡ id) × (w ≡ v)). subst (λ (y : ℕ × View). Fits players log y.0 y.1) (λ i. (sym x.0 i, x.1 i)) mine)
     (λ (x : (seat ≢ id) × (get_elem? views seat ≡ some v)). others seat v x.0 x.1)
     (at_set views id seat w v e)
 
-fit_snoc : (players : ℕ) (log : List NoteValue) (views : List View) (w : View) → AllFit players log views → ((seat : ℕ) → Fits players log seat w) → AllFit players log (views ++ w ∷ [])
+fit_snoc : (players : ℕ) (log : List NoteValue) (views : List View) (w : View) → AllFit players log views
+    → ((seat : ℕ) → Fits players log seat w) → AllFit players log (views ++ w ∷ [])
 fit_snoc players log views w others mine seat v e =
-    ⊎_elim (λ (x : get_elem? views seat ≡ some v). others seat v x) (λ (x : w ≡ v). subst (λ (y : View). Fits players log seat y) x (mine seat)) (at_snoc views w v seat e)
+    ⊎_elim (λ (x : get_elem? views seat ≡ some v). others seat v x)
+        (λ (x : w ≡ v). subst (λ (y : View). Fits players log seat y) x (mine seat)) (at_snoc views w v seat e)
 
 -- the last of a list, or one before it
-at_end : (views : List View) (w v : View) (seat : ℕ) → get_elem? (views ++ w ∷ []) seat ≡ some v → (get_elem? views seat ≡ some v) ⊎ ((seat ≡ length views) × (w ≡ v))
+at_end : (views : List View) (w v : View) (seat : ℕ) → get_elem? (views ++ w ∷ []) seat ≡ some v
+    → (get_elem? views seat ≡ some v) ⊎ ((seat ≡ length views) × (w ≡ v))
 at_end [] w v zero e = inr (refl, some-injective w v e)
 at_end [] w v (suc seat) e = absurd (some-ne-none v (sym e))
 at_end (x ∷ views) w v zero e = inl e
@@ -56,12 +62,14 @@ no_owner : (p : ℕ) (v w : View) → w ≡ v → (Owns p w → ⊥) → Owns p 
 no_owner p v w same never owns = never (subst (λ (x : View). Owns p x) (sym same) owns)
 
 -- a view that owns no more than the one it replaces
-alone_set : (views : List View) (id : ℕ) (old w : View) → AreAlone views → get_elem? views id ≡ some old → ((p : ℕ) → Owns p w → Owns p old) → AreAlone (set views id w)
+alone_set : (views : List View) (id : ℕ) (old w : View) → AreAlone views → get_elem? views id ≡ some old → ((p : ℕ) → Owns p w → Owns p old)
+    → AreAlone (set views id w)
 alone_set views id old w alone at no_more p a b v x here there owns also =
     ⊎_elim
     (λ (l : (a ≡ id) × (w ≡ v)). ⊎_elim
     (λ (r : (b ≡ id) × (w ≡ x)). l.0 ∙ sym r.0)
-    (λ (r : (b ≢ id) × (get_elem? views b ≡ some x)). l.0 ∙ alone p id b old x at r.1 (no_more p (subst (λ (y : View). Owns p y) (sym l.1) owns)) also)
+    (λ (r : (b ≢ id) × (get_elem? views b ≡ some x)). l.0
+        ∙ alone p id b old x at r.1 (no_more p (subst (λ (y : View). Owns p y) (sym l.1) owns)) also)
     (at_set views id b w x there))
     (λ (l : (a ≢ id) × (get_elem? views a ≡ some v)). ⊎_elim
     (λ (r : (b ≡ id) × (w ≡ x)). alone p a id v old l.1 at owns (no_more p (subst (λ (y : View). Owns p y) (sym r.1) also)) ∙ sym r.0)
@@ -70,7 +78,8 @@ alone_set views id old w alone at no_more p a b v x here there owns also =
     (at_set views id a w v here)
 
 -- a view that owns what no other does
-alone_snoc : (views : List View) (w : View) → AreAlone views → ((p a : ℕ) (v : View) → get_elem? views a ≡ some v → Owns p v → Owns p w → ⊥) → AreAlone (views ++ w ∷ [])
+alone_snoc : (views : List View) (w : View) → AreAlone views → ((p a : ℕ) (v : View) → get_elem? views a ≡ some v → Owns p v → Owns p w → ⊥)
+    → AreAlone (views ++ w ∷ [])
 alone_snoc views w alone new p a b v x here there owns also =
     ⊎_elim
     (λ (l : get_elem? views a ≡ some v). ⊎_elim
@@ -84,7 +93,8 @@ alone_snoc views w alone new p a b v x here there owns also =
     (at_end views w v a here)
 
 -- a note changes only the views of the keeper and of its player
-others_fit : (players : ℕ) (log : List NoteValue) (note : NoteValue) (seat : ℕ) (v : View) → seat ≢ 0 → (Owns (player_of note.act) v → ⊥) → Fits players log seat v → Fits players (log ++ note ∷ []) seat v
+others_fit : (players : ℕ) (log : List NoteValue) (note : NoteValue) (seat : ℕ) (v : View) → seat ≢ 0 → (Owns (player_of note.act) v → ⊥)
+    → Fits players log seat v → Fits players (log ++ note ∷ []) seat v
 others_fit players log note seat (Keeper n all) apart other fits = absurd (apart fits.0)
 others_fit players log note seat (Both n all p own) apart other fits = absurd (apart fits.0)
 others_fit players log note seat (Own p own) apart other fits = (fits.0, fits.1 ∙ sym (part_without p note log (λ e. other (sym e))))
@@ -148,18 +158,22 @@ module _ {S : Type 0} where
         players = k.players + 1;
         log = k.log;
         fits = fit_snoc (k.players + 1) k.log (set s.views id (Keeper (n + 1) all)) (Own (n + 1) [])
-            (fit_set (k.players + 1) k.log s.views id (Keeper (n + 1) all) (λ seat v apart e. more_fit k.players k.log seat v (λ z. apart (z ∙ sym mine.0)) (k.fits seat v e)) (mine.0, next, mine.2))
+            (fit_set (k.players + 1) k.log s.views id (Keeper (n + 1) all)
+                (λ seat v apart e. more_fit k.players k.log seat v (λ z. apart (z ∙ sym mine.0)) (k.fits seat v e)) (mine.0, next, mine.2))
             (λ seat. (omega (arith, next), sym (k.later (n + 1) (omega (arith, next)))));
-        alone = alone_snoc (set s.views id (Keeper (n + 1) all)) (Own (n + 1) []) (alone_set s.views id (Keeper n all) (Keeper (n + 1) all) k.alone at (λ p never. never))
+        alone = alone_snoc (set s.views id (Keeper (n + 1) all)) (Own (n + 1) [])
+            (alone_set s.views id (Keeper n all) (Keeper (n + 1) all) k.alone at (λ p never. never))
             (λ p a v e owns also. ⊎_elim
             (λ (x : (a ≡ id) × (Keeper (n + 1) all ≡ v)). no_owner p v (Keeper (n + 1) all) x.1 (λ never. never) owns)
-            (λ (x : (a ≢ id) × (get_elem? s.views a ≡ some v)). let few = within k.players k.log a v p (k.fits a v x.1) owns in omega (arith, few, also, next))
+            (λ (x : (a ≢ id) × (get_elem? s.views a ≡ some v)). let few = within k.players k.log a v p (k.fits a v x.1) owns in
+                omega (arith, few, also, next))
             (at_set s.views id a (Keeper (n + 1) all) v e));
         later = λ p more. k.later p (omega (arith, more));
       }
 
   -- the keeper takes in the view of an entry
-  pub joins : (id n : ℕ) (all : List NoteValue) (other p : ℕ) (own : List NoteValue) → Joins {S = S} Keeps id (Keeper n all) other (Own p own) (Both n all p own) Spent
+  pub joins : (id n : ℕ) (all : List NoteValue) (other p : ℕ) (own : List NoteValue)
+      → Joins {S = S} Keeps id (Keeper n all) other (Own p own) (Both n all p own) Spent
   joins id n all other p own s k at apart there =
       let mine = k.fits id (Keeper n all) at in
       let before : get_elem? s.views other ≡ some (Own p own) = ⊎_elim
@@ -171,7 +185,8 @@ module _ {S : Type 0} where
         players = k.players;
         log = k.log;
         fits = fit_set k.players k.log (set s.views id (Both n all p own)) other Spent
-            (λ seat v away e. fit_set k.players k.log s.views id (Both n all p own) (λ seat' v' _ e'. k.fits seat' v' e') (mine.0, mine.1, mine.2, theirs.0, theirs.1) seat v e)
+            (λ seat v away e. fit_set k.players k.log s.views id (Both n all p own) (λ seat' v' _ e'. k.fits seat' v' e')
+                (mine.0, mine.1, mine.2, theirs.0, theirs.1) seat v e)
             tt;
         alone = alone_pair s.views id other n all p own k.alone before;
         later = k.later;
@@ -187,7 +202,8 @@ module _ {S : Type 0} where
         fits = fit_snoc k.players k.log (set s.views id (Keeper n all)) (Own p own)
             (fit_set k.players k.log s.views id (Keeper n all) (λ seat v apart e. k.fits seat v e) (mine.0, mine.1, mine.2))
             (λ seat. (mine.3, mine.4));
-        alone = alone_snoc (set s.views id (Keeper n all)) (Own p own) (alone_set s.views id (Both n all p own) (Keeper n all) k.alone at (λ q never. absurd never))
+        alone = alone_snoc (set s.views id (Keeper n all)) (Own p own)
+            (alone_set s.views id (Both n all p own) (Keeper n all) k.alone at (λ q never. absurd never))
             (λ q a v e owns also. ⊎_elim
             (λ (x : (a ≡ id) × (Keeper n all ≡ v)). no_owner q v (Keeper n all) x.1 (λ never. never) owns)
             (λ (x : (a ≢ id) × (get_elem? s.views a ≡ some v)). x.0 (k.alone q a id v (Both n all p own) x.1 at owns also))
@@ -197,13 +213,15 @@ module _ {S : Type 0} where
 
   -- one more note of the player whose entry joined the keeper
   pub notes : (slots id n : ℕ) (all : List NoteValue) (p : ℕ) (own : List NoteValue) (note : NoteValue) → player_of note.act ≡ p
-      → Allows {S = S} Keeps slots id (Both n all p own, []) 0 (λ word. word) (λ _ after. after ≡ (Both n (all ++ note ∷ []) p (own ++ note ∷ []), []))
+      → Allows {S = S} Keeps slots id (Both n all p own, []) 0 (λ word. word)
+      (λ _ after. after ≡ (Both n (all ++ note ∷ []) p (own ++ note ∷ []), []))
   notes slots id n all p own note of s k homes at room =
       let mine = k.fits id (Both n all p own) at in
       let log : List NoteValue = k.log ++ note ∷ [] in
       let now : View = Both n (all ++ note ∷ []) p (own ++ note ∷ []) in
       let part : own ++ note ∷ [] ≡ part_of p log =
-      ap (λ (notes : List NoteValue). notes ++ note ∷ []) mine.4 ∙ subst (λ (q : ℕ). part_of q k.log ++ note ∷ [] ≡ part_of q log) of (sym (part_with note k.log)) in (
+      ap (λ (notes : List NoteValue). notes ++ note ∷ []) mine.4
+          ∙ subst (λ (q : ℕ). part_of q k.log ++ note ∷ [] ≡ part_of q log) of (sym (part_with note k.log)) in (
         now,
         keeps,
         tt,
@@ -221,7 +239,8 @@ module _ {S : Type 0} where
       )
 
   -- the entry's part is its player's part of the log
-  pub compares : (slots id n : ℕ) (all : List NoteValue) (p : ℕ) (own : List NoteValue) → Allows {S = S} Keeps slots id (Both n all p own, []) 0 (λ word. word) (Compares (Both n all p own, []))
+  pub compares : (slots id n : ℕ) (all : List NoteValue) (p : ℕ) (own : List NoteValue)
+      → Allows {S = S} Keeps slots id (Both n all p own, []) 0 (λ word. word) (Compares (Both n all p own, []))
   compares slots id n all p own s k homes at room =
       let mine = k.fits id (Both n all p own) at in (
         Both n all p own,

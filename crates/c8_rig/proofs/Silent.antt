@@ -20,7 +20,8 @@ use Rattle.c8_peer.specs.State.{Memory, Mode, Open, Down, Away, State, Call, Tic
 use Rattle.c8_peer.specs.Steps.{DiskOutcome, Works, Refuses, refused_by_disk, when_down, outcome, done, at_mode, step}
 use Rattle.c8_check.specs.Checks.{Pieces, frames_of}
 use Rattle.c8_peer.specs.Calls.{tick, leave, decide, next_piece, checkpoint}
-use Rattle.c8_peer.specs.Hearing.{is_of_other_wire, is_desync, unless_misfit, got, cut_or_got, hear_data, hear_welcome, hear_freeze, hear_frozen, hear_end, hear_cut, hear_message, unless_hand, hear_seen, hear_from, seen_in, hear_told}
+use Rattle.c8_peer.specs.Hearing.{is_of_other_wire, is_desync, unless_misfit, got, cut_or_got, hear_data, hear_welcome, hear_freeze,
+  hear_frozen, hear_end, hear_cut, hear_message, unless_hand, hear_seen, hear_from, seen_in, hear_told}
 use Rattle.c8_peer.specs.Opening.{Opening, NoPlayer, Stands, NotWritten, NoMemory, NotRead, Unfit, Spent, opened}
 use Rattle.c8_world.specs.World.{said_by}
 
@@ -46,12 +47,14 @@ leave_silent : (k : KnownValue) (m : Memory) (leaver : ℕ) → IsSilent (leave 
 unfolding leave
 leave_silent k m leaver =
     either IsSilent (not (k.me == 1)) _ _ (silent _ refl) (either IsSilent (leaver == k.me) _ _ (silent _ refl)
-    (either IsSilent (not (is_player k leaver)) _ _ (silent _ refl) (either IsSilent (player_in k leaver).leaving _ _ (silent _ refl) (silent _ refl))))
+    (either IsSilent (not (is_player k leaver)) _ _ (silent _ refl)
+        (either IsSilent (player_in k leaver).leaving _ _ (silent _ refl) (silent _ refl))))
 
 decide_silent : (k : KnownValue) (m : Memory) (leaver : ℕ) → IsSilent (decide k m leaver)
 unfolding decide
 decide_silent k m leaver =
-    either IsSilent (not (k.me == 1) || not (player_in k leaver).leaving) _ _ (silent _ refl) (either IsSilent (is_some (player_in k leaver).cut) _ _ (silent _ refl)
+    either IsSilent (not (k.me == 1) || not (player_in k leaver).leaving) _ _ (silent _ refl)
+        (either IsSilent (is_some (player_in k leaver).cut) _ _ (silent _ refl)
     (either IsSilent (not (is_ready m.chair k leaver)) _ _ (silent _ refl) (silent _ refl)))
 
 -- ---- deliveries
@@ -69,7 +72,8 @@ unfolding hear_data
 data_silent t k m q d =
     either IsSilent (is_from_leaver k q q) _ _ (silent _ refl) (either IsSilent (nat_lt (count_in k k.me) d.ack) _ _ (silent _ refl)
     (misfit_silent m (misfit k q d.start d.words) _
-    (either IsSilent (is_desync t d) _ _ (silent _ refl) (got_silent k (record m { acks = acked_more m.acks q d.ack }) q (fresh_words k q d.start d.words)))))
+    (either IsSilent (is_desync t d) _ _ (silent _ refl)
+        (got_silent k (record m { acks = acked_more m.acks q d.ack }) q (fresh_words k q d.start d.words)))))
 
 welcome_silent : (k : KnownValue) (m : Memory) (head : HeadValue) (ack : ℕ) → IsSilent (hear_welcome k m head ack)
 unfolding hear_welcome
@@ -85,7 +89,8 @@ frozen_silent : (k : KnownValue) (m : Memory) (q : ℕ) (f : LeaverMessage) → 
 unfolding hear_frozen
 frozen_silent k m q f =
     either IsSilent (not (k.me == 1)) _ _ (silent _ refl) (either IsSilent (f.leaver == q || not (is_player k f.leaver)) _ _ (silent _ refl)
-    (either IsSilent (not (player_in k f.leaver).leaving) _ _ (silent _ refl) (either IsSilent (is_some (player_in k f.leaver).cut) _ _ (silent _ refl)
+    (either IsSilent (not (player_in k f.leaver).leaving) _ _ (silent _ refl)
+        (either IsSilent (is_some (player_in k f.leaver).cut) _ _ (silent _ refl)
     (either IsSilent (nat_lt k.limit f.length) _ _ (silent _ refl)
     (misfit_silent m (misfit k f.leaver f.start f.words) _
     (got_silent k (record m { chair = with_report m.chair f.leaver q f.length }) f.leaver (fresh_words k f.leaver f.start f.words)))))))
@@ -106,7 +111,8 @@ cut_silent k m q c =
     (either IsSilent (not (is_player k c.leaver)) _ _ (silent _ refl) (either IsSilent (not (player_in k c.leaver).frozen) _ _ (silent _ refl)
     (end_silent k m c (player_in k c.leaver).cut))))
 
-message_silent : (rules : Rules) (t : Told) (k : KnownValue) (m : Memory) (head : HeadValue) (message : Message) → IsSilent (hear_message rules t k m head message)
+message_silent : (rules : Rules) (t : Told) (k : KnownValue) (m : Memory) (head : HeadValue) (message : Message)
+    → IsSilent (hear_message rules t k m head message)
 message_silent rules t k m head packets.Hello = silent _ refl
 message_silent rules t k m head (packets.Welcome ack) = welcome_silent k m head ack
 message_silent rules t k m head (packets.Data d) = data_silent t k m head.from d
@@ -152,7 +158,8 @@ IsNoSaying (Leave leaver) = Unit {0}
 IsNoSaying (Decide leaver) = Unit {0}
 IsNoSaying Checkpoint = Unit {0}
 
-outcome_silent : (rules : Rules) (t : Told) (k : KnownValue) (m : Memory) (call : Call) → IsNoSaying call → said_by (outcome rules t k m call).reply ≡ []
+outcome_silent : (rules : Rules) (t : Told) (k : KnownValue) (m : Memory) (call : Call) → IsNoSaying call
+    → said_by (outcome rules t k m call).reply ≡ []
 outcome_silent rules t k m (Tick keys) other = (tick_silent rules k m keys).told
 outcome_silent rules t k m (Deliver told) other = (either IsSilent (player_in k k.me).leaving _ _ (silent _ refl) (told_silent rules t k m told)).told
 outcome_silent rules t k m (Say to what) other = absurd other
@@ -179,20 +186,26 @@ down_silent (Leave leaver) = refl
 down_silent (Decide leaver) = refl
 down_silent Checkpoint = refl
 
-done_silent : (s : State) (call : Call) (o : Outcome) (keeps : Option Record) (on_disk : DiskOutcome) → said_by o.reply ≡ [] → said_by (done s call o keeps on_disk).reply ≡ []
+done_silent : (s : State) (call : Call) (o : Outcome) (keeps : Option Record) (on_disk : DiskOutcome) → said_by o.reply ≡ []
+    → said_by (done s call o keeps on_disk).reply ≡ []
 done_silent s call o None on_disk is = is
 done_silent s call o (Some r) Works is = is
 done_silent s call o (Some r) (Refuses why) is = refused_silent call why
 
-mode_silent : (s : State) (call : Call) (o : Outcome) (mode : Mode) (on_disk : DiskOutcome) → said_by o.reply ≡ [] → said_by (at_mode s call o mode on_disk).reply ≡ []
+mode_silent : (s : State) (call : Call) (o : Outcome) (mode : Mode) (on_disk : DiskOutcome) → said_by o.reply ≡ []
+    → said_by (at_mode s call o mode on_disk).reply ≡ []
 mode_silent s call o Open on_disk is = done_silent s call o o.keeps on_disk is
 mode_silent s call o Down on_disk is = down_silent call
 mode_silent s call o Away on_disk is = down_silent call
 
-pub step_silent : (rules : Rules) (p : ℕ) (s : State) (call : Call) (on_disk : DiskOutcome) → IsNoSaying call → said_by (step rules p s call on_disk).reply ≡ []
-step_silent rules p s call on_disk other = mode_silent s call (outcome rules (told_of rules p s.journal) (known_of rules p s.journal) s.memory call) s.mode on_disk (outcome_silent rules (told_of rules p s.journal) (known_of rules p s.journal) s.memory call other)
+pub step_silent : (rules : Rules) (p : ℕ) (s : State) (call : Call) (on_disk : DiskOutcome) → IsNoSaying call
+    → said_by (step rules p s call on_disk).reply ≡ []
+step_silent rules p s call on_disk other =
+    mode_silent s call (outcome rules (told_of rules p s.journal) (known_of rules p s.journal) s.memory call) s.mode on_disk
+    (outcome_silent rules (told_of rules p s.journal) (known_of rules p s.journal) s.memory call other)
 
-pub opened_silent : (rules : Rules) (room p : ℕ) (s : State) (journal : List Record) (opening : Opening) → said_by (opened rules room p s journal opening).reply ≡ []
+pub opened_silent : (rules : Rules) (room p : ℕ) (s : State) (journal : List Record) (opening : Opening)
+    → said_by (opened rules room p s journal opening).reply ≡ []
 opened_silent rules room p s journal NoPlayer = refl
 opened_silent rules room p s journal Stands = refl
 opened_silent rules room p s journal (NotWritten why) = refl

@@ -22,7 +22,8 @@ AreParts log entries = (i : ℕ) (e : EntryValue) → slice_get entries i ≡ So
 
 -- Whether the peers of all players agree, player 1's first, by what each of them knows.
 abbrev pub HaveAgreedOrNot : {D : Type 0} → List (PeerValue D) → Bool → Type 0
-HaveAgreedOrNot {D} peers agree = (standings : List Standing) × (map known_at standings ≡ map known_by peers) × ((agree ≡ true) ↔ HaveAgreed standings)
+HaveAgreedOrNot {D} peers agree = (standings : List Standing) × (map known_at standings ≡ map known_by peers)
+    × ((agree ≡ true) ↔ HaveAgreed standings)
 
 -- The log is lawful, each entry's notes are its player's part of it, the peers are these, and `agree` says whether they
 -- agree.

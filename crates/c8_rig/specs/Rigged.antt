@@ -39,7 +39,8 @@ pub record IsMadeBy (rules : Rules) (turns player : ℕ) (notes : List NoteValue
 
 -- The thread of player i + 1 returned an entry and a peer. The notes lead to the peer, and their calls made it on a new
 -- disk.
-pub record IsPlayedAt (rules : Rules) (turns : ℕ) (ether : TableId) (entries : List EntryValue) (peers : List (PeerValue MemDisk)) (i : ℕ) : Type 0 where
+pub record IsPlayedAt (rules : Rules) (turns : ℕ) (ether : TableId) (entries : List EntryValue) (peers : List (PeerValue MemDisk))
+    (i : ℕ) : Type 0 where
   pub entry : EntryValue
   pub there : slice_get entries i ≡ Some entry
   pub peer : PeerValue MemDisk

@@ -11,7 +11,8 @@ last_made f [] (z ∷ front) y e = absurd cc
 last_made f (x ∷ xs) [] y e = (x, cc)
 last_made f (x ∷ xs) (z ∷ front) y e = last_made f xs front y cc
 
-pub last_entry : (ether : TableId) (players : ℕ) (entries front : List EntryValue) (entry : EntryValue) → entries ≡ first_entries ether players → entries ≡ front ++ entry ∷ [] → entry.ether ≡ ether
+pub last_entry : (ether : TableId) (players : ℕ) (entries front : List EntryValue) (entry : EntryValue)
+    → entries ≡ first_entries ether players → entries ≡ front ++ entry ∷ [] → entry.ether ≡ ether
 last_entry ether players entries front entry are ends =
     let made = last_made (λ (p : ℕ). record { ether = ether; player = p; notes = [] }) (range_with_len 1 players) front entry (sym are ∙ ends) in
     sym (ap (λ (e : EntryValue). e.ether) made.1)

@@ -1,5 +1,6 @@
 -- How rolling back, confirming and running change a timeline.
-use Rattle.std.proofs.Common.{◌≡◌, ◌≢◌, ◌⊎◌, inl, inr, ⊎_elim, ℕ, zero, suc, ◌+◌, ◌-◌, ◌<◌, ◌≤◌, List, [], ◌∷◌, ◌++◌, length, take, drop, Option, Some, None, sym, ap, ◌∙◌, arith}
+use Rattle.std.proofs.Common.{◌≡◌, ◌≢◌, ◌⊎◌, inl, inr, ⊎_elim, ℕ, zero, suc, ◌+◌, ◌-◌, ◌<◌, ◌≤◌, List, [], ◌∷◌, ◌++◌, length, take, drop,
+  Option, Some, None, sym, ap, ◌∙◌, arith}
 use Rattle.std.specs.List.{slice_get}
 use Rattle.std.specs.Prelude.{unwrap_or, fold}
 use Rattle.std.proofs.lemmas.Option.{slice_get_past, slice_get_within, slice_get_cases}
@@ -23,27 +24,33 @@ use Rattle.c8_roll.proofs.RollLemmas.{best_next, best_sure}
 -- ---- runs
 
 -- the run of one more best row
-pub next_run : (rules : Rules) (from : Origin) (k : KnownValue) (n : ℕ) → from.frames ≤ n → run_since rules from (best_rows_below k (n + 1)) ≡ frame_of rules (joined rules (best_row k n)) (run_since rules from (best_rows_below k n))
+pub next_run : (rules : Rules) (from : Origin) (k : KnownValue) (n : ℕ) → from.frames ≤ n
+    → run_since rules from (best_rows_below k (n + 1)) ≡ frame_of rules (joined rules (best_row k n)) (run_since rules from (best_rows_below k n))
 next_run rules from k n starts =
     let many : length (best_rows_below k n) ≡ n = length-map-range_with_len (best_row k) 0 n in
     ap (run_since rules from) (best_next k n)
-    ∙ ap (fold (λ s row. frame_of rules (joined rules row) s) from.machine) (drop-append-le from.frames (best_rows_below k n) (best_row k n ∷ []) (omega (arith, starts, many)))
+    ∙ ap (fold (λ s row. frame_of rules (joined rules row) s) from.machine)
+    (drop-append-le from.frames (best_rows_below k n) (best_row k n ∷ []) (omega (arith, starts, many)))
     ∙ fold-append (λ s row. frame_of rules (joined rules row) s) from.machine (drop from.frames (best_rows_below k n)) (best_row k n ∷ [])
 
 -- each kept machine is the serial run of the best rows before it
-pub run_at : (from : Origin) (k : KnownValue) (t : TimelineValue) → IsTimeline t → IsRunOf from k t → (i : ℕ) → (i < length t.snapshots) ⊎ (IsAll t × (i ≤ length t.snapshots))
+pub run_at : (from : Origin) (k : KnownValue) (t : TimelineValue) → IsTimeline t → IsRunOf from k t → (i : ℕ)
+    → (i < length t.snapshots) ⊎ (IsAll t × (i ≤ length t.snapshots))
     → state_at t i ≡ run_since t.rules from (best_rows_below k (t.first + i))
 run_at from k t is run zero within =
     let at : t.first ≡ t.first + 0 = omega arith in
     run.base ∙ ap (λ (n : ℕ). run_since t.rules from (best_rows_below k n)) at
 run_at from k t is run (suc i) within =
     let starts = run.starts in
-    let place : i < length t.snapshots = ⊎_elim (λ (w : suc i < length t.snapshots). omega (arith, w)) (λ (w : IsAll t × (suc i ≤ length t.snapshots)). let some = w.1 in omega (arith, some)) within in
+    let place : i < length t.snapshots = ⊎_elim (λ (w : suc i < length t.snapshots). omega (arith, w))
+        (λ (w : IsAll t × (suc i ≤ length t.snapshots)). let some = w.1 in omega (arith, some)) within in
     let kept = slice_get-some t.snapshots i place in
     let so_far : state_at t i ≡ run_since t.rules from (best_rows_below k (t.first + i)) = run_at from k t is run i (inl place) in
-    let here : state kept.0.machine ≡ run_since t.rules from (best_rows_below k (t.first + i)) = ap (λ (o : Option Snapshot). state (machine_or t.shown o)) (sym kept.1) ∙ so_far in
+    let here : state kept.0.machine ≡ run_since t.rules from (best_rows_below k (t.first + i)) =
+        ap (λ (o : Option Snapshot). state (machine_or t.shown o)) (sym kept.1) ∙ so_far in
     let next : state_at t (i + 1) ≡ frame_of t.rules (joined t.rules kept.0.row) (state kept.0.machine) =
-    is.followed i (⊎_elim (λ (w : suc i < length t.snapshots). inl (omega (arith, w))) (λ (w : IsAll t × (suc i ≤ length t.snapshots)). inr w.0) within) kept.0 kept.1 in
+    is.followed i (⊎_elim (λ (w : suc i < length t.snapshots). inl (omega (arith, w)))
+        (λ (w : IsAll t × (suc i ≤ length t.snapshots)). inr w.0) within) kept.0 kept.1 in
     let one : suc i ≡ i + 1 = omega arith in
     let up : t.first + i + 1 ≡ t.first + suc i = omega arith in
     ap (state_at t) one ∙ next
@@ -52,7 +59,8 @@ run_at from k t is run (suc i) within =
     ∙ sym (next_run t.rules from k (t.first + i) (omega (arith, starts)))
     ∙ ap (λ (n : ℕ). run_since t.rules from (best_rows_below k n)) up
 
-pub run_shown : (from : Origin) (k : KnownValue) (t : TimelineValue) → IsTimeline t → IsRunOf from k t → IsAll t → state t.shown ≡ run_since t.rules from (best_rows_below k t.ticks)
+pub run_shown : (from : Origin) (k : KnownValue) (t : TimelineValue) → IsTimeline t → IsRunOf from k t → IsAll t
+    → state t.shown ≡ run_since t.rules from (best_rows_below k t.ticks)
 run_shown from k t is run all =
     ap (λ (o : Option Snapshot). state (machine_or t.shown o)) (sym (slice_get_past t.snapshots (length t.snapshots) (omega arith)))
     ∙ run_at from k t is run (length t.snapshots) (inr (all, omega arith))
@@ -75,7 +83,8 @@ back_machine t n i fits within =
     ap (machine_or (machine_at t n)) o.1 ∙ ap (machine_at t) same)
     (slice_get_cases (take n t.snapshots) i).1
 
-back_kept : (t : TimelineValue) (n i : ℕ) (s : Snapshot) → n ≤ length t.snapshots → slice_get (take n t.snapshots) i ≡ Some s → (i < n) × (slice_get t.snapshots i ≡ Some s)
+back_kept : (t : TimelineValue) (n i : ℕ) (s : Snapshot) → n ≤ length t.snapshots → slice_get (take n t.snapshots) i ≡ Some s
+    → (i < n) × (slice_get t.snapshots i ≡ Some s)
 back_kept t n i s fits kept =
     let inside = slice_get_within (take n t.snapshots) i s kept in
     let many : length (take n t.snapshots) ≡ n = length-take-le n t.snapshots fits in
@@ -101,7 +110,8 @@ back_is t n is fits why =
       counted = omega arith;
     }
 
-pub back_run : (from : Origin) (k : KnownValue) (t : TimelineValue) (n : ℕ) → n ≤ length t.snapshots → from.frames ≤ t.first → state_at t 0 ≡ run_since t.rules from (best_rows_below k t.first) → AreBest t k n → IsRunOf from k (back_at t n)
+pub back_run : (from : Origin) (k : KnownValue) (t : TimelineValue) (n : ℕ) → n ≤ length t.snapshots → from.frames ≤ t.first
+    → state_at t 0 ≡ run_since t.rules from (best_rows_below k t.first) → AreBest t k n → IsRunOf from k (back_at t n)
 back_run from k t n fits starts base best = record {
   starts = starts;
   base = ap state (back_machine t n 0 fits (omega arith)) ∙ base;
@@ -131,13 +141,15 @@ dropped_is t is all some =
         fits = omega (arith, left, room);
         within = omega (arith, all_now);
         all = λ few. all_now;
-        followed = λ i why s kept. ap state (dropped_machine t (i + 1)) ∙ is.followed (i + 1) (inr all) s (sym (slice_get-drop 1 t.snapshots i (i + 1) (omega arith)) ∙ kept);
+        followed = λ i why s kept. ap state (dropped_machine t (i + 1))
+            ∙ is.followed (i + 1) (inr all) s (sym (slice_get-drop 1 t.snapshots i (i + 1) (omega arith)) ∙ kept);
         counted = is.counted;
       },
       all_now,
     )
 
-pub dropped_run : (from : Origin) (k : KnownValue) (t : TimelineValue) → IsTimeline t → IsAll t → length t.snapshots ≢ 0 → IsRunOf from k t → IsRunOf from k (dropped t)
+pub dropped_run : (from : Origin) (k : KnownValue) (t : TimelineValue) → IsTimeline t → IsAll t → length t.snapshots ≢ 0 → IsRunOf from k t
+    → IsRunOf from k (dropped t)
 dropped_run from k t is all some run = record {
   starts = let starts = run.starts in omega (arith, starts);
   base = ap state (dropped_machine t 0) ∙ run_at from k t is run 1 (inr (all, omega (arith, some)));
@@ -148,7 +160,8 @@ dropped_run from k t is all some run = record {
       ∙ ap (best_row k) place;
 }
 
-pub extended_is : (t : TimelineValue) (machine : Machine) → IsTimeline t → IsAll t → length t.snapshots ≡ 0 → IsTimeline (extended t machine) × IsAll (extended t machine)
+pub extended_is : (t : TimelineValue) (machine : Machine) → IsTimeline t → IsAll t → length t.snapshots ≡ 0
+    → IsTimeline (extended t machine) × IsAll (extended t machine)
 extended_is t machine is all none =
     let all_now : t.first + 1 + length t.snapshots ≡ t.ticks + 1 = omega (arith, all) in
     let ran = is.counted in (
@@ -163,15 +176,18 @@ extended_is t machine is all none =
       all_now,
     )
 
-pub extended_run : (from : Origin) (k : KnownValue) (t : TimelineValue) (machine : Machine) (row : Row) → IsTimeline t → IsAll t → length t.snapshots ≡ 0 → state machine ≡ frame_of t.rules (joined t.rules row) (state t.shown)
+pub extended_run : (from : Origin) (k : KnownValue) (t : TimelineValue) (machine : Machine) (row : Row) → IsTimeline t → IsAll t
+    → length t.snapshots ≡ 0 → state machine ≡ frame_of t.rules (joined t.rules row) (state t.shown)
     → row ≡ best_row k t.first → IsRunOf from k t → IsRunOf from k (extended t machine)
 extended_run from k t machine row is all none went best run =
     let empty : slice_get t.snapshots 0 ≡ None = slice_get_past t.snapshots 0 (omega (arith, none)) in
-    let base : state t.shown ≡ run_since t.rules from (best_rows_below k t.first) = ap (λ (o : Option Snapshot). state (machine_or t.shown o)) (sym empty) ∙ run.base in
+    let base : state t.shown ≡ run_since t.rules from (best_rows_below k t.first) =
+        ap (λ (o : Option Snapshot). state (machine_or t.shown o)) (sym empty) ∙ run.base in
     record {
       starts = let starts = run.starts in omega (arith, starts);
       base = ap (λ (o : Option Snapshot). state (machine_or machine o)) empty
-          ∙ went ∙ ap (λ (r : Row). frame_of t.rules (joined t.rules r) (state t.shown)) best ∙ ap (frame_of t.rules (joined t.rules (best_row k t.first))) base ∙ sym (next_run t.rules from k t.first run.starts);
+          ∙ went ∙ ap (λ (r : Row). frame_of t.rules (joined t.rules r) (state t.shown)) best
+          ∙ ap (frame_of t.rules (joined t.rules (best_row k t.first))) base ∙ sym (next_run t.rules from k t.first run.starts);
       rows = λ i s within kept. absurd (omega (arith, within, none));
     }
 
@@ -179,7 +195,8 @@ extended_run from k t machine row is all none went best run =
 
 -- with a snapshot of the machine before it
 abbrev pub snapped : TimelineValue → Row → Machine → TimelineValue
-snapped t row machine = record t { ticks = t.ticks + 1; shown = machine; snapshots = t.snapshots ++ (record { row = row; machine = t.shown }) ∷ []; last_run = t.last_run + 1 }
+snapped t row machine = record t { ticks = t.ticks + 1; shown = machine;
+    snapshots = t.snapshots ++ (record { row = row; machine = t.shown }) ∷ []; last_run = t.last_run + 1 }
 
 -- without one
 abbrev pub passed : TimelineValue → Machine → TimelineValue
@@ -189,11 +206,13 @@ passed t machine = record t { ticks = t.ticks + 1; shown = machine; last_run = t
 shown_last : (t : TimelineValue) → machine_at t (length t.snapshots) ≡ t.shown
 shown_last t = ap (machine_or t.shown) (slice_get_past t.snapshots (length t.snapshots) (omega arith))
 
-snapped_machine : (t : TimelineValue) (row : Row) (machine : Machine) (i : ℕ) → i ≤ length t.snapshots → machine_at (snapped t row machine) i ≡ machine_at t i
+snapped_machine : (t : TimelineValue) (row : Row) (machine : Machine) (i : ℕ) → i ≤ length t.snapshots
+    → machine_at (snapped t row machine) i ≡ machine_at t i
 snapped_machine t row machine i within =
     ⊎_elim
     (λ (o : (x : Snapshot) × (i < length t.snapshots) × (slice_get t.snapshots i ≡ Some x) × _).
-    ap (machine_or machine) (slice_get-append_left t.snapshots ((record { row = row; machine = t.shown }) ∷ []) i o.1 ∙ o.2) ∙ ap (machine_or t.shown) (sym o.2))
+    ap (machine_or machine) (slice_get-append_left t.snapshots ((record { row = row; machine = t.shown }) ∷ []) i o.1 ∙ o.2)
+        ∙ ap (machine_or t.shown) (sym o.2))
     (λ (o : (length t.snapshots ≤ i) × (slice_get t.snapshots i ≡ None)).
     let past = o.0 in
     let same : i ≡ length t.snapshots = omega (arith, past, within) in
@@ -201,21 +220,24 @@ snapped_machine t row machine i within =
     (slice_get_cases t.snapshots i).1
 
 -- a snapshot after that is an old one, or the new one
-snapped_kept : (t : TimelineValue) (row : Row) (i : ℕ) (s : Snapshot) → slice_get (t.snapshots ++ (record { row = row; machine = t.shown }) ∷ []) i ≡ Some s
+snapped_kept : (t : TimelineValue) (row : Row) (i : ℕ) (s : Snapshot)
+    → slice_get (t.snapshots ++ (record { row = row; machine = t.shown }) ∷ []) i ≡ Some s
     → ((i < length t.snapshots) × (slice_get t.snapshots i ≡ Some s)) ⊎ ((i ≡ length t.snapshots) × (s ≡ record { row = row; machine = t.shown }))
 snapped_kept t row i s kept =
     let new : Snapshot = record { row = row; machine = t.shown } in
     let inside = slice_get_within (t.snapshots ++ new ∷ []) i s kept in
     let many : length (t.snapshots ++ new ∷ []) ≡ length t.snapshots + 1 = length-append t.snapshots (new ∷ []) in
     ⊎_elim
-    (λ (o : (x : Snapshot) × (i < length t.snapshots) × (slice_get t.snapshots i ≡ Some x) × _). inl (o.1, sym (slice_get-append_left t.snapshots (new ∷ []) i o.1) ∙ kept))
+    (λ (o : (x : Snapshot) × (i < length t.snapshots) × (slice_get t.snapshots i ≡ Some x) × _). inl
+        (o.1, sym (slice_get-append_left t.snapshots (new ∷ []) i o.1) ∙ kept))
     (λ (o : (length t.snapshots ≤ i) × (slice_get t.snapshots i ≡ None)).
     let past = o.0 in
     let same : i ≡ length t.snapshots = omega (arith, past, many, inside) in
     inr (same, ap (λ (o : Option Snapshot). unwrap_or o new) (sym kept ∙ slice_get-last t.snapshots new i same)))
     (slice_get_cases t.snapshots i).1
 
-pub snapped_is : (t : TimelineValue) (row : Row) (machine : Machine) → IsTimeline t → IsAll t → length t.snapshots < t.room → state machine ≡ frame_of t.rules (joined t.rules row) (state t.shown) → IsTimeline (snapped t row machine)
+pub snapped_is : (t : TimelineValue) (row : Row) (machine : Machine) → IsTimeline t → IsAll t → length t.snapshots < t.room
+    → state machine ≡ frame_of t.rules (joined t.rules row) (state t.shown) → IsTimeline (snapped t row machine)
 snapped_is t row machine is all few went =
     let new : Snapshot = record { row = row; machine = t.shown } in
     let many : length (t.snapshots ++ new ∷ []) ≡ length t.snapshots + 1 = length-append t.snapshots (new ∷ []) in
@@ -239,7 +261,8 @@ snapped_is t row machine is all few went =
       counted = omega (arith, ran);
     }
 
-pub snapped_run : (from : Origin) (k : KnownValue) (t : TimelineValue) (row : Row) (machine : Machine) → IsAll t → row ≡ best_row k t.ticks → IsRunOf from k t → IsRunOf from k (snapped t row machine)
+pub snapped_run : (from : Origin) (k : KnownValue) (t : TimelineValue) (row : Row) (machine : Machine) → IsAll t → row ≡ best_row k t.ticks
+    → IsRunOf from k t → IsRunOf from k (snapped t row machine)
 snapped_run from k t row machine all best run = record {
   starts = run.starts;
   base = ap state (snapped_machine t row machine 0 (omega arith)) ∙ run.base;
@@ -268,12 +291,14 @@ passed_is t machine is full =
       within = omega (arith, within);
       all = λ less. absurd (omega (arith, less, full));
       followed = λ i why s kept.
-          let place : i + 1 < length t.snapshots = ⊎_elim (λ (w : i + 1 < length t.snapshots). w) (λ (all : IsAll (passed t machine)). absurd (omega (arith, all, within))) why in
+          let place : i + 1 < length t.snapshots = ⊎_elim (λ (w : i + 1 < length t.snapshots). w)
+              (λ (all : IsAll (passed t machine)). absurd (omega (arith, all, within))) why in
           ap state (passed_machine t machine (i + 1) place) ∙ is.followed i (inl place) s kept;
       counted = omega (arith, ran);
     }
 
-pub passed_run : (from : Origin) (k : KnownValue) (t : TimelineValue) (machine : Machine) → IsTimeline t → t.room ≤ length t.snapshots → IsRunOf from k t → IsRunOf from k (passed t machine)
+pub passed_run : (from : Origin) (k : KnownValue) (t : TimelineValue) (machine : Machine) → IsTimeline t → t.room ≤ length t.snapshots
+    → IsRunOf from k t → IsRunOf from k (passed t machine)
 passed_run from k t machine is full run =
     let room = is.room in
     record { starts = run.starts; base = ap state (passed_machine t machine 0 (omega (arith, room, full))) ∙ run.base; rows = run.rows }
@@ -293,6 +318,8 @@ all_of_more xs x room few =
 
 -- ---- the confirmed machine
 
-pub base_is : (rules : Rules) (from : Origin) (k : KnownValue) (t : TimelineValue) (n : ℕ) → IsRunOf from k t → t.rules ≡ rules → t.first ≡ n → n ≤ confirmed k → state_at t 0 ≡ run_since rules from (rows_below k n)
+pub base_is : (rules : Rules) (from : Origin) (k : KnownValue) (t : TimelineValue) (n : ℕ) → IsRunOf from k t → t.rules ≡ rules
+    → t.first ≡ n → n ≤ confirmed k → state_at t 0 ≡ run_since rules from (rows_below k n)
 base_is rules from k t n run same first sure =
-    run.base ∙ ap (λ (r : Rules). run_since r from (best_rows_below k t.first)) same ∙ ap (λ (m : ℕ). run_since rules from (best_rows_below k m)) first ∙ ap (run_since rules from) (best_sure k n sure)
+    run.base ∙ ap (λ (r : Rules). run_since r from (best_rows_below k t.first)) same
+        ∙ ap (λ (m : ℕ). run_since rules from (best_rows_below k m)) first ∙ ap (run_since rules from) (best_sure k n sure)

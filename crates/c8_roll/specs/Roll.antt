@@ -19,7 +19,8 @@ mark_since rules from k n = record { frame = n; mark = mark_of (run_since rules 
 -- the last sixteen of the origin's marks and those at later multiples, up to a number of frames
 abbrev pub marks_since : Rules → Origin → KnownValue → ℕ → List FrameMark
 marks_since rules from k n =
-    kept (from.marks ++ map (λ m. mark_since rules from k (mark_step * m)) (range_with_len (from.frames / mark_step + 1) (n / mark_step - from.frames / mark_step)))
+    kept (from.marks ++ map (λ m. mark_since rules from k (mark_step * m))
+        (range_with_len (from.frames / mark_step + 1) (n / mark_step - from.frames / mark_step)))
 
 -- the machine and the marks after n confirmed frames
 abbrev pub origin_at : Rules → Origin → KnownValue → ℕ → Origin
@@ -78,4 +79,5 @@ pub record IsRollSince (from : Origin) (before : KnownValue) (v : RollValue) : T
 -- If the old roll is that of some knowledge, and all of this is still known, then the new roll is that
 -- of what is known now, run from the same origin.
 abbrev pub GrowsTo : RollValue → RollValue → KnownValue → Type 0
-GrowsTo old new now = (from : Origin) (before : KnownValue) → IsRollSince from before old → IsStillKnown before now → new ≡ roll_since old.rules from now
+GrowsTo old new now = (from : Origin) (before : KnownValue) → IsRollSince from before old → IsStillKnown before now
+    → new ≡ roll_since old.rules from now

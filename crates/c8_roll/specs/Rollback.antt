@@ -65,7 +65,8 @@ AreStillBest before now n = (frame : ℕ) → confirmed before ≤ frame → fra
 -- the oldest of the frames run before whose guess changed, or None if there is none
 abbrev pub IsOldestWrong : KnownValue → KnownValue → Option ℕ → Type 0
 IsOldestWrong before now None = AreStillBest before now before.ticks
-IsOldestWrong before now (Some frame) = (confirmed before ≤ frame) × (frame < before.ticks) × (best_row now frame ≢ best_row before frame) × AreStillBest before now frame
+IsOldestWrong before now (Some frame) = (confirmed before ≤ frame) × (frame < before.ticks) × (best_row now frame ≢ best_row before frame)
+    × AreStillBest before now frame
 
 -- the first frame that is run: the oldest whose guess changed, else the first new one
 abbrev pub run_from : ℕ → Option ℕ → ℕ
@@ -81,4 +82,5 @@ pub record RunsFromOldest (before now : KnownValue) (ran : ℕ) : Type 0 where
 -- The number of frames that are run, for a roll that kept the rows of all that was known before.
 abbrev pub RunsFromWhatWasKnown : RollValue → List Row → KnownValue → ℕ → Type 0
 RunsFromWhatWasKnown old rows now ran =
-    (from : Origin) (before : KnownValue) → IsRollSince from before old → KeepsRows old.rules.window before rows → HasAllRows old → RunsFromOldest before now ran
+    (from : Origin) (before : KnownValue) → IsRollSince from before old → KeepsRows old.rules.window before rows → HasAllRows old
+        → RunsFromOldest before now ran

@@ -20,21 +20,25 @@ fault_if_not taken = if taken then None else Some Line
 abbrev pub event_fault : List (List ℕ) → List ℕ → Option ScriptError
 event_fault before line = fault_if_not (is_event_line line)
 
-without_fault : (line : List ℕ) (skipped : Bool) (event : Option Event) → is_skipped line ≡ skipped → event_of line ≡ event → fault_if_not (skipped || is_some event) ≡ None → IsNoEventLine line → ⊥
+without_fault : (line : List ℕ) (skipped : Bool) (event : Option Event) → is_skipped line ≡ skipped → event_of line ≡ event
+    → fault_if_not (skipped || is_some event) ≡ None → IsNoEventLine line → ⊥
 without_fault line true event said read none bad = let same = bad.0 in cc
 without_fault line false (Some event) said read none bad = bad.1 event (line_spelt line event read)
 without_fault line false None said read none bad = cc
 
-with_fault : (line : List ℕ) (skipped : Bool) (event : Option Event) (fault : ScriptError) → is_skipped line ≡ skipped → event_of line ≡ event → fault_if_not (skipped || is_some event) ≡ Some fault → IsNoEventLine line
+with_fault : (line : List ℕ) (skipped : Bool) (event : Option Event) (fault : ScriptError) → is_skipped line ≡ skipped
+    → event_of line ≡ event → fault_if_not (skipped || is_some event) ≡ Some fault → IsNoEventLine line
 with_fault line true event fault said read some = absurd (cc)
 with_fault line false (Some event) fault said read some = absurd (cc)
 with_fault line false None fault said read some = (said, λ event spelt. let is : event_of line ≡ Some event = line_read line event spelt in cc)
 
-fine_there : (found : Option (List ℕ)) (before : List (List ℕ)) → option_and_then (event_fault before) found ≡ None → IfSome found (λ line. IsNoEventLine line → ⊥)
+fine_there : (found : Option (List ℕ)) (before : List (List ℕ)) → option_and_then (event_fault before) found ≡ None
+    → IfSome found (λ line. IsNoEventLine line → ⊥)
 fine_there None before none = tt
 fine_there (Some line) before none = without_fault line (is_skipped line) (event_of line) refl refl none
 
-bad_there : (found : Option (List ℕ)) (before : List (List ℕ)) (fault : ScriptError) → option_and_then (event_fault before) found ≡ Some fault → (line : List ℕ) × (found ≡ Some line) × IsNoEventLine line
+bad_there : (found : Option (List ℕ)) (before : List (List ℕ)) (fault : ScriptError)
+    → option_and_then (event_fault before) found ≡ Some fault → (line : List ℕ) × (found ≡ Some line) × IsNoEventLine line
 bad_there None before fault some = absurd (cc)
 bad_there (Some line) before fault some = (line, refl, with_fault line (is_skipped line) (event_of line) fault refl refl some)
 

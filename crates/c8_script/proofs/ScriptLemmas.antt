@@ -1,5 +1,6 @@
 -- The code reads the words of a line as what they spell, and as nothing else.
-use Rattle.std.proofs.Common.{◌≡◌, ℕ, suc, zero, ◌+◌, ◌-◌, ◌<◌, ◌≤◌, ◌⊎◌, Bool, true, false, ◌&&◌, cond, nat_lt, Option, Some, None, option_map, List, [], ◌∷◌, length, get_or, codes, refl, sym, ap, subst, ◌∙◌, arith, lit≤, inl, inr}
+use Rattle.std.proofs.Common.{◌≡◌, ℕ, suc, zero, ◌+◌, ◌-◌, ◌<◌, ◌≤◌, ◌⊎◌, Bool, true, false, ◌&&◌, cond, nat_lt, Option, Some, None,
+  option_map, List, [], ◌∷◌, length, get_or, codes, refl, sym, ap, subst, ◌∙◌, arith, lit≤, inl, inr}
 use Rattle.std.proofs.Math.Bridge.{le_prop}
 use Rattle.std.proofs.lemmas.Bool.{and_parts, cond-true, le-leb, leb-true}
 use Rattle.std.proofs.lemmas.Option.{same_Some}
@@ -18,7 +19,8 @@ use Rattle.c8_world.specs.declared.event.Act.TheVariants.{Open, Tick, Say, Give,
 use Rattle.c8_world.specs.declared.event.Event.{Event}
 use Rattle.c8_world.specs.declared.event.Event.TheVariants.{Do, Stop, Fail}
 use Rattle.c8_script.specs.Script.{player_word, watcher_word, may_be_held, SpellsKeys, SpellsNumber, kind_words, SpellsAct, WordsSpell}
-use Rattle.c8_script.specs.checked.ScriptWords.{player_in, player_of, watcher_in, watcher_of, keys_in, number_in, kind_in, act_of, said_of, act_or, shown_in, held_in, act_in, stop_of, stop_in, fail_of, fail_in, stop_or_fail, act_or_other, event_in}
+use Rattle.c8_script.specs.checked.ScriptWords.{player_in, player_of, watcher_in, watcher_of, keys_in, number_in, kind_in, act_of, said_of,
+  act_or, shown_in, held_in, act_in, stop_of, stop_in, fail_of, fail_in, stop_or_fail, act_or_other, event_in}
 
 -- ---- choices
 
@@ -44,14 +46,17 @@ player_of_own : (n : ℕ) (from : 1 ≤ n) (to : n ≤ 4) → player_of n ≡ So
 player_of_own zero from to = absurd (omega arith)
 player_of_own (suc zero) from to = λ i. Some (record { number = 1; from_one = le_prop (lit≤ tt) from i; to_four = le_prop (lit≤ tt) to i })
 player_of_own (suc (suc zero)) from to = λ i. Some (record { number = 2; from_one = le_prop (lit≤ tt) from i; to_four = le_prop (lit≤ tt) to i })
-player_of_own (suc (suc (suc zero))) from to = λ i. Some (record { number = 3; from_one = le_prop (lit≤ tt) from i; to_four = le_prop (lit≤ tt) to i })
-player_of_own (suc (suc (suc (suc zero)))) from to = λ i. Some (record { number = 4; from_one = le_prop (lit≤ tt) from i; to_four = le_prop (lit≤ tt) to i })
+player_of_own (suc (suc (suc zero))) from to =
+    λ i. Some (record { number = 3; from_one = le_prop (lit≤ tt) from i; to_four = le_prop (lit≤ tt) to i })
+player_of_own (suc (suc (suc (suc zero)))) from to =
+    λ i. Some (record { number = 4; from_one = le_prop (lit≤ tt) from i; to_four = le_prop (lit≤ tt) to i })
 player_of_own (suc (suc (suc (suc (suc n))))) from to = absurd (omega arith)
 
 player_numbered : (n : ℕ) (player : Player) → n ≡ player.number → player_of n ≡ Some player
 player_numbered n player same = ap player_of same ∙ player_of_own player.number player.from_one player.to_four
 
-pub player_of_digit : (word : List ℕ) (player : Player) → 1 ≤ length word → length word < 2 → get_or word 0 0 - 48 ≡ player.number → player_in word ≡ Some player
+pub player_of_digit : (word : List ℕ) (player : Player) → 1 ≤ length word → length word < 2 → get_or word 0 0 - 48 ≡ player.number
+    → player_in word ≡ Some player
 player_of_digit [] player some one same = absurd (omega arith)
 player_of_digit (digit ∷ []) player some one same = player_numbered (digit - 48) player same
 player_of_digit (digit ∷ next ∷ more) player some one same = absurd (omega arith)
@@ -69,7 +74,8 @@ its_number (suc (suc (suc (suc (suc n))))) player is = absurd (cc)
 
 player_spelt : (word : List ℕ) (player : Player) → player_in word ≡ Some player → word ≡ player_word player
 player_spelt [] player is = absurd (cc)
-player_spelt (digit ∷ []) player is = let number = its_number (digit - 48) player is in let from = player.from_one in let same : digit ≡ 48 + player.number = omega arith in ap (λ d. d ∷ []) same
+player_spelt (digit ∷ []) player is = let number = its_number (digit - 48) player is in let from = player.from_one in
+    let same : digit ≡ 48 + player.number = omega arith in ap (λ d. d ∷ []) same
 player_spelt (digit ∷ next ∷ more) player is = absurd (cc)
 
 -- ---- watchers
@@ -80,14 +86,17 @@ watcher_of_own (suc zero) from to = absurd (omega arith)
 watcher_of_own (suc (suc zero)) from to = absurd (omega arith)
 watcher_of_own (suc (suc (suc zero))) from to = absurd (omega arith)
 watcher_of_own (suc (suc (suc (suc zero)))) from to = absurd (omega arith)
-watcher_of_own (suc (suc (suc (suc (suc zero))))) from to = λ i. Some (record { number = 5; from_five = le_prop (lit≤ tt) from i; to_six = le_prop (lit≤ tt) to i })
-watcher_of_own (suc (suc (suc (suc (suc (suc zero)))))) from to = λ i. Some (record { number = 6; from_five = le_prop (lit≤ tt) from i; to_six = le_prop (lit≤ tt) to i })
+watcher_of_own (suc (suc (suc (suc (suc zero))))) from to =
+    λ i. Some (record { number = 5; from_five = le_prop (lit≤ tt) from i; to_six = le_prop (lit≤ tt) to i })
+watcher_of_own (suc (suc (suc (suc (suc (suc zero)))))) from to =
+    λ i. Some (record { number = 6; from_five = le_prop (lit≤ tt) from i; to_six = le_prop (lit≤ tt) to i })
 watcher_of_own (suc (suc (suc (suc (suc (suc (suc n))))))) from to = absurd (omega arith)
 
 watcher_numbered : (n : ℕ) (watcher : Watcher) → n ≡ watcher.number → watcher_of n ≡ Some watcher
 watcher_numbered n watcher same = ap watcher_of same ∙ watcher_of_own watcher.number watcher.from_five watcher.to_six
 
-pub watcher_of_digit : (word : List ℕ) (watcher : Watcher) → 1 ≤ length word → length word < 2 → get_or word 0 0 - 48 ≡ watcher.number → watcher_in word ≡ Some watcher
+pub watcher_of_digit : (word : List ℕ) (watcher : Watcher) → 1 ≤ length word → length word < 2 → get_or word 0 0 - 48 ≡ watcher.number
+    → watcher_in word ≡ Some watcher
 watcher_of_digit [] watcher some one same = absurd (omega arith)
 watcher_of_digit (digit ∷ []) watcher some one same = watcher_numbered (digit - 48) watcher same
 watcher_of_digit (digit ∷ next ∷ more) watcher some one same = absurd (omega arith)
@@ -119,7 +128,8 @@ its_seat (suc (suc (suc (suc (suc (suc (suc n))))))) watcher is = absurd (cc)
 
 watcher_spelt : (word : List ℕ) (watcher : Watcher) → watcher_in word ≡ Some watcher → word ≡ watcher_word watcher
 watcher_spelt [] watcher is = absurd (cc)
-watcher_spelt (digit ∷ []) watcher is = let number = its_seat (digit - 48) watcher is in let from = watcher.from_five in let same : digit ≡ 48 + watcher.number = omega arith in ap (λ d. d ∷ []) same
+watcher_spelt (digit ∷ []) watcher is = let number = its_seat (digit - 48) watcher is in let from = watcher.from_five in
+    let same : digit ≡ 48 + watcher.number = omega arith in ap (λ d. d ∷ []) same
 watcher_spelt (digit ∷ next ∷ more) watcher is = absurd (cc)
 
 keys_read : (word : List ℕ) (keys : Keys) → SpellsKeys word keys → keys_in word ≡ Some keys
@@ -136,11 +146,13 @@ number_read word number spelt =
     let value : decimal_number word ≡ number = spelt.1 in
     let small : number < 18446744073709551616 = spelt.2 in
     let fits : nat_lt (decimal_number word) 18446744073709551616 ≡ true = le-leb (suc (decimal_number word)) 18446744073709551616 (omega arith) in
-    cond-true (is_decimal word && nat_lt (decimal_number word) 18446744073709551616) (Some (decimal_number word)) None (ap (λ b. b && nat_lt (decimal_number word) 18446744073709551616) spelt.0 ∙ fits)
+    cond-true (is_decimal word && nat_lt (decimal_number word) 18446744073709551616) (Some (decimal_number word)) None
+        (ap (λ b. b && nat_lt (decimal_number word) 18446744073709551616) spelt.0 ∙ fits)
     ∙ ap Some value
 
 number_spelt : (word : List ℕ) (number : ℕ) → number_in word ≡ Some number → SpellsNumber word number
-number_spelt word number is = elim (chosen (is_decimal word && nat_lt (decimal_number word) 18446744073709551616) (Some (decimal_number word)) None number is) [
+number_spelt word number is = elim (chosen (is_decimal word && nat_lt (decimal_number word) 18446744073709551616)
+    (Some (decimal_number word)) None number is) [
   | inl here ↦ let both = and_parts (is_decimal word) (nat_lt (decimal_number word) 18446744073709551616) here.0 in
       let same = same_Some (decimal_number word) number here.1 in
       (both.0, same, omega (arith, same, leb-true (suc (decimal_number word)) 18446744073709551616 both.1))
@@ -154,9 +166,12 @@ player_kind : (make : Player → Kind) (text what word : List ℕ) (kind : Kind)
     → bytes_eq what text ≡ true → option_map make (player_in word) ≡ Some kind → kind_words kind ≡ what ∷ word ∷ []
 player_kind make text what word kind says same is =
     let player = mapped make (player_in word) kind is in
-    subst (λ k. kind_words k ≡ what ∷ word ∷ []) player.2 (says player.0 ∙ ap (λ w. w ∷ player_word player.0 ∷ []) (sym (keyword what text same)) ∙ ap (λ w. what ∷ w ∷ []) (sym (player_spelt word player.0 player.1)))
+    subst (λ k. kind_words k ≡ what ∷ word ∷ []) player.2
+        (says player.0 ∙ ap (λ w. w ∷ player_word player.0 ∷ []) (sym (keyword what text same))
+        ∙ ap (λ w. what ∷ w ∷ []) (sym (player_spelt word player.0 player.1)))
 
-word_kind : (made : Kind) (text what : List ℕ) (kind : Kind) → kind_words made ≡ text ∷ [] → bytes_eq what text ≡ true → ◌≡◌ {A = Option Kind} (Some made) (Some kind) → kind_words kind ≡ what ∷ []
+word_kind : (made : Kind) (text what : List ℕ) (kind : Kind) → kind_words made ≡ text ∷ [] → bytes_eq what text ≡ true
+    → ◌≡◌ {A = Option Kind} (Some made) (Some kind) → kind_words kind ≡ what ∷ []
 word_kind made text what kind says same is =
     subst (λ k. kind_words k ≡ what ∷ []) (same_Some made kind is) (says ∙ ap (λ w. w ∷ []) (sym (keyword what text same)))
 
@@ -188,7 +203,8 @@ kind_spelt kind what (word ∷ next ∷ more) is = absurd (cc)
 -- ---- acts
 
 -- an act of one player
-player_act : (make : Player → Act) (text verb word : List ℕ) (act : Act) → ((p : Player) → verb ∷ word ∷ [] ≡ text ∷ player_word p ∷ [] → SpellsAct (verb ∷ word ∷ []) (make p))
+player_act : (make : Player → Act) (text verb word : List ℕ) (act : Act)
+    → ((p : Player) → verb ∷ word ∷ [] ≡ text ∷ player_word p ∷ [] → SpellsAct (verb ∷ word ∷ []) (make p))
     → bytes_eq verb text ≡ true → option_map make (player_in word) ≡ Some act → SpellsAct (verb ∷ word ∷ []) act
 player_act make text verb word act says same is =
     let player = mapped make (player_in word) act is in
@@ -196,14 +212,16 @@ player_act make text verb word act says same is =
     let word_is : word ≡ player_word player.0 = player_spelt word player.0 player.1 in
     subst (SpellsAct (verb ∷ word ∷ [])) player.2 (says player.0 (cc))
 
-fresh_spelt : (verb word : List ℕ) (act : Act) → bytes_eq verb (codes "fresh") ≡ true → option_map Fresh (watcher_in word) ≡ Some act → SpellsAct (verb ∷ word ∷ []) act
+fresh_spelt : (verb word : List ℕ) (act : Act) → bytes_eq verb (codes "fresh") ≡ true → option_map Fresh (watcher_in word) ≡ Some act
+    → SpellsAct (verb ∷ word ∷ []) act
 fresh_spelt verb word act same is =
     let watcher = mapped Fresh (watcher_in word) act is in
     let verb_is : verb ≡ codes "fresh" = keyword verb (codes "fresh") same in
     let word_is : word ≡ watcher_word watcher.0 = watcher_spelt word watcher.0 watcher.1 in
     subst (SpellsAct (verb ∷ word ∷ [])) watcher.2 (cc)
 
-tick_spelt : (verb one other : List ℕ) (act : Act) → bytes_eq verb (codes "tick") ≡ true → act_of Tick (player_in one) (keys_in other) ≡ Some act → SpellsAct (verb ∷ one ∷ other ∷ []) act
+tick_spelt : (verb one other : List ℕ) (act : Act) → bytes_eq verb (codes "tick") ≡ true
+    → act_of Tick (player_in one) (keys_in other) ≡ Some act → SpellsAct (verb ∷ one ∷ other ∷ []) act
 tick_spelt verb one other act same is =
     let player = chained (λ p. option_map (Tick p) (keys_in other)) (player_in one) act is in
     let keys = mapped (Tick player.0) (keys_in other) act player.2 in
@@ -211,7 +229,8 @@ tick_spelt verb one other act same is =
     let one_is : one ≡ player_word player.0 = player_spelt one player.0 player.1 in
     subst (SpellsAct (verb ∷ one ∷ other ∷ [])) keys.2 (other, cc, keys_spelt other keys.0 keys.1)
 
-give_spelt : (verb one other : List ℕ) (act : Act) → bytes_eq verb (codes "give") ≡ true → act_of Give (number_in one) (player_in other) ≡ Some act → SpellsAct (verb ∷ one ∷ other ∷ []) act
+give_spelt : (verb one other : List ℕ) (act : Act) → bytes_eq verb (codes "give") ≡ true
+    → act_of Give (number_in one) (player_in other) ≡ Some act → SpellsAct (verb ∷ one ∷ other ∷ []) act
 give_spelt verb one other act same is =
     let number = chained (λ n. option_map (Give n) (player_in other)) (number_in one) act is in
     let player = mapped (Give number.0) (player_in other) act number.2 in
@@ -219,7 +238,8 @@ give_spelt verb one other act same is =
     let other_is : other ≡ player_word player.0 = player_spelt other player.0 player.1 in
     subst (SpellsAct (verb ∷ one ∷ other ∷ [])) player.2 (one, cc, number_spelt one number.0 number.1)
 
-hear_spelt : (verb one other : List ℕ) (act : Act) → bytes_eq verb (codes "give") ≡ true → act_of Hear (number_in one) (watcher_in other) ≡ Some act → SpellsAct (verb ∷ one ∷ other ∷ []) act
+hear_spelt : (verb one other : List ℕ) (act : Act) → bytes_eq verb (codes "give") ≡ true
+    → act_of Hear (number_in one) (watcher_in other) ≡ Some act → SpellsAct (verb ∷ one ∷ other ∷ []) act
 hear_spelt verb one other act same is =
     let number = chained (λ n. option_map (Hear n) (watcher_in other)) (number_in one) act is in
     let watcher = mapped (Hear number.0) (watcher_in other) act number.2 in
@@ -233,14 +253,16 @@ either_act None other act is = inr is
 either_act (Some first) other act is = inl is
 
 given_spelt : (verb one other : List ℕ) (act : Act) → bytes_eq verb (codes "give") ≡ true
-    → act_or (act_of Give (number_in one) (player_in other)) (act_of Hear (number_in one) (watcher_in other)) ≡ Some act → SpellsAct (verb ∷ one ∷ other ∷ []) act
+    → act_or (act_of Give (number_in one) (player_in other)) (act_of Hear (number_in one) (watcher_in other)) ≡ Some act
+    → SpellsAct (verb ∷ one ∷ other ∷ []) act
 given_spelt verb one other act same is =
     elim (either_act (act_of Give (number_in one) (player_in other)) (act_of Hear (number_in one) (watcher_in other)) act is) [
       | inl given ↦ give_spelt verb one other act same given
       | inr heard ↦ hear_spelt verb one other act same heard
     ]
 
-show_spelt : (verb one other what : List ℕ) (act : Act) → bytes_eq verb (codes "say") ≡ true → (bytes_eq what (codes "show") && bytes_eq one (codes "1")) ≡ true → option_map Show (watcher_in other) ≡ Some act
+show_spelt : (verb one other what : List ℕ) (act : Act) → bytes_eq verb (codes "say") ≡ true
+    → (bytes_eq what (codes "show") && bytes_eq one (codes "1")) ≡ true → option_map Show (watcher_in other) ≡ Some act
     → SpellsAct (verb ∷ one ∷ other ∷ what ∷ []) act
 show_spelt verb one other what act same both is =
     let watcher = mapped Show (watcher_in other) act is in
@@ -251,7 +273,8 @@ show_spelt verb one other what act same both is =
     let other_is : other ≡ watcher_word watcher.0 = watcher_spelt other watcher.0 watcher.1 in
     subst (SpellsAct (verb ∷ one ∷ other ∷ what ∷ [])) watcher.2 (cc)
 
-seen_spelt : (verb one other what : List ℕ) (act : Act) → bytes_eq verb (codes "say") ≡ true → (bytes_eq what (codes "seen") && bytes_eq other (codes "1")) ≡ true → option_map Seen (watcher_in one) ≡ Some act
+seen_spelt : (verb one other what : List ℕ) (act : Act) → bytes_eq verb (codes "say") ≡ true
+    → (bytes_eq what (codes "seen") && bytes_eq other (codes "1")) ≡ true → option_map Seen (watcher_in one) ≡ Some act
     → SpellsAct (verb ∷ one ∷ other ∷ what ∷ []) act
 seen_spelt verb one other what act same both is =
     let watcher = mapped Seen (watcher_in one) act is in
@@ -262,7 +285,8 @@ seen_spelt verb one other what act same both is =
     let one_is : one ≡ watcher_word watcher.0 = watcher_spelt one watcher.0 watcher.1 in
     subst (SpellsAct (verb ∷ one ∷ other ∷ what ∷ [])) watcher.2 (cc)
 
-shown_spelt : (verb one other what : List ℕ) (more : List (List ℕ)) (act : Act) → bytes_eq verb (codes "say") ≡ true → shown_in one other what more ≡ Some act → SpellsAct (verb ∷ one ∷ other ∷ what ∷ more) act
+shown_spelt : (verb one other what : List ℕ) (more : List (List ℕ)) (act : Act) → bytes_eq verb (codes "say") ≡ true
+    → shown_in one other what more ≡ Some act → SpellsAct (verb ∷ one ∷ other ∷ what ∷ more) act
 shown_spelt verb one other what [] act same is =
     elim (chosen (bytes_eq what (codes "show") && bytes_eq one (codes "1")) _ _ act is) [
       | inl here ↦ show_spelt verb one other what act same here.0 here.1
@@ -273,7 +297,8 @@ shown_spelt verb one other what [] act same is =
     ]
 shown_spelt verb one other what (next ∷ more) act same is = absurd (cc)
 
-say_spelt : (verb one other what : List ℕ) (leaver : List (List ℕ)) (act : Act) → bytes_eq verb (codes "say") ≡ true → said_of (player_in one) (player_in other) (kind_in what leaver) ≡ Some act
+say_spelt : (verb one other what : List ℕ) (leaver : List (List ℕ)) (act : Act) → bytes_eq verb (codes "say") ≡ true
+    → said_of (player_in one) (player_in other) (kind_in what leaver) ≡ Some act
     → SpellsAct (verb ∷ one ∷ other ∷ what ∷ leaver) act
 say_spelt verb one other what leaver act same is =
     let player = chained (λ p. act_of (Say p) (player_in other) (kind_in what leaver)) (player_in one) act is in
@@ -322,18 +347,24 @@ act_spelt (verb ∷ one ∷ other ∷ what ∷ leaver) act is =
       | inr none ↦ absurd (cc)
     ]
 
-said_read : (player to : Player) (what : Option Kind) (kind : Kind) (other : Option Act) → what ≡ Some kind → act_or (said_of (player_in (player_word player)) (player_in (player_word to)) what) other ≡ Some (Say player to kind)
+said_read : (player to : Player) (what : Option Kind) (kind : Kind) (other : Option Act) → what ≡ Some kind
+    → act_or (said_of (player_in (player_word player)) (player_in (player_word to)) what) other ≡ Some (Say player to kind)
 said_read player to what kind other is =
-    ap (λ o. act_or (said_of o (player_in (player_word to)) what) other) (player_read player) ∙ ap (λ o. act_or (act_of (Say player) o what) other) (player_read to)
+    ap (λ o. act_or (said_of o (player_in (player_word to)) what) other) (player_read player)
+        ∙ ap (λ o. act_or (act_of (Say player) o what) other) (player_read to)
     ∙ ap (λ o. act_or (option_map (Say player to) o) other) is
 
-say_read : (player to : Player) (kind : Kind) → act_in (codes "say" ∷ player_word player ∷ player_word to ∷ kind_words kind) ≡ Some (Say player to kind)
+say_read : (player to : Player) (kind : Kind)
+    → act_in (codes "say" ∷ player_word player ∷ player_word to ∷ kind_words kind) ≡ Some (Say player to kind)
 say_read player to Hello = said_read player to (Some Hello) Hello _ refl
 say_read player to Welcome = said_read player to (Some Welcome) Welcome _ refl
 say_read player to Data = said_read player to (Some Data) Data _ refl
-say_read player to (Freeze leaver) = said_read player to (option_map Freeze (player_in (player_word leaver))) (Freeze leaver) _ (ap (option_map Freeze) (player_read leaver))
-say_read player to (Frozen leaver) = said_read player to (option_map Frozen (player_in (player_word leaver))) (Frozen leaver) _ (ap (option_map Frozen) (player_read leaver))
-say_read player to (Cut leaver) = said_read player to (option_map Cut (player_in (player_word leaver))) (Cut leaver) _ (ap (option_map Cut) (player_read leaver))
+say_read player to (Freeze leaver) = said_read player to (option_map Freeze (player_in (player_word leaver))) (Freeze leaver) _
+    (ap (option_map Freeze) (player_read leaver))
+say_read player to (Frozen leaver) = said_read player to (option_map Frozen (player_in (player_word leaver))) (Frozen leaver) _
+    (ap (option_map Frozen) (player_read leaver))
+say_read player to (Cut leaver) = said_read player to (option_map Cut (player_in (player_word leaver))) (Cut leaver) _
+    (ap (option_map Cut) (player_read leaver))
 
 act_read : (words : List (List ℕ)) (act : Act) → SpellsAct words act → act_in words ≡ Some act
 act_read words (Open player) spelt = ap act_in spelt ∙ ap (option_map Open) (player_read player)
@@ -341,20 +372,25 @@ act_read words (Leave player) spelt = ap act_in spelt ∙ ap (option_map Leave) 
 act_read words (Decide player) spelt = ap act_in spelt ∙ ap (option_map Decide) (player_read player)
 act_read words (Check player) spelt = ap act_in spelt ∙ ap (option_map Check) (player_read player)
 act_read words (Tick player keys) spelt =
-    ap act_in spelt.1 ∙ ap (λ o. act_of Tick o (keys_in spelt.0)) (player_read player) ∙ ap (option_map (Tick player)) (keys_read spelt.0 keys spelt.2)
+    ap act_in spelt.1 ∙ ap (λ o. act_of Tick o (keys_in spelt.0)) (player_read player)
+        ∙ ap (option_map (Tick player)) (keys_read spelt.0 keys spelt.2)
 act_read words (Give number player) spelt =
     let others = act_of Hear (number_in spelt.0) (watcher_in (player_word player)) in
     ap act_in spelt.1 ∙ ap (λ o. act_or (act_of Give o (player_in (player_word player))) others) (number_read spelt.0 number spelt.2)
     ∙ ap (λ o. act_or (option_map (Give number) o) others) (player_read player)
 act_read words (Say player to kind) spelt = ap act_in spelt ∙ say_read player to kind
 act_read words (Show watcher) spelt =
-    ap act_in spelt ∙ ap (λ to. act_or (said_of (player_in (codes "1")) to (kind_in (codes "show") [])) (shown_in (codes "1") (watcher_word watcher) (codes "show") [])) (no_player watcher)
+    ap act_in spelt ∙ ap (λ to. act_or (said_of (player_in (codes "1")) to (kind_in (codes "show") []))
+        (shown_in (codes "1") (watcher_word watcher) (codes "show") [])) (no_player watcher)
     ∙ ap (option_map Show) (watcher_read watcher)
 act_read words (Hear number watcher) spelt =
-    ap act_in spelt.1 ∙ ap (λ o. act_or (act_of Give o (player_in (watcher_word watcher))) (act_of Hear o (watcher_in (watcher_word watcher)))) (number_read spelt.0 number spelt.2)
-    ∙ ap (λ o. act_or (option_map (Give number) o) (option_map (Hear number) (watcher_in (watcher_word watcher)))) (no_player watcher) ∙ ap (option_map (Hear number)) (watcher_read watcher)
+    ap act_in spelt.1 ∙ ap (λ o. act_or (act_of Give o (player_in (watcher_word watcher)))
+        (act_of Hear o (watcher_in (watcher_word watcher)))) (number_read spelt.0 number spelt.2)
+    ∙ ap (λ o. act_or (option_map (Give number) o) (option_map (Hear number) (watcher_in (watcher_word watcher)))) (no_player watcher)
+    ∙ ap (option_map (Hear number)) (watcher_read watcher)
 act_read words (Seen watcher) spelt =
-    ap act_in spelt ∙ ap (λ from. act_or (said_of from (player_in (codes "1")) (kind_in (codes "seen") [])) (shown_in (watcher_word watcher) (codes "1") (codes "seen") [])) (no_player watcher)
+    ap act_in spelt ∙ ap (λ from. act_or (said_of from (player_in (codes "1")) (kind_in (codes "seen") []))
+        (shown_in (watcher_word watcher) (codes "1") (codes "seen") [])) (no_player watcher)
     ∙ ap (option_map Seen) (watcher_read watcher)
 act_read words (Fresh watcher) spelt = ap act_in spelt ∙ ap (option_map Fresh) (watcher_read watcher)
 
@@ -362,7 +398,8 @@ act_read words (Fresh watcher) spelt = ap act_in spelt ∙ ap (option_map Fresh)
 held_read : (act : Act) (found : Option Act) → found ≡ Some act → may_be_held act ≡ true → held_in found ≡ Some act
 held_read act found is may = ap held_in is ∙ ap (λ b. cond b (Some act) None) may
 
-held_spelt : (words : List (List ℕ)) (found : Option Act) (act : Act) → act_in words ≡ found → held_in found ≡ Some act → SpellsAct words act × (may_be_held act ≡ true)
+held_spelt : (words : List (List ℕ)) (found : Option Act) (act : Act) → act_in words ≡ found → held_in found ≡ Some act
+    → SpellsAct words act × (may_be_held act ≡ true)
 held_spelt words None act is held = absurd (cc)
 held_spelt words (Some first) act is held =
     elim (chosen (may_be_held first) (Some first) None act held) [
@@ -383,7 +420,8 @@ stop_spelt (verb ∷ []) event is = absurd (cc)
 stop_spelt (verb ∷ calls ∷ []) event is = absurd (cc)
 stop_spelt (verb ∷ calls ∷ pick ∷ act) event is =
     elim (chosen (bytes_eq verb (codes "stop")) _ _ event is) [
-      | inl here ↦ let inside = chained (λ a. option_and_then (λ k. option_map (Stop a k) (number_in pick)) (number_in calls)) (held_in (act_in act)) event here.1 in
+      | inl here ↦ let inside = chained (λ a. option_and_then (λ k. option_map (Stop a k) (number_in pick)) (number_in calls))
+      (held_in (act_in act)) event here.1 in
           let may = held_spelt act (act_in act) inside.0 refl inside.1 in
           let k = chained (λ k. option_map (Stop inside.0 k) (number_in pick)) (number_in calls) event inside.2 in
           let n = mapped (Stop inside.0 k.0) (number_in pick) event k.2 in
@@ -417,37 +455,45 @@ fail_spelt (verb ∷ calls ∷ act) event is =
       | inr none ↦ absurd (cc)
     ]
 
-other_spelt : (words : List (List ℕ)) (stop : Option Event) (event : Event) → stop_in words ≡ stop → stop_or_fail stop (fail_in words) ≡ Some event → WordsSpell words event
+other_spelt : (words : List (List ℕ)) (stop : Option Event) (event : Event) → stop_in words ≡ stop
+    → stop_or_fail stop (fail_in words) ≡ Some event → WordsSpell words event
 other_spelt words None event stop_is is = fail_spelt words event is
 other_spelt words (Some stop) event stop_is is = stop_spelt words event (stop_is ∙ is)
 
-either_spelt : (words : List (List ℕ)) (act : Option Act) (event : Event) → act_in words ≡ act → act_or_other act (stop_or_fail (stop_in words) (fail_in words)) ≡ Some event → WordsSpell words event
+either_spelt : (words : List (List ℕ)) (act : Option Act) (event : Event) → act_in words ≡ act
+    → act_or_other act (stop_or_fail (stop_in words) (fail_in words)) ≡ Some event → WordsSpell words event
 either_spelt words None event act_is is = other_spelt words (stop_in words) event refl is
 either_spelt words (Some act) event act_is is = subst (WordsSpell words) (same_Some (Do act) event is) (act_spelt words act act_is)
 
 pub words_spelt : (words : List (List ℕ)) (event : Event) → event_in words ≡ Some event → WordsSpell words event
 words_spelt words event is = either_spelt words (act_in words) event refl is
 
-stop_read : (act : Act) (calls pick : ℕ) (of_calls of_pick : List ℕ) (of_act : List (List ℕ)) → SpellsNumber of_calls calls → SpellsNumber of_pick pick → SpellsAct of_act act → may_be_held act ≡ true
+stop_read : (act : Act) (calls pick : ℕ) (of_calls of_pick : List ℕ) (of_act : List (List ℕ)) → SpellsNumber of_calls calls
+    → SpellsNumber of_pick pick → SpellsAct of_act act → may_be_held act ≡ true
     → stop_in (codes "stop" ∷ of_calls ∷ of_pick ∷ of_act) ≡ Some (Stop act calls pick)
 stop_read act calls pick of_calls of_pick of_act calls_are pick_is act_is may =
     ap (λ a. stop_of a (number_in of_calls) (number_in of_pick)) (held_read act (act_in of_act) (act_read of_act act act_is) may)
     ∙ ap (λ k. option_and_then (λ k. option_map (Stop act k) (number_in of_pick)) k) (number_read of_calls calls calls_are)
     ∙ ap (option_map (Stop act calls)) (number_read of_pick pick pick_is)
 
-fail_read : (act : Act) (calls : ℕ) (of_calls : List ℕ) (of_act : List (List ℕ)) → SpellsNumber of_calls calls → SpellsAct of_act act → may_be_held act ≡ true
+fail_read : (act : Act) (calls : ℕ) (of_calls : List ℕ) (of_act : List (List ℕ)) → SpellsNumber of_calls calls → SpellsAct of_act act
+    → may_be_held act ≡ true
     → fail_in (codes "fail" ∷ of_calls ∷ of_act) ≡ Some (Fail act calls)
 fail_read act calls of_calls of_act calls_are act_is may =
-    ap (λ a. fail_of a (number_in of_calls)) (held_read act (act_in of_act) (act_read of_act act act_is) may) ∙ ap (option_map (Fail act)) (number_read of_calls calls calls_are)
+    ap (λ a. fail_of a (number_in of_calls)) (held_read act (act_in of_act) (act_read of_act act act_is) may)
+        ∙ ap (option_map (Fail act)) (number_read of_calls calls calls_are)
 
 pub words_read : (words : List (List ℕ)) (event : Event) → WordsSpell words event → event_in words ≡ Some event
 words_read words (Do act) spelt = ap (λ a. act_or_other a (stop_or_fail (stop_in words) (fail_in words))) (act_read words act spelt)
 words_read words (Stop act calls pick) (of_calls, of_pick, of_act, words_are, calls_are, pick_is, act_is, may) =
     ap event_in words_are
-    ∙ ap (λ a. act_or_other a (stop_or_fail (stop_in (codes "stop" ∷ of_calls ∷ of_pick ∷ of_act)) (fail_in (codes "stop" ∷ of_calls ∷ of_pick ∷ of_act)))) (no_act of_calls of_pick of_act)
-    ∙ ap (λ e. stop_or_fail e (fail_in (codes "stop" ∷ of_calls ∷ of_pick ∷ of_act))) (stop_read act calls pick of_calls of_pick of_act calls_are pick_is act_is may)
+    ∙ ap (λ a. act_or_other a (stop_or_fail (stop_in (codes "stop" ∷ of_calls ∷ of_pick ∷ of_act))
+    (fail_in (codes "stop" ∷ of_calls ∷ of_pick ∷ of_act)))) (no_act of_calls of_pick of_act)
+    ∙ ap (λ e. stop_or_fail e (fail_in (codes "stop" ∷ of_calls ∷ of_pick ∷ of_act)))
+    (stop_read act calls pick of_calls of_pick of_act calls_are pick_is act_is may)
 words_read words (Fail act calls) (of_calls, of_act, words_are, calls_are, act_is, may) =
     ap event_in words_are
-    ∙ ap (λ a. act_or_other a (stop_or_fail (stop_in (codes "fail" ∷ of_calls ∷ of_act)) (fail_in (codes "fail" ∷ of_calls ∷ of_act)))) (no_act_fails of_calls of_act)
+    ∙ ap (λ a. act_or_other a (stop_or_fail (stop_in (codes "fail" ∷ of_calls ∷ of_act)) (fail_in (codes "fail" ∷ of_calls ∷ of_act))))
+    (no_act_fails of_calls of_act)
     ∙ ap (λ e. stop_or_fail e (fail_in (codes "fail" ∷ of_calls ∷ of_act))) (no_stop of_calls of_act)
     ∙ fail_read act calls of_calls of_act calls_are act_is may

@@ -1,5 +1,6 @@
 -- The words of a line are those between its spaces, and the events of a script are those of its lines.
-use Rattle.std.proofs.Common.{◌≡◌, ℕ, ◌+◌, ◌⊎◌, inl, inr, Bool, true, false, not, ◌&&◌, ◌==◌, nat_lt, Some, None, List, [], ◌∷◌, ◌++◌, length, get_or, map, refl, sym, ap, subst, ◌∙◌, arith}
+use Rattle.std.proofs.Common.{◌≡◌, ℕ, ◌+◌, ◌⊎◌, inl, inr, Bool, true, false, not, ◌&&◌, ◌==◌, nat_lt, Some, None, List, [], ◌∷◌, ◌++◌,
+  length, get_or, map, refl, sym, ap, subst, ◌∙◌, arith}
 use Rattle.hex.specs.Hex.{is_hex_digit}
 use Rattle.std.specs.Char.{is_ascii_digit}
 use Rattle.hex.proofs.HexLemmas.{IsOk-decode_sized}
@@ -21,7 +22,8 @@ use Rattle.c8_world.specs.declared.event.Act.TheVariants.{Open, Tick, Say, Give,
 use Rattle.c8_world.specs.declared.event.Event.{Event}
 use Rattle.c8_world.specs.declared.event.Event.TheVariants.{Do, Stop, Fail}
 use Rattle.c8_wire.specs.declared.watcher.Watcher.{Watcher}
-use Rattle.c8_script.specs.Script.{player_word, watcher_word, SpellsNumber, kind_words, SpellsAct, WordsSpell, SpellsEvent, not_skipped, event_lines, IsFaultOfScript}
+use Rattle.c8_script.specs.Script.{player_word, watcher_word, SpellsNumber, kind_words, SpellsAct, WordsSpell, SpellsEvent, not_skipped,
+  event_lines, IsFaultOfScript}
 use Rattle.c8_script.specs.checked.ScriptWords.{event_in, event_of}
 use Rattle.c8_script.specs.declared.error.ScriptError.{ScriptError}
 use Rattle.c8_script.specs.declared.error.ScriptError.TheVariants.{Line, Memory}
@@ -50,7 +52,8 @@ watcher_no_space watcher = ap (λ b. not b && true) (ne_eqb (48 + watcher.number
 
 number_no_space : (word : List ℕ) (number : ℕ) → SpellsNumber word number → HasNoSpace word
 number_no_space word number spelt =
-    no_space is_ascii_digit word refl (AllPass-from_list_all is_ascii_digit word (and_parts (nat_lt 0 (length word) && nat_le (length word) 20) (list_all is_ascii_digit word) spelt.0).1)
+    no_space is_ascii_digit word refl (AllPass-from_list_all is_ascii_digit word
+        (and_parts (nat_lt 0 (length word) && nat_le (length word) 20) (list_all is_ascii_digit word) spelt.0).1)
 
 keys_no_space : (word : List ℕ) → is_keys_text word ≡ true → HasNoSpace word
 keys_no_space word keys = no_space is_hex_digit word refl ((IsOk-decode_sized word 2).0 keys).1
@@ -69,7 +72,8 @@ not_true : (b : Bool) → not b ≡ true → b ≡ false
 not_true true is = absurd (cc)
 not_true false is = refl
 
-split_word : (word rest : List ℕ) → HasNoSpace word → slice_split (λ byte. byte == 32) (word ++ 32 ∷ rest) ≡ word ∷ slice_split (λ byte. byte == 32) rest
+split_word : (word rest : List ℕ) → HasNoSpace word
+    → slice_split (λ byte. byte == 32) (word ++ 32 ∷ rest) ≡ word ∷ slice_split (λ byte. byte == 32) rest
 split_word [] rest none = refl
 split_word (byte ∷ more) rest none =
     let both = and_parts (not (byte == 32)) (list_all (λ b. not (b == 32)) more) none in
@@ -83,9 +87,11 @@ split_last (byte ∷ more) none =
     let other = not_true (byte == 32) both.0 in
     cond-false (byte == 32) _ _ other ∙ ap (onto_first byte) (split_last more both.1)
 
-split_joined : (word : List ℕ) (words : List (List ℕ)) → HasNoSpace word → HaveNoSpace words → slice_split (λ byte. byte == 32) (join_with_byte 32 (word ∷ words)) ≡ word ∷ words
+split_joined : (word : List ℕ) (words : List (List ℕ)) → HasNoSpace word → HaveNoSpace words
+    → slice_split (λ byte. byte == 32) (join_with_byte 32 (word ∷ words)) ≡ word ∷ words
 split_joined word [] none others = split_last word none
-split_joined word (next ∷ words) none others = split_word word (join_with_byte 32 (next ∷ words)) none ∙ ap (λ ws. word ∷ ws) (split_joined next words others.0 others.1)
+split_joined word (next ∷ words) none others =
+    split_word word (join_with_byte 32 (next ∷ words)) none ∙ ap (λ ws. word ∷ ws) (split_joined next words others.0 others.1)
 
 -- ---- lines
 
@@ -133,11 +139,13 @@ pub line_read : (line : List ℕ) (event : Event) → SpellsEvent line event →
 line_read line event (words, is, spelt) = ap event_of is ∙ ap event_in (cut_again words event spelt) ∙ words_read words event spelt
 
 pub line_spelt : (line : List ℕ) (event : Event) → event_of line ≡ Some event → SpellsEvent line event
-line_spelt line event is = (slice_split (λ byte. byte == 32) line, sym (join_with_byte-slice_split 32 line), words_spelt (slice_split (λ byte. byte == 32) line) event is)
+line_spelt line event is = (slice_split (λ byte. byte == 32) line, sym (join_with_byte-slice_split 32 line),
+    words_spelt (slice_split (λ byte. byte == 32) line) event is)
 
 -- ---- scripts
 
-pub lines_spelt : (text_lines : List (List ℕ)) (events : List Event) → map event_of text_lines ≡ map Some events → AllZip SpellsEvent text_lines events
+pub lines_spelt : (text_lines : List (List ℕ)) (events : List Event) → map event_of text_lines ≡ map Some events
+    → AllZip SpellsEvent text_lines events
 lines_spelt [] [] read = tt
 lines_spelt [] (event ∷ events) read = absurd (cc)
 lines_spelt (line ∷ more) [] read = absurd (cc)
@@ -146,7 +154,8 @@ lines_spelt (line ∷ more) (event ∷ events) read =
     let rest : map event_of more ≡ map Some events = cc in
     (line_spelt line event here, lines_spelt more events rest)
 
-pub no_other : (text_lines : List (List ℕ)) (events other : List Event) → map event_of text_lines ≡ map Some events → AllZip SpellsEvent text_lines other → other ≡ events
+pub no_other : (text_lines : List (List ℕ)) (events other : List Event) → map event_of text_lines ≡ map Some events
+    → AllZip SpellsEvent text_lines other → other ≡ events
 no_other [] [] [] read spelt = refl
 no_other [] (event ∷ events) other read spelt = absurd (cc)
 no_other [] [] (event ∷ events) read spelt = absurd spelt
@@ -163,27 +172,34 @@ no_other (line ∷ more) (event ∷ events) (another ∷ others) read (here, res
 -- a line after those that were read is skipped, or read too
 pub one_skipped : (seen : List (List ℕ)) (line : List ℕ) → is_skipped line ≡ true → not_skipped (seen ++ line ∷ []) ≡ not_skipped seen
 one_skipped seen line skipped =
-    filter-append (λ l. not (is_skipped l)) seen (line ∷ []) ∙ ap (λ ls. not_skipped seen ++ ls) (cond-false (not (is_skipped line)) _ _ (ap not skipped)) ∙ append-nil (not_skipped seen)
+    filter-append (λ l. not (is_skipped l)) seen (line ∷ [])
+        ∙ ap (λ ls. not_skipped seen ++ ls) (cond-false (not (is_skipped line)) _ _ (ap not skipped)) ∙ append-nil (not_skipped seen)
 
-one_kept : (seen more : List (List ℕ)) (line : List ℕ) → is_skipped line ≡ false → not_skipped (seen ++ line ∷ more) ≡ not_skipped seen ++ line ∷ not_skipped more
+one_kept : (seen more : List (List ℕ)) (line : List ℕ) → is_skipped line ≡ false
+    → not_skipped (seen ++ line ∷ more) ≡ not_skipped seen ++ line ∷ not_skipped more
 one_kept seen more line kept =
-    filter-append (λ l. not (is_skipped l)) seen (line ∷ more) ∙ ap (λ ls. not_skipped seen ++ ls) (cond-true (not (is_skipped line)) _ _ (ap not kept))
+    filter-append (λ l. not (is_skipped l)) seen (line ∷ more)
+        ∙ ap (λ ls. not_skipped seen ++ ls) (cond-true (not (is_skipped line)) _ _ (ap not kept))
 
-pub one_read : (seen : List (List ℕ)) (line : List ℕ) (events : List Event) (event : Event) → is_skipped line ≡ false → event_of line ≡ Some event → map event_of (not_skipped seen) ≡ map Some events
+pub one_read : (seen : List (List ℕ)) (line : List ℕ) (events : List Event) (event : Event) → is_skipped line ≡ false
+    → event_of line ≡ Some event → map event_of (not_skipped seen) ≡ map Some events
     → map event_of (not_skipped (seen ++ line ∷ [])) ≡ map Some (events ++ event ∷ [])
 one_read seen line events event kept is read =
-    ap (map event_of) (one_kept seen [] line kept) ∙ map-append event_of (not_skipped seen) (line ∷ []) ∙ ap (λ before. before ++ event_of line ∷ []) read ∙ ap (λ e. map Some events ++ e ∷ []) is
+    ap (map event_of) (one_kept seen [] line kept) ∙ map-append event_of (not_skipped seen) (line ∷ [])
+        ∙ ap (λ before. before ++ event_of line ∷ []) read ∙ ap (λ e. map Some events ++ e ∷ []) is
     ∙ sym (map-append Some events (event ∷ []))
 
 -- a line that is not skipped and spells no event is a fault
-line_fault : (text : List ℕ) (seen more : List (List ℕ)) (line : List ℕ) → lines text ≡ seen ++ line ∷ more → is_skipped line ≡ false → event_of line ≡ None → IsFaultOfScript text Line
+line_fault : (text : List ℕ) (seen more : List (List ℕ)) (line : List ℕ) → lines text ≡ seen ++ line ∷ more → is_skipped line ≡ false
+    → event_of line ≡ None → IsFaultOfScript text Line
 line_fault text seen more line cut kept none =
     let there = Contains-append_right (not_skipped seen) (line ∷ not_skipped more) line (0, omega arith, refl) in
     let lines_are : event_lines text ≡ not_skipped seen ++ line ∷ not_skipped more = ap not_skipped cut ∙ one_kept seen more line kept in
     subst (Any (λ l. (event : Event) → SpellsEvent l event → ⊥)) (sym lines_are)
     (there.0, line, there.1, there.2, λ event spelt. let some : event_of line ≡ Some event = line_read line event spelt in cc)
 
-pub fault_told : (text : List ℕ) (seen more : List (List ℕ)) (line : List ℕ) (error : ScriptError) → lines text ≡ seen ++ line ∷ more → is_skipped line ≡ false
+pub fault_told : (text : List ℕ) (seen more : List (List ℕ)) (line : List ℕ) (error : ScriptError) → lines text ≡ seen ++ line ∷ more
+    → is_skipped line ≡ false
     → (error ≡ Memory) ⊎ ((error ≡ Line) × (event_of line ≡ None)) → IsFaultOfScript text error
 fault_told text seen more line error cut kept (inl memory) = rw memory tt
 fault_told text seen more line error cut kept (inr (is, none)) = rw is (line_fault text seen more line cut kept none)

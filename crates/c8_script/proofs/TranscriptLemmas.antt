@@ -30,7 +30,8 @@ new_runs rules made events answers world is_new runs =
     (subst (λ (r : Rules). RunsWithMemory r made.room (start rules) events answers world) is_new.rules_are runs)
 
 -- memory ran out at an event
-pub begun_out : (rules : Rules) (made left : TableValue) (events : List Event) (answers : List Answer) → IsNewWorld rules made → HasRunOut made (start rules) events answers left
+pub begun_out : (rules : Rules) (made left : TableValue) (events : List Event) (answers : List Answer) → IsNewWorld rules made
+    → HasRunOut made (start rules) events answers left
     → AreFirstTurns events answers made left → IsBegun rules events answers
 begun_out rules made left events answers is_new out first = record {
   before = out.before;
@@ -38,11 +39,13 @@ begun_out rules made left events answers is_new out first = record {
   at = out.at;
   world = out.then;
   runs = new_runs rules made out.before answers out.then is_new out.runs;
-  turned = inr (record { before = first.before; after = first.after; at = first.at; made = made; is_new = is_new; left = first.mid; turns = first.turns });
+  turned = inr (record { before = first.before; after = first.after; at = first.at; made = made; is_new = is_new; left = first.mid;
+      turns = first.turns });
 }
 
 -- all events were run
-pub begun_all : (rules : Rules) (made left : TableValue) (events : List Event) (answers : List Answer) → IsNewWorld rules made → HasRun made (start rules) events answers left
+pub begun_all : (rules : Rules) (made left : TableValue) (events : List Event) (answers : List Answer) → IsNewWorld rules made
+    → HasRun made (start rules) events answers left
     → AreTurns events answers made left → IsBegun rules events answers
 begun_all rules made left events answers is_new run turns = record {
   before = events;

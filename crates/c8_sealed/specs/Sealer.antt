@@ -55,14 +55,17 @@ pub record IsFor (seal : Seal) (packet : List ℕ) (given : GivenValue) : Type 0
 
 -- Of a packet for this seat that has a new counter of its sender the datagram is taken. Of all others nothing is.
 abbrev pub IsTaking : SealerValue → List ℕ → Result GivenValue NotTaken → SealerValue → Type 0
-IsTaking old packet (Ok given) new = IsFor old.seal packet given × IsNew (counters_of given.from old.taken) given.counter × (new ≡ record old { taken = old.taken ++ given ∷ [] })
+IsTaking old packet (Ok given) new = IsFor old.seal packet given × IsNew (counters_of given.from old.taken) given.counter
+    × (new ≡ record old { taken = old.taken ++ given ∷ [] })
 IsTaking old packet (Err NotSealed) new = ((given : GivenValue) → IsFor old.seal packet given → ⊥) × (new ≡ old)
-IsTaking old packet (Err SeenBefore) new = ((given : GivenValue) × IsFor old.seal packet given × (IsNew (counters_of given.from old.taken) given.counter → ⊥)) × (new ≡ old)
+IsTaking old packet (Err SeenBefore) new =
+    ((given : GivenValue) × IsFor old.seal packet given × (IsNew (counters_of given.from old.taken) given.counter → ⊥)) × (new ≡ old)
 
 -- all of these packets, one after another
 abbrev pub AreTakings : List (List ℕ) → SealerValue → SealerValue → Type 0
 AreTakings [] old new = new ≡ old
-AreTakings (packet ∷ packets) old new = (answer : Result GivenValue NotTaken) × (middle : SealerValue) × IsTaking old packet answer middle × AreTakings packets middle new
+AreTakings (packet ∷ packets) old new = (answer : Result GivenValue NotTaken) × (middle : SealerValue) × IsTaking old packet answer middle
+    × AreTakings packets middle new
 
 -- ---- how a sealer keeps what it has taken
 

@@ -14,7 +14,8 @@ pub record HasOpened {W : Type 0} (wire : Ghosts W) (old new : SealerValue) (bef
 
 -- the wire below got the packet of a datagram, or nothing if the datagram was not sealed
 abbrev pub IsPassed : {W : Type 0} → Ghosts W → SealerValue → List ℕ → List ℕ → Result ℕ Unsealable → SealerValue → W → W → Type 0
-IsPassed wire old datagram out (Ok size) new before after = HasSealed old datagram out size new × MayTake (wire.sent before) (take size out) (wire.sent after)
+IsPassed wire old datagram out (Ok size) new before after =
+    HasSealed old datagram out size new × MayTake (wire.sent before) (take size out) (wire.sent after)
 IsPassed wire old datagram out (Err why) new before after = IsUnsealed old datagram why × (new ≡ old) × (wire.sent after ≡ wire.sent before)
 
 -- A datagram was given to be sent.

@@ -1,5 +1,6 @@
 -- Rows that are judged and taken one after the other.
-use Rattle.std.proofs.Common.{◌≡◌, ℕ, zero, suc, ◌+◌, ◌<◌, ◌≤◌, Bool, true, false, List, [], ◌∷◌, ◌++◌, length, drop, Some, refl, ap, ◌∙◌, append_assoc, min, inl, inr, arith}
+use Rattle.std.proofs.Common.{◌≡◌, ℕ, zero, suc, ◌+◌, ◌<◌, ◌≤◌, Bool, true, false, List, [], ◌∷◌, ◌++◌, length, drop, Some, refl, ap, ◌∙◌,
+  append_assoc, min, inl, inr, arith}
 use Rattle.std.specs.Prelude.{not, ◌&&◌, ◌||◌}
 use Rattle.std.specs.List.{slice_get}
 use Rattle.std.proofs.lemmas.Bool.{cases_lt}
@@ -80,7 +81,8 @@ pub with_one_more : (w : WatchValue) (row : Row) (rows : List Row) → with_rows
 with_one_more w row rows = ap (λ (all : List Row). record w { rows = all }) (append_assoc w.rows (row ∷ []) rows)
 
 -- if all remaining rows have room, the next one has
-pub has_room : (now first : WatchValue) (left all : List Row) → with_rows now left ≡ with_rows first all → 0 < length left → length first.rows + length all ≤ first.rules.frames
+pub has_room : (now first : WatchValue) (left all : List Row) → with_rows now left ≡ with_rows first all → 0 < length left
+    → length first.rows + length all ≤ first.rules.frames
     → length now.rows < now.rules.frames
 has_room now first left all same some fits =
     let long : length (now.rows ++ left) ≡ length (first.rows ++ all) = ap (λ (w : WatchValue). length w.rows) same in

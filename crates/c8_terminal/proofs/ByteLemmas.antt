@@ -32,9 +32,11 @@ move_from (suc (suc (suc (suc (suc (suc (suc (suc (suc (suc (suc (suc zero))))))
 move_from (suc (suc (suc (suc (suc (suc (suc (suc (suc (suc (suc (suc (suc zero))))))))))))) row column cells within = refl
 move_from (suc (suc (suc (suc (suc (suc (suc (suc (suc (suc (suc (suc (suc (suc zero)))))))))))))) row column cells within = refl
 move_from (suc (suc (suc (suc (suc (suc (suc (suc (suc (suc (suc (suc (suc (suc (suc zero))))))))))))))) row column cells within = refl
-move_from (suc (suc (suc (suc (suc (suc (suc (suc (suc (suc (suc (suc (suc (suc (suc (suc y)))))))))))))))) row column cells within = absurd (omega (arith, within))
+move_from (suc (suc (suc (suc (suc (suc (suc (suc (suc (suc (suc (suc (suc (suc (suc (suc y)))))))))))))))) row column cells within =
+    absurd (omega (arith, within))
 
-cell_from : (upper lower : Bool) (row column : ℕ) (cells : ℕ → ℕ → ℕ) → after (cell upper lower) (ready row column cells) ≡ printed (character upper lower) (ready row column cells)
+cell_from : (upper lower : Bool) (row column : ℕ) (cells : ℕ → ℕ → ℕ)
+    → after (cell upper lower) (ready row column cells) ≡ printed (character upper lower) (ready row column cells)
 unfolding after
 cell_from false false row column cells = refl
 cell_from true false row column cells = refl
@@ -45,8 +47,10 @@ abbrev in_mode : Mode → Terminal → Terminal
 in_mode mode t = record { mode = mode; row = t.row; column = t.column; cells = t.cells }
 
 pub after-move : (y : ℕ) (t : Terminal) → y < 16 → t.mode ≡ Ready → after (move (y + 1)) t ≡ ready (y + 1) 1 t.cells
-after-move y t within is = subst (λ (m : Mode). after (move (y + 1)) (in_mode m t) ≡ ready (y + 1) 1 t.cells) (sym is) (move_from y t.row t.column t.cells within)
+after-move y t within is = subst (λ (m : Mode). after (move (y + 1)) (in_mode m t) ≡ ready (y + 1) 1 t.cells) (sym is)
+    (move_from y t.row t.column t.cells within)
 
 pub after-cell : (upper lower : Bool) (t : Terminal) → t.mode ≡ Ready → after (cell upper lower) t ≡ printed (character upper lower) t
 after-cell upper lower t is =
-    subst (λ (m : Mode). after (cell upper lower) (in_mode m t) ≡ printed (character upper lower) t) (sym is) (cell_from upper lower t.row t.column t.cells)
+    subst (λ (m : Mode). after (cell upper lower) (in_mode m t) ≡ printed (character upper lower) t) (sym is)
+        (cell_from upper lower t.row t.column t.cells)

@@ -13,11 +13,14 @@ abbrev pub character_at : Points → ℕ → ℕ → ℕ
 character_at points y x = character (points x (2 * y)) (points x (2 * y + 1))
 
 printed_here : (n row column : ℕ) (t : Terminal) → row ≡ t.row → column ≡ t.column → (printed n t).cells row column ≡ n
-printed_here n row column t r c = cond-true (nat_eq row t.row && nat_eq column t.column) n (t.cells row column) (and_from _ _ (eq-eqb row t.row r) (eq-eqb column t.column c))
+printed_here n row column t r c = cond-true (nat_eq row t.row && nat_eq column t.column) n (t.cells row column)
+    (and_from _ _ (eq-eqb row t.row r) (eq-eqb column t.column c))
 
 printed_elsewhere : (n row column : ℕ) (t : Terminal) → (row ≢ t.row) ⊎ (column ≢ t.column) → (printed n t).cells row column ≡ t.cells row column
-printed_elsewhere n row column t (inl r) = cond-false (nat_eq row t.row && nat_eq column t.column) n (t.cells row column) (and_left _ _ (ne_eqb row t.row r))
-printed_elsewhere n row column t (inr c) = cond-false (nat_eq row t.row && nat_eq column t.column) n (t.cells row column) (and_right _ _ (ne_eqb column t.column c))
+printed_elsewhere n row column t (inl r) =
+    cond-false (nat_eq row t.row && nat_eq column t.column) n (t.cells row column) (and_left _ _ (ne_eqb row t.row r))
+printed_elsewhere n row column t (inr c) =
+    cond-false (nat_eq row t.row && nat_eq column t.column) n (t.cells row column) (and_right _ _ (ne_eqb column t.column c))
 
 -- u is t after the first n cells of a row of text were printed
 record HasCells (points : Points) (y n : ℕ) (t u : Terminal) : Type 0 where
@@ -64,10 +67,12 @@ cells_more points y n t h =
 first_cells : (points : Points) (y n : ℕ) (cells : ℕ → ℕ → ℕ)
     → HasCells points y n (ready (y + 1) 1 cells) (after (flat_map (cell_at points y) (range_with_len 0 n)) (ready (y + 1) 1 cells))
 unfolding after
-first_cells points y zero cells = record { mode = refl; row = refl; column = refl; shown = λ x none. absurd (omega arith); rest = λ row column far. refl }
+first_cells points y zero cells = record { mode = refl; row = refl; column = refl; shown = λ x none. absurd (omega arith);
+    rest = λ row column far. refl }
 first_cells points y (suc n) cells =
     let one : n + 1 ≡ suc n = omega arith in
-    subst (λ (m : ℕ). HasCells points y m (ready (y + 1) 1 cells) (after (flat_map (cell_at points y) (range_with_len 0 m)) (ready (y + 1) 1 cells))) one
+    subst (λ (m : ℕ). HasCells points y m (ready (y + 1) 1 cells)
+        (after (flat_map (cell_at points y) (range_with_len 0 m)) (ready (y + 1) 1 cells))) one
     (cells_more points y n (ready (y + 1) 1 cells) (first_cells points y n cells))
 
 -- u is t after a row of text was read

@@ -1,5 +1,6 @@
 -- A set of keys that grows by one key at a time, and keys when one of them changes.
-use Rattle.std.proofs.Common.{◌≡◌, ℕ, ◌+◌, ◌*◌, ◌%◌, ◌^◌, ◌<◌, ◌≤◌, ◌≢◌, Bool, true, false, cond, List, length, sym, ap, subst, ◌∙◌, inl, inr, arith, bit_or, w16, slice_index_or, slice_set}
+use Rattle.std.proofs.Common.{◌≡◌, ℕ, ◌+◌, ◌*◌, ◌%◌, ◌^◌, ◌<◌, ◌≤◌, ◌≢◌, Bool, true, false, cond, List, length, sym, ap, subst, ◌∙◌, inl,
+  inr, arith, bit_or, w16, slice_index_or, slice_set}
 use Rattle.std.specs.Int.{bit_at}
 use Rattle.std.specs.Prelude.{◌==◌}
 use Rattle.std.proofs.lemmas.Bool.{cases_Bool, cases_lt, eqb-true}
@@ -27,7 +28,8 @@ module _ (passes : ℕ → Bool) (n keys : ℕ) (h : KeysBelow passes n keys) wh
               | inl before ↦ other k (omega arith) ∙ h.has k before
               | inr here ↦
                   let is : n ≡ k = omega arith in
-                  subst (λ (j : ℕ). bit_at (bit_or keys (1 * 2 ^ n % 65536)) j ≡ cond (passes j) 1 0) is (same ∙ ap (λ (b : Bool). cond b 1 0) (sym passed))
+                  subst (λ (j : ℕ). bit_at (bit_or keys (1 * 2 ^ n % 65536)) j ≡ cond (passes j) 1 0) is
+                      (same ∙ ap (λ (b : Bool). cond b 1 0) (sym passed))
             ];
         rest = λ k past. other k (omega arith) ∙ h.rest k (omega arith);
       }
@@ -50,7 +52,8 @@ abbrev pub known : List Press → ℕ → strokes.Press
 known ps k = press_of (slice_index_or ps k (record { down = false; unseen = false; left = 0; since = 0 }))
 
 -- the press of one key was changed by f
-pub changed : (ps : List Press) (i : ℕ) (p : Press) (f : strokes.Press → strokes.Press) → i < length ps → press_of p ≡ f (known ps i) → (k : ℕ) → known (slice_set ps i p) k ≡ cond (i == k) (f (known ps k)) (known ps k)
+pub changed : (ps : List Press) (i : ℕ) (p : Press) (f : strokes.Press → strokes.Press) → i < length ps → press_of p ≡ f (known ps i)
+    → (k : ℕ) → known (slice_set ps i p) k ≡ cond (i == k) (f (known ps k)) (known ps k)
 changed ps i p f within is k =
     elim (cases_Bool (i == k)) [
       | inl same ↦

@@ -1,5 +1,6 @@
 -- A terminal that has read a painting shows its points.
-use Rattle.std.proofs.Common.{◌≡◌, ◌≢◌, ◌⊎◌, ℕ, zero, suc, ◌+◌, ◌*◌, ◌<◌, ◌≤◌, Bool, true, false, cond, List, [], ◌∷◌, ◌++◌, Option, Some, None, refl, sym, ap, subst, ◌∙◌, inl, inr, arith}
+use Rattle.std.proofs.Common.{◌≡◌, ◌≢◌, ◌⊎◌, ℕ, zero, suc, ◌+◌, ◌*◌, ◌<◌, ◌≤◌, Bool, true, false, cond, List, [], ◌∷◌, ◌++◌, Option, Some,
+  None, refl, sym, ap, subst, ◌∙◌, inl, inr, arith}
 use Rattle.std.specs.List.{flat_map, filter, range_with_len}
 use Rattle.std.proofs.lemmas.Grind.{flat_map-append}
 use Rattle.std.proofs.lemmas.List.{append-nil}
@@ -29,10 +30,12 @@ one_row f p n b e =
     ap (λ (last : List ℕ). flat_map f front ++ last) (sym (last_row f p n b e)) ∙ sym (flat_map-append f front (filter p (n ∷ [])))
     ∙ ap (flat_map f) (sym (filter-append p (range_with_len 0 n) (n ∷ []))) ∙ ap (λ (ns : List ℕ). flat_map f (filter p ns)) (sym (range_more n))
 
-pub row_due : (known : Option Points) (points : Points) (n : ℕ) → is_due known points n ≡ true → rows_before known points n ++ line points n ≡ rows_before known points (n + 1)
+pub row_due : (known : Option Points) (points : Points) (n : ℕ) → is_due known points n ≡ true
+    → rows_before known points n ++ line points n ≡ rows_before known points (n + 1)
 row_due known points n e = one_row (line points) (is_due known points) n true e
 
-pub row_not_due : (known : Option Points) (points : Points) (n : ℕ) → is_due known points n ≡ false → rows_before known points n ≡ rows_before known points (n + 1)
+pub row_not_due : (known : Option Points) (points : Points) (n : ℕ) → is_due known points n ≡ false
+    → rows_before known points n ≡ rows_before known points (n + 1)
 row_not_due known points n e = sym (append-nil (rows_before known points n)) ∙ one_row (line points) (is_due known points) n false e
 
 -- u is t after the first n rows of text were painted
@@ -99,7 +102,8 @@ module _ (known : Option Points) (points : Points) (t : Terminal) (agrees : Agre
                   let here : n ≡ y = omega arith in
                   let past : n < y + 1 = omega arith in
                   h.rest (y + 1) (x + 1) (inl past)
-                  ∙ subst (λ (k : ℕ). t.cells (k + 1) (x + 1) ≡ character_at points k x) here (shown_before known points n x t agrees same within column)
+                  ∙ subst (λ (k : ℕ). t.cells (k + 1) (x + 1) ≡ character_at points k x) here
+                  (shown_before known points n x t agrees same within column)
             ];
         rest = λ row column far.
             elim far [
@@ -127,13 +131,15 @@ repaints known points t agrees = let h = all_rows known points t agrees in ((h.m
 
 none_due : (p : ℕ → Bool) (a n : ℕ) → ((k : ℕ) → p k ≡ false) → filter p (range_with_len a n) ≡ []
 none_due p a zero h = refl
-none_due p a (suc n) h = ap (λ (b : Bool). cond b (a ∷ filter p (range_with_len (a + 1) n)) (filter p (range_with_len (a + 1) n))) (h a) ∙ none_due p (a + 1) n h
+none_due p a (suc n) h = ap (λ (b : Bool). cond b (a ∷ filter p (range_with_len (a + 1) n)) (filter p (range_with_len (a + 1) n))) (h a)
+    ∙ none_due p (a + 1) n h
 
 pub nothing_new : (points : Points) → painting (Some points) points ≡ []
 unfolding painting
 nothing_new points =
     ap (flat_map (line points))
-    (none_due (is_due (Some points) points) 0 16 (λ k. not_from_true _ (and_from _ _ (same_with_itself points (2 * k)) (same_with_itself points (2 * k + 1)))))
+    (none_due (is_due (Some points) points) 0 16
+        (λ k. not_from_true _ (and_from _ _ (same_with_itself points (2 * k)) (same_with_itself points (2 * k + 1)))))
 
 pub all_are : (known : Option Points) (points : Points) (n : ℕ) → n ≡ 16 → rows_before known points n ≡ painting known points
 unfolding painting

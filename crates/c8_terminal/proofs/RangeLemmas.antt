@@ -18,11 +18,13 @@ range_more n =
     ap (range_with_len 0) one ∙ range_suc 0 n ∙ ap (λ (m : ℕ). range_with_len 0 n ++ m ∷ []) same
 
 -- what the numbers spell, and what the next one spells
-pub spelled_more : (f : ℕ → List ℕ) (before : List ℕ) (n : ℕ) → (before ++ flat_map f (range_with_len 0 n)) ++ f n ≡ before ++ flat_map f (range_with_len 0 (n + 1))
+pub spelled_more : (f : ℕ → List ℕ) (before : List ℕ) (n : ℕ)
+    → (before ++ flat_map f (range_with_len 0 n)) ++ f n ≡ before ++ flat_map f (range_with_len 0 (n + 1))
 spelled_more f before n =
     append_assoc before (flat_map f (range_with_len 0 n)) (f n)
     ∙ ap (λ (bytes : List ℕ). before ++ bytes)
-    (ap (λ (last : List ℕ). flat_map f (range_with_len 0 n) ++ last) (sym (append-nil (f n))) ∙ sym (flat_map-append f (range_with_len 0 n) (n ∷ [])) ∙ ap (flat_map f) (sym (range_more n)))
+    (ap (λ (last : List ℕ). flat_map f (range_with_len 0 n) ++ last) (sym (append-nil (f n)))
+        ∙ sym (flat_map-append f (range_with_len 0 n) (n ∷ [])) ∙ ap (flat_map f) (sym (range_more n)))
 
 pub all_at : (p : ℕ → Bool) (a n x : ℕ) → list_all p (range_with_len a n) ≡ true → a ≤ x → x < a + n → p x ≡ true
 all_at p a zero x all low high = absurd (omega arith)
@@ -35,4 +37,5 @@ all_at p a (suc n) x all low high =
 
 pub all_from : (p : ℕ → Bool) (a n : ℕ) → ((x : ℕ) → a ≤ x → x < a + n → p x ≡ true) → list_all p (range_with_len a n) ≡ true
 all_from p a zero each = refl
-all_from p a (suc n) each = and_from (p a) _ (each a (omega arith) (omega arith)) (all_from p (a + 1) n (λ x low high. each x (omega arith) (omega arith)))
+all_from p a (suc n) each = and_from (p a) _ (each a (omega arith) (omega arith))
+    (all_from p (a + 1) n (λ x low high. each x (omega arith) (omega arith)))

@@ -41,7 +41,8 @@ bits_same v w each i within =
     let e : (bit_at v i == 1) ≡ (bit_at w i == 1) = rw back at (each (63 - i) (omega arith)) in
     one_bit (bit_at v i) (bit_at w i) (bit_at-lt v i) (bit_at-lt w i) e
 
-module _ (a b : Points) (y v w : ℕ) (v_in : v < 2 ^ 64) (w_in : w < 2 ^ 64) (v_is : (x : ℕ) → x < 64 → row_has v x ≡ a x y) (w_is : (x : ℕ) → x < 64 → row_has w x ≡ b x y) where
+module _ (a b : Points) (y v w : ℕ) (v_in : v < 2 ^ 64) (w_in : w < 2 ^ 64) (v_is : (x : ℕ) → x < 64 → row_has v x ≡ a x y)
+    (w_is : (x : ℕ) → x < 64 → row_has w x ≡ b x y) where
   equal_rows : v ≡ w → same_row a b y ≡ true
   unfolding same_row
   equal_rows e =
@@ -51,11 +52,13 @@ module _ (a b : Points) (y v w : ℕ) (v_in : v < 2 ^ 64) (w_in : w < 2 ^ 64) (v
       ap (λ (q : Bool). alike (a x y) q) (sym points) ∙ alike_refl (a x y))
 
   same_numbers : same_row a b y ≡ true → v ≡ w
-  same_numbers same = same_from_bits_below 64 v w v_in w_in (bits_same v w (λ x within. v_is x within ∙ same_points a b y x same within ∙ sym (w_is x within)))
+  same_numbers same = same_from_bits_below 64 v w v_in w_in
+      (bits_same v w (λ x within. v_is x within ∙ same_points a b y x same within ∙ sym (w_is x within)))
 
   pub compared : (v == w) ≡ same_row a b y
   compared =
       elim (cases_Bool (same_row a b y)) [
         | inl same ↦ eq-eqb v w (same_numbers same) ∙ sym same
-        | inr differ ↦ false_from_ne_true (v == w) (λ e. absurd (let bad : true ≡ false = sym (equal_rows (eqb-true v w e)) ∙ differ in cc)) ∙ sym differ
+        | inr differ ↦ false_from_ne_true (v == w) (λ e. absurd (let bad : true ≡ false = sym (equal_rows (eqb-true v w e)) ∙ differ in cc))
+        ∙ sym differ
       ]

@@ -1,13 +1,17 @@
 -- The bytes that a terminal sends are decoded.
-use Rattle.std.proofs.Common.{◌≡◌, ℕ, ◌+◌, ◌/◌, ◌%◌, ◌<◌, ◌≤◌, Bool, true, false, cond, List, [], ◌∷◌, ◌++◌, Option, None, refl, sym, ap, subst, ◌∙◌, arith}
+use Rattle.std.proofs.Common.{◌≡◌, ℕ, ◌+◌, ◌/◌, ◌%◌, ◌<◌, ◌≤◌, Bool, true, false, cond, List, [], ◌∷◌, ◌++◌, Option, None, refl, sym, ap,
+  subst, ◌∙◌, arith}
 use Rattle.std.specs.Prelude.{◌==◌, ◌&&◌, ◌||◌, nat_lt, nat_le}
 use Rattle.std.specs.Fmt.{decimal}
 use Rattle.std.proofs.lemmas.Bool.{and_from, false_from_ne_true, eqb-true}
 use Rattle.std.proofs.lemmas.Bool.Decides.{nat_tests}
 use Rattle.std.proofs.lemmas.Fmt.{decimal_by_steps}
 use Rattle.c8_terminal.specs.declared.signal.Signal.{Signal}
-use Rattle.c8_terminal.specs.Decoding.{Decoding, Numbers, Reading, Nothing, Escape, Single, Control, Answer, Step, character, is_digit, is_last, is_text, key_event, names_event, no_numbers, reads, reports_events, step, step_in, tells, told_of, with_digit, with_number}
-use Rattle.c8_terminal.specs.Sent.{AreOne, AreSent, Arrow, ArrowEvent, Direction, Downward, Fits, Flags, FocusCame, FocusLost, IsRead, IsSent, KeyEvent, KeyPress, Leftward, ModifiedKeyPress, PlacedKeyEvent, Rightward, Sent, SingleArrow, Typed, Upward, all_bytes, arrow_key, bytes_of, capped, exact_after, letter, numbers, ready, told, told_by, told_of_all, with_told}
+use Rattle.c8_terminal.specs.Decoding.{Decoding, Numbers, Reading, Nothing, Escape, Single, Control, Answer, Step, character, is_digit,
+  is_last, is_text, key_event, names_event, no_numbers, reads, reports_events, step, step_in, tells, told_of, with_digit, with_number}
+use Rattle.c8_terminal.specs.Sent.{AreOne, AreSent, Arrow, ArrowEvent, Direction, Downward, Fits, Flags, FocusCame, FocusLost, IsRead,
+  IsSent, KeyEvent, KeyPress, Leftward, ModifiedKeyPress, PlacedKeyEvent, Rightward, Sent, SingleArrow, Typed, Upward, all_bytes, arrow_key,
+  bytes_of, capped, exact_after, letter, numbers, ready, told, told_by, told_of_all, with_told}
 
 abbrev in_mode : Reading → Bool → Decoding
 in_mode reading exact = record { reading = reading; exact = exact }
@@ -17,17 +21,20 @@ Leads : List ℕ → Reading → Bool → Reading → Type 0
 Leads [] from exact to = from ≡ to
 Leads (b ∷ bs) from exact to = (between : Reading) × (step_in from b exact ≡ reads between exact) × Leads bs between exact to
 
-leads_on : (bs cs : List ℕ) (from between to : Reading) (exact : Bool) → Leads bs from exact between → Leads cs between exact to → Leads (bs ++ cs) from exact to
+leads_on : (bs cs : List ℕ) (from between to : Reading) (exact : Bool) → Leads bs from exact between → Leads cs between exact to
+    → Leads (bs ++ cs) from exact to
 unfolding Leads
 leads_on [] cs from between to exact h k = subst (λ (r : Reading). Leads cs r exact to) (sym h) k
 leads_on (b ∷ bs) cs from between to exact h k = (h.0, h.1, leads_on bs cs h.0 between to exact h.2 k)
 
 -- one more byte before others
-one_more : (b c : ℕ) (bs more : List ℕ) (d : Decoding) (last : Step) → (step b d).told ≡ None → AreOne (bs ++ c ∷ more) (step b d).next last → AreOne (b ∷ (bs ++ c ∷ more)) d last
+one_more : (b c : ℕ) (bs more : List ℕ) (d : Decoding) (last : Step) → (step b d).told ≡ None → AreOne (bs ++ c ∷ more) (step b d).next last
+    → AreOne (b ∷ (bs ++ c ∷ more)) d last
 one_more b c [] more d last quiet h = (quiet, h)
 one_more b c (x ∷ bs) more d last quiet h = (quiet, h)
 
-after_lead : (bs : List ℕ) (c : ℕ) (more : List ℕ) (from to : Reading) (exact : Bool) (last : Step) → Leads bs from exact to → AreOne (c ∷ more) (in_mode to exact) last → AreOne (bs ++ c ∷ more) (in_mode from exact) last
+after_lead : (bs : List ℕ) (c : ℕ) (more : List ℕ) (from to : Reading) (exact : Bool) (last : Step) → Leads bs from exact to
+    → AreOne (c ∷ more) (in_mode to exact) last → AreOne (bs ++ c ∷ more) (in_mode from exact) last
 unfolding Leads
 after_lead [] c more from to exact last lead h = subst (λ (r : Reading). AreOne (c ∷ more) (in_mode r exact) last) (sym lead) h
 after_lead (b ∷ bs) c more from to exact last lead h =
@@ -35,7 +42,8 @@ after_lead (b ∷ bs) c more from to exact last lead h =
     (subst (λ (s : Step). AreOne (bs ++ c ∷ more) s.next last) (sym lead.1) (after_lead bs c more lead.0 to exact last lead.2 h))
 
 -- what leads to the beginning of the rest
-led : (bs rest : List ℕ) (from to : Reading) (exact : Bool) (last : Step) → Leads bs from exact to → AreOne rest (in_mode to exact) last → AreOne (bs ++ rest) (in_mode from exact) last
+led : (bs rest : List ℕ) (from to : Reading) (exact : Bool) (last : Step) → Leads bs from exact to → AreOne rest (in_mode to exact) last
+    → AreOne (bs ++ rest) (in_mode from exact) last
 led bs [] from to exact last lead h = absurd h
 led bs (c ∷ more) from to exact last lead h = after_lead bs c more from to exact last lead h
 
@@ -59,17 +67,20 @@ answer_step flags v exact h = rw (digit_is_not_last v h, digit_is_text v h, digi
 abbrev IsPlace : (ℕ → Numbers) → Type 0
 IsPlace put = (b v : ℕ) → with_number b (put v) ≡ put (with_digit v b)
 
-one_digit : (put : ℕ → Numbers) → IsPlace put → (exact : Bool) (v d w : ℕ) → d < 10 → w ≡ with_digit v (48 + d) → Leads ((48 + d) ∷ []) (Control (put v)) exact (Control (put w))
+one_digit : (put : ℕ → Numbers) → IsPlace put → (exact : Bool) (v d w : ℕ) → d < 10 → w ≡ with_digit v (48 + d)
+    → Leads ((48 + d) ∷ []) (Control (put v)) exact (Control (put w))
 unfolding Leads
 one_digit put place exact v d w small is =
     (Control (put w), digit_step (put v) d exact small ∙ ap (λ (n : Numbers). reads (Control n) exact) (place (48 + d) v ∙ ap put (sym is)), refl)
 
 -- a decimal number is read at that place
-number_leads : (put : ℕ → Numbers) → IsPlace put → (exact : Bool) (n : ℕ) → Fits n → Leads (decimal n) (Control (put 0)) exact (Control (put (capped n)))
+number_leads : (put : ℕ → Numbers) → IsPlace put → (exact : Bool) (n : ℕ) → Fits n
+    → Leads (decimal n) (Control (put 0)) exact (Control (put (capped n)))
 number_leads put place exact n fits =
     decimal_by_steps (λ m ds. Leads ds (Control (put 0)) exact (Control (put (capped m))))
     (λ m small. one_digit put place exact 0 m (capped m) small (omega arith))
-    (λ m ds large h. leads_on ds _ (Control (put 0)) (Control (put (capped (m / 10)))) (Control (put (capped m))) exact h (one_digit put place exact (capped (m / 10)) (m % 10) (capped m) (omega arith) (omega arith)))
+    (λ m ds large h. leads_on ds _ (Control (put 0)) (Control (put (capped (m / 10)))) (Control (put (capped m))) exact h
+        (one_digit put place exact (capped (m / 10)) (m % 10) (capped m) (omega arith) (omega arith)))
     n fits
 
 one_answer_digit : (exact : Bool) (v d w : ℕ) → d < 10 → w ≡ with_digit v (48 + d) → Leads ((48 + d) ∷ []) (Answer v) exact (Answer w)
@@ -81,7 +92,8 @@ answer_leads : (exact : Bool) (n : ℕ) → Fits n → Leads (decimal n) (Answer
 answer_leads exact n fits =
     decimal_by_steps (λ m ds. Leads ds (Answer 0) exact (Answer (capped m)))
     (λ m small. one_answer_digit exact 0 m (capped m) small (omega arith))
-    (λ m ds large h. leads_on ds _ (Answer 0) (Answer (capped (m / 10))) (Answer (capped m)) exact h (one_answer_digit exact (capped (m / 10)) (m % 10) (capped m) (omega arith) (omega arith)))
+    (λ m ds large h. leads_on ds _ (Answer 0) (Answer (capped (m / 10))) (Answer (capped m)) exact h
+        (one_answer_digit exact (capped (m / 10)) (m % 10) (capped m) (omega arith) (omega arith)))
     n fits
 
 -- one byte that continues a sequence
@@ -113,12 +125,16 @@ abbrev with_event : ℕ → ℕ → ℕ → ℕ → Numbers
 with_event code base modifiers v = record { field = 1; part = 1; code = code; base = base; modifiers = modifiers; event = v }
 
 -- modifiers, an event and the last byte, after the numbers of a key
-tail_read : (code base modifiers event last : ℕ) (exact : Bool) (end : Step) → Fits modifiers → Fits event → step_in (Control (with_event code base (capped modifiers) (capped event))) last exact ≡ end → AreOne (decimal modifiers ++ 0x3A ∷ (decimal event ++ last ∷ [])) (in_mode (Control (with_modifiers code base 0)) exact) end
+tail_read : (code base modifiers event last : ℕ) (exact : Bool) (end : Step) → Fits modifiers → Fits event
+    → step_in (Control (with_event code base (capped modifiers) (capped event))) last exact ≡ end
+    → AreOne (decimal modifiers ++ 0x3A ∷ (decimal event ++ last ∷ [])) (in_mode (Control (with_modifiers code base 0)) exact) end
 tail_read code base modifiers event last exact end fits fits_too is =
     let m : ℕ = capped modifiers in
-    led (decimal modifiers) (0x3A ∷ (decimal event ++ last ∷ [])) (Control (with_modifiers code base 0)) (Control (with_modifiers code base m)) exact end
+    led (decimal modifiers) (0x3A ∷ (decimal event ++ last ∷ [])) (Control (with_modifiers code base 0))
+        (Control (with_modifiers code base m)) exact end
     (number_leads (with_modifiers code base) (λ b v. refl) exact modifiers fits)
-    (led (0x3A ∷ []) (decimal event ++ last ∷ []) (Control (with_modifiers code base m)) (Control (with_event code base m 0)) exact end (by_one 0x3A _ _ exact refl)
+    (led (0x3A ∷ []) (decimal event ++ last ∷ []) (Control (with_modifiers code base m)) (Control (with_event code base m 0)) exact end
+        (by_one 0x3A _ _ exact refl)
     (led (decimal event) (last ∷ []) (Control (with_event code base m 0)) (Control (with_event code base m (capped event))) exact end
     (number_leads (with_event code base m) (λ b v. refl) exact event fits_too) is))
 
@@ -138,7 +154,8 @@ press_read : (code : ℕ) → IsSent (KeyPress code) → IsRead (KeyPress code)
 press_read code fits exact =
     let end : Step = tells (key_event (numbers code 0 0 0) exact) exact in
     led (0x1B ∷ 0x5B ∷ []) (decimal code ++ 0x75 ∷ []) Nothing (Control (with_code 0)) exact end (by_control exact)
-    (led (decimal code) (0x75 ∷ []) (Control (with_code 0)) (Control (with_code (capped code))) exact end (number_leads with_code (λ b v. refl) exact code fits) (press_u (with_code (capped code)) exact refl))
+    (led (decimal code) (0x75 ∷ []) (Control (with_code 0)) (Control (with_code (capped code))) exact end
+        (number_leads with_code (λ b v. refl) exact code fits) (press_u (with_code (capped code)) exact refl))
 
 modified_read : (code modifiers : ℕ) → IsSent (ModifiedKeyPress code modifiers) → IsRead (ModifiedKeyPress code modifiers)
 modified_read code modifiers fits exact =
@@ -146,7 +163,8 @@ modified_read code modifiers fits exact =
     let m : ℕ = capped modifiers in
     let end : Step = tells (key_event (numbers code 0 modifiers 0) exact) exact in
     led (0x1B ∷ 0x5B ∷ []) (decimal code ++ 0x3B ∷ (decimal modifiers ++ 0x75 ∷ [])) Nothing (Control (with_code 0)) exact end (by_control exact)
-    (led (decimal code) (0x3B ∷ (decimal modifiers ++ 0x75 ∷ [])) (Control (with_code 0)) (Control (with_code c)) exact end (number_leads with_code (λ b v. refl) exact code fits.0)
+    (led (decimal code) (0x3B ∷ (decimal modifiers ++ 0x75 ∷ [])) (Control (with_code 0)) (Control (with_code c)) exact end
+        (number_leads with_code (λ b v. refl) exact code fits.0)
     (led (0x3B ∷ []) (decimal modifiers ++ 0x75 ∷ []) (Control (with_code c)) (Control (with_modifiers c 0 0)) exact end (by_one 0x3B _ _ exact refl)
     (led (decimal modifiers) (0x75 ∷ []) (Control (with_modifiers c 0 0)) (Control (with_modifiers c 0 m)) exact end
     (number_leads (with_modifiers c 0) (λ b v. refl) exact modifiers fits.1) (press_u (with_modifiers c 0 m) exact refl))))
@@ -158,10 +176,12 @@ key_event_read code modifiers event fits exact =
     led (0x1B ∷ 0x5B ∷ []) _ Nothing (Control (with_code 0)) exact end (by_control exact)
     (led (decimal code) (0x3B ∷ (decimal modifiers ++ 0x3A ∷ (decimal event ++ 0x75 ∷ []))) (Control (with_code 0)) (Control (with_code c)) exact end
     (number_leads with_code (λ b v. refl) exact code fits.0)
-    (led (0x3B ∷ []) (decimal modifiers ++ 0x3A ∷ (decimal event ++ 0x75 ∷ [])) (Control (with_code c)) (Control (with_modifiers c 0 0)) exact end (by_one 0x3B _ _ exact refl)
+    (led (0x3B ∷ []) (decimal modifiers ++ 0x3A ∷ (decimal event ++ 0x75 ∷ [])) (Control (with_code c)) (Control (with_modifiers c 0 0))
+        exact end (by_one 0x3B _ _ exact refl)
     (tail_read c 0 modifiers event 0x75 exact end fits.1 fits.3 (event_u (numbers code 0 modifiers event) exact (is_named event fits.2)))))
 
-placed_read : (code shifted base modifiers event : ℕ) → IsSent (PlacedKeyEvent code shifted base modifiers event) → IsRead (PlacedKeyEvent code shifted base modifiers event)
+placed_read : (code shifted base modifiers event : ℕ) → IsSent (PlacedKeyEvent code shifted base modifiers event)
+    → IsRead (PlacedKeyEvent code shifted base modifiers event)
 placed_read code shifted base modifiers event fits exact =
     let c : ℕ = capped code in
     let s : ℕ = capped shifted in
@@ -171,7 +191,8 @@ placed_read code shifted base modifiers event fits exact =
     led (0x1B ∷ 0x5B ∷ []) _ Nothing (Control (with_code 0)) exact end (by_control exact)
     (led (decimal code) (0x3A ∷ (decimal shifted ++ 0x3A ∷ (decimal base ++ 0x3B ∷ last))) (Control (with_code 0)) (Control (with_code c)) exact end
     (number_leads with_code (λ b v. refl) exact code fits.0)
-    (led (0x3A ∷ []) (decimal shifted ++ 0x3A ∷ (decimal base ++ 0x3B ∷ last)) (Control (with_code c)) (Control (with_shifted c 0)) exact end (by_one 0x3A _ _ exact refl)
+    (led (0x3A ∷ []) (decimal shifted ++ 0x3A ∷ (decimal base ++ 0x3B ∷ last)) (Control (with_code c)) (Control (with_shifted c 0)) exact
+        end (by_one 0x3A _ _ exact refl)
     (led (decimal shifted) (0x3A ∷ (decimal base ++ 0x3B ∷ last)) (Control (with_shifted c 0)) (Control (with_shifted c s)) exact end
     (number_leads (with_shifted c) (λ b v. refl) exact shifted fits.1)
     (led (0x3A ∷ []) (decimal base ++ 0x3B ∷ last) (Control (with_shifted c s)) (Control (with_base c 0)) exact end (by_one 0x3A _ _ exact refl)
@@ -180,7 +201,8 @@ placed_read code shifted base modifiers event fits exact =
     (led (0x3B ∷ []) last (Control (with_base c b)) (Control (with_modifiers c b 0)) exact end (by_one 0x3B _ _ exact refl)
     (tail_read c b modifiers event 0x75 exact end fits.3 fits.5 (event_u (numbers code base modifiers event) exact (is_named event fits.4)))))))))
 
-last_arrow : (direction : Direction) (n : Numbers) (exact : Bool) → nat_lt 0 n.event ≡ true → step_in (Control n) (letter direction) exact ≡ tells (told_of n.event true (arrow_key direction)) true
+last_arrow : (direction : Direction) (n : Numbers) (exact : Bool) → nat_lt 0 n.event ≡ true
+    → step_in (Control n) (letter direction) exact ≡ tells (told_of n.event true (arrow_key direction)) true
 last_arrow Upward n true some = refl
 last_arrow Upward n false some = ap (λ (e : Bool). tells (told_of n.event e 5) e) some
 last_arrow Downward n true some = refl
@@ -190,19 +212,25 @@ last_arrow Rightward n false some = ap (λ (e : Bool). tells (told_of n.event e 
 last_arrow Leftward n true some = refl
 last_arrow Leftward n false some = ap (λ (e : Bool). tells (told_of n.event e 7) e) some
 
-arrow_event_read : (direction : Direction) (modifiers event : ℕ) → IsSent (ArrowEvent direction modifiers event) → IsRead (ArrowEvent direction modifiers event)
+arrow_event_read : (direction : Direction) (modifiers event : ℕ) → IsSent (ArrowEvent direction modifiers event)
+    → IsRead (ArrowEvent direction modifiers event)
 arrow_event_read direction modifiers event fits exact =
     let is : capped event ≡ event = omega (arith, fits.2) in
     let some : nat_lt 0 (capped event) ≡ true = grind (arith, nat_tests, fits.1, is) in
     let end : Step = tells (told_of event true (arrow_key direction)) true in
     let one : Numbers = with_code 1 in
-    led (0x1B ∷ 0x5B ∷ []) (0x31 ∷ 0x3B ∷ (decimal modifiers ++ 0x3A ∷ (decimal event ++ letter direction ∷ []))) Nothing (Control (with_code 0)) exact end (by_control exact)
-    (led (0x31 ∷ []) (0x3B ∷ (decimal modifiers ++ 0x3A ∷ (decimal event ++ letter direction ∷ []))) (Control (with_code 0)) (Control one) exact end (by_one 0x31 _ _ exact refl)
-    (led (0x3B ∷ []) (decimal modifiers ++ 0x3A ∷ (decimal event ++ letter direction ∷ [])) (Control one) (Control (with_modifiers 1 0 0)) exact end (by_one 0x3B _ _ exact refl)
+    led (0x1B ∷ 0x5B ∷ []) (0x31 ∷ 0x3B ∷ (decimal modifiers ++ 0x3A ∷ (decimal event ++ letter direction ∷ []))) Nothing
+        (Control (with_code 0)) exact end (by_control exact)
+    (led (0x31 ∷ []) (0x3B ∷ (decimal modifiers ++ 0x3A ∷ (decimal event ++ letter direction ∷ []))) (Control (with_code 0)) (Control one)
+        exact end (by_one 0x31 _ _ exact refl)
+    (led (0x3B ∷ []) (decimal modifiers ++ 0x3A ∷ (decimal event ++ letter direction ∷ [])) (Control one) (Control (with_modifiers 1 0 0))
+        exact end (by_one 0x3B _ _ exact refl)
     (tail_read 1 0 modifiers event (letter direction) exact end fits.0 (omega (arith, fits.2))
-    (last_arrow direction (with_event 1 0 (capped modifiers) (capped event)) exact some ∙ ap (λ (v : ℕ). tells (told_of v true (arrow_key direction)) true) is))))
+    (last_arrow direction (with_event 1 0 (capped modifiers) (capped event)) exact some
+        ∙ ap (λ (v : ℕ). tells (told_of v true (arrow_key direction)) true) is))))
 
-arrow_read : (direction : Direction) (exact : Bool) → step_in (Control no_numbers) (letter direction) exact ≡ tells (told_of 0 exact (arrow_key direction)) exact
+arrow_read : (direction : Direction) (exact : Bool)
+    → step_in (Control no_numbers) (letter direction) exact ≡ tells (told_of 0 exact (arrow_key direction)) exact
 arrow_read Upward true = refl
 arrow_read Upward false = refl
 arrow_read Downward true = refl

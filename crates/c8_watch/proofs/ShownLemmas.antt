@@ -21,15 +21,18 @@ use Rattle.c8_watch.specs.Shown.{ShowsWereSaid}
 abbrev pub BeginsIt : Type 0
 BeginsIt = (truth : List Row) (w : WatchValue) (p : Packet) → Begins w.rows truth → ShowsRowsOf truth p → Begins (hear w (Ok p)).watch.rows truth
 
-heard_one : BeginsIt → (truth : List Row) (w : WatchValue) (told : Result Packet WireError) → ((p : Packet) → told ≡ Ok p → ShowsRowsOf truth p) → Begins w.rows truth → Begins (hear w told).watch.rows truth
+heard_one : BeginsIt → (truth : List Row) (w : WatchValue) (told : Result Packet WireError)
+    → ((p : Packet) → told ≡ Ok p → ShowsRowsOf truth p) → Begins w.rows truth → Begins (hear w told).watch.rows truth
 heard_one law truth w (Err error) shows begins = begins
 heard_one law truth w (Ok p) shows begins = law truth w p begins (shows p refl)
 
 -- the rows of a true SHOW of player 1 stand among the confirmed rows of its journal
-shown_stands : (rules : Rules) (s : State) (p : Packet) (m : ShowMessage) → p.message ≡ packets.Show m → IsTrue rules 1 s.journal p → Stands m.start m.rows (confirmed_rows (known_of rules 1 s.journal))
+shown_stands : (rules : Rules) (s : State) (p : Packet) (m : ShowMessage) → p.message ≡ packets.Show m → IsTrue rules 1 s.journal p
+    → Stands m.start m.rows (confirmed_rows (known_of rules 1 s.journal))
 shown_stands rules s p m is true_said = (subst (λ (message : Message). IsTrueMessage rules 1 p.head.to s.journal message) is true_said.message).1
 
-pub shows_begin : BeginsIt → (rules : Rules) (s : State) (answers : List (Option Reply)) → ((p : Packet) → IsAmong answers p → IsTrue rules 1 s.journal p) → (w : WatchValue) (given : List (List ℕ)) → ShowsWereSaid answers given
+pub shows_begin : BeginsIt → (rules : Rules) (s : State) (answers : List (Option Reply))
+    → ((p : Packet) → IsAmong answers p → IsTrue rules 1 s.journal p) → (w : WatchValue) (given : List (List ℕ)) → ShowsWereSaid answers given
     → Begins w.rows (confirmed_rows (known_of rules 1 s.journal)) → Begins (after_hearing w given).rows (confirmed_rows (known_of rules 1 s.journal))
 shows_begin law rules s answers said w [] shows begins = begins
 shows_begin law rules s answers said w (bytes ∷ given) shows begins =

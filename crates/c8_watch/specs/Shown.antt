@@ -9,4 +9,5 @@ use Rattle.c8_peer.specs.Runs.{IsAmong}
 -- One of these answers said each SHOW among these packets. Other packets may be anything.
 abbrev pub ShowsWereSaid : List (Option Reply) → List (List ℕ) → Type 0
 ShowsWereSaid answers [] = Unit {0}
-ShowsWereSaid answers (bytes ∷ given) = ((p : Packet) (m : ShowMessage) → read bytes ≡ Ok p → p.message ≡ packets.Show m → IsAmong answers p) × ShowsWereSaid answers given
+ShowsWereSaid answers (bytes ∷ given) = ((p : Packet) (m : ShowMessage) → read bytes ≡ Ok p → p.message ≡ packets.Show m
+    → IsAmong answers p) × ShowsWereSaid answers given

@@ -34,4 +34,5 @@ pub record IsTurn {W : Type 0} (wire : Ghosts W) (old new : WatchValue) (before 
 -- this number of turns, one after another; between two of them the wire gives and takes nothing
 abbrev pub AreTurns : {W : Type 0} → Ghosts W → ℕ → WatchValue → WatchValue → W → W → Type 0
 AreTurns wire zero old new before after = (new ≡ old) × (wire.received after ≡ wire.received before) × (wire.sent after ≡ wire.sent before)
-AreTurns {W} wire (suc fewer) old new before after = (middle : WatchValue) × (between : W) × AreTurns wire fewer old middle before between × IsTurn wire middle new between after
+AreTurns {W} wire (suc fewer) old new before after =
+    (middle : WatchValue) × (between : W) × AreTurns wire fewer old middle before between × IsTurn wire middle new between after

@@ -16,7 +16,8 @@ use Rattle.c8_net.specs.Errors.{peer_part}
 use Rattle.c8_watch_command.specs.Watched.{HasWatched, HasWatchedThen}
 use Rattle.c8_net.specs.declared.error.PeerError.{PeerError}
 
-pub has_watched : {W : Type 0} (wire : Ghosts W) (rules : Rules) (room seat most : ℕ) (w v : WatchValue) (first : W) (told : Result ℕ WireFailed) (played : Played)
+pub has_watched : {W : Type 0} (wire : Ghosts W) (rules : Rules) (room seat most : ℕ) (w v : WatchValue) (first : W)
+    (told : Result ℕ WireFailed) (played : Played)
     → ((n : ℕ) (a b : WatchValue) (before after : W) → AreTurns wire n a b before after → IsStillWatched a b)
     → w ≡ first_watch rules room seat → ((n : ℕ) × (last : W) × n ≤ most × IfOk told (λ made. made ≡ n) × AreTurns wire n w v first last)
     → played.frames ≡ length v.rows → state played.machine ≡ serial v.rules v.rows → HasWatched wire rules room seat most first played
@@ -33,6 +34,7 @@ has_watched wire rules room seat most w v first told played keep begins turns fr
     }
 
 -- nothing was watched
-pub watched_refused : {E : Type 0} (told : Result Status E) (error : PeerError) → IfOk told (λ status. status ≡ status_of (peer_part error)) → IfOk told HasWatchedThen
+pub watched_refused : {E : Type 0} (told : Result Status E) (error : PeerError) → IfOk told (λ status. status ≡ status_of (peer_part error))
+    → IfOk told HasWatchedThen
 watched_refused (Ok status) error same = (Err error, tt, same)
 watched_refused (Err e) error same = tt

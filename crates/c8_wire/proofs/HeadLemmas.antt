@@ -1,5 +1,6 @@
 -- The header: its bytes are those of what it says, and what it says is read again.
-use Rattle.std.proofs.Common.{◌≡◌, ℕ, ◌+◌, ◌^◌, ◌<◌, ◌≤◌, ◌&&◌, true, false, List, [], ◌∷◌, ◌++◌, length, drop, get_or, slice_index, Some, refl, ap, ◌∙◌, inl, inr, arith}
+use Rattle.std.proofs.Common.{◌≡◌, ℕ, ◌+◌, ◌^◌, ◌<◌, ◌≤◌, ◌&&◌, true, false, List, [], ◌∷◌, ◌++◌, length, drop, get_or, slice_index, Some,
+  refl, ap, ◌∙◌, inl, inr, arith}
 use Rattle.std.specs.Prelude.{◌==◌, not}
 use Rattle.std.proofs.lemmas.Bool.{cases_eq, eq-eqb, ne_eqb}
 use Rattle.c8_game.specs.declared.wire.WireVersion.{WireVersion}
@@ -24,16 +25,21 @@ use Rattle.c8_wire.proofs.TableLemmas.{kind_of_its_code}
 pub then : (front : List ℕ) {whole rest others : List ℕ} → whole ≡ front ++ rest → rest ≡ others → whole ≡ front ++ others
 then front e f = e ∙ ap (λ (r : List ℕ). front ++ r) f
 
-pub byte_here : (place next : ℕ) (bytes : List ℕ) → place + 1 ≡ next → next ≤ length bytes → drop place bytes ≡ slice_index bytes place ∷ [] ++ drop next bytes
+pub byte_here : (place next : ℕ) (bytes : List ℕ) → place + 1 ≡ next → next ≤ length bytes
+    → drop place bytes ≡ slice_index bytes place ∷ [] ++ drop next bytes
 byte_here place next bytes ends long = drop_more bytes place 0 (omega arith) ∙ ap (λ (k : ℕ). get_or bytes place 0 ∷ drop k bytes) ends
 
 -- a header that begins a datagram's bytes spells what it says
-pub spelled_header : (kind : DatagramKind) (bytes : List ℕ) → AreBytes bytes → 24 ≤ length bytes → number_at 0 2 bytes ≡ 0x4338 → slice_index bytes 2 ≡ version_number (version_at bytes) → slice_index bytes 3 ≡ (shape_of kind).code
+pub spelled_header : (kind : DatagramKind) (bytes : List ℕ) → AreBytes bytes → 24 ≤ length bytes → number_at 0 2 bytes ≡ 0x4338
+    → slice_index bytes 2 ≡ version_number (version_at bytes) → slice_index bytes 3 ≡ (shape_of kind).code
     → bytes ≡ header_bytes (head_at kind bytes) (size_at bytes) ++ drop 24 bytes
 spelled_header kind bytes fits long magic version code =
-    let first : bytes ≡ big_bytes 2 0x4338 ++ drop 2 bytes = spelled_at 0 2 2 bytes refl (omega arith) fits ∙ ap (λ (n : ℕ). big_bytes 2 n ++ drop 2 bytes) magic in
-    let second : drop 2 bytes ≡ version_number (version_at bytes) ∷ [] ++ drop 3 bytes = byte_here 2 3 bytes refl (omega arith) ∙ ap (λ (n : ℕ). n ∷ drop 3 bytes) version in
-    let third : drop 3 bytes ≡ (shape_of kind).code ∷ [] ++ drop 4 bytes = byte_here 3 4 bytes refl (omega arith) ∙ ap (λ (n : ℕ). n ∷ drop 4 bytes) code in
+    let first : bytes ≡ big_bytes 2 0x4338 ++ drop 2 bytes =
+        spelled_at 0 2 2 bytes refl (omega arith) fits ∙ ap (λ (n : ℕ). big_bytes 2 n ++ drop 2 bytes) magic in
+    let second : drop 2 bytes ≡ version_number (version_at bytes) ∷ [] ++ drop 3 bytes =
+        byte_here 2 3 bytes refl (omega arith) ∙ ap (λ (n : ℕ). n ∷ drop 3 bytes) version in
+    let third : drop 3 bytes ≡ (shape_of kind).code ∷ [] ++ drop 4 bytes =
+        byte_here 3 4 bytes refl (omega arith) ∙ ap (λ (n : ℕ). n ∷ drop 4 bytes) code in
     then (big_bytes 2 0x4338) first
     (then (version_number (version_at bytes) ∷ []) second
     (then ((shape_of kind).code ∷ []) third
@@ -45,7 +51,8 @@ spelled_header kind bytes fits long magic version code =
     (spelled_at 20 4 24 bytes refl long fits))))))))
 
 -- byte 2 is the number of the version that it names
-pub version_here : (kind : DatagramKind) (bytes : List ℕ) → applies errors.Version (Some kind) bytes ≡ false → slice_index bytes 2 ≡ version_number (version_at bytes)
+pub version_here : (kind : DatagramKind) (bytes : List ℕ) → applies errors.Version (Some kind) bytes ≡ false
+    → slice_index bytes 2 ≡ version_number (version_at bytes)
 unfolding applies
 version_here kind bytes right =
     elim (cases_eq (slice_index bytes 2) 2) [
@@ -87,11 +94,13 @@ headed head length body is short =
       from = refl;
       to = refl;
       sized = big_number-reads_back 2 length rest short;
-      values = λ i. record { kind = head.kind; version = version_again head.version i; session = session i; from = head.from; to = head.to; sender_epoch = sender i; addressee_epoch = addressee i };
+      values = λ i. record { kind = head.kind; version = version_again head.version i; session = session i; from = head.from; to = head.to;
+          sender_epoch = sender i; addressee_epoch = addressee i };
     }
 
 -- seats that a kind's datagrams may name are named by the spelling
-pub seated : (kind : DatagramKind) (bytes : List ℕ) (head : HeadValue) (size : ℕ) → HasHead bytes head size → are_seats kind head.from head.to ≡ true → not (are_seats kind (slice_index bytes 12) (slice_index bytes 13)) ≡ false
+pub seated : (kind : DatagramKind) (bytes : List ℕ) (head : HeadValue) (size : ℕ) → HasHead bytes head size
+    → are_seats kind head.from head.to ≡ true → not (are_seats kind (slice_index bytes 12) (slice_index bytes 13)) ≡ false
 seated kind bytes head size has seats = (λ i. not (are_seats kind (has.from i) (has.to i))) ∙ ap not seats
 
 -- no refusal of the header applies to the spelling
@@ -100,7 +109,8 @@ pub record HasFront (kind : DatagramKind) (bytes : List ℕ) : Type 0 where
   pub magic : applies errors.Magic (Some kind) bytes ≡ false
   pub version : applies errors.Version (Some kind) bytes ≡ false
 
-pub front_accepted : (kind : DatagramKind) (bytes : List ℕ) (head : HeadValue) (size : ℕ) → HasHead bytes head size → length bytes ≡ 24 + size → HasFront kind bytes
+pub front_accepted : (kind : DatagramKind) (bytes : List ℕ) (head : HeadValue) (size : ℕ) → HasHead bytes head size
+    → length bytes ≡ 24 + size → HasFront kind bytes
 unfolding applies
 front_accepted kind bytes head size has long =
     record {

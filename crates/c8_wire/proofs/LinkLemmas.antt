@@ -34,15 +34,19 @@ welcome_shaped bytes sized a =
     let beyond = a.beyond in
     record { size = grind (arith, nat_tests); ack = grind (arith, nat_tests) }
 
-pub spelled_welcome : (version : WireVersion) (bytes : List ℕ) → AreBytes bytes → IsWelcomeShaped bytes → drop 24 bytes ≡ body_bytes version (Welcome (number_at 24 4 bytes))
-spelled_welcome version bytes fits is = then (big_bytes 4 (number_at 24 4 bytes)) (spelled_at 24 4 28 bytes refl (omega (arith, is.size)) fits) (drop_all 28 bytes (omega (arith, is.size)))
+pub spelled_welcome : (version : WireVersion) (bytes : List ℕ) → AreBytes bytes → IsWelcomeShaped bytes
+    → drop 24 bytes ≡ body_bytes version (Welcome (number_at 24 4 bytes))
+spelled_welcome version bytes fits is = then (big_bytes 4 (number_at 24 4 bytes))
+    (spelled_at 24 4 28 bytes refl (omega (arith, is.size)) fits) (drop_all 28 bytes (omega (arith, is.size)))
 
-pub ack_again : (head : HeadValue) (size ack : ℕ) → ack ≤ most_inputs → number_at 24 4 (header_bytes head size ++ body_bytes head.version (Welcome ack)) ≡ ack
+pub ack_again : (head : HeadValue) (size ack : ℕ) → ack ≤ most_inputs
+    → number_at 24 4 (header_bytes head size ++ body_bytes head.version (Welcome ack)) ≡ ack
 unfolding number_at
 ack_again head size ack few = big_number-reads_back 4 ack [] (omega arith)
 
 -- no refusal applies to the spelling
-pub hello_accepted : (bytes : List ℕ) (head : HeadValue) → are_seats kinds.Hello head.from head.to ≡ true → HasHead bytes head 0 → length bytes ≡ 24 → IsAccepted kinds.Hello bytes
+pub hello_accepted : (bytes : List ℕ) (head : HeadValue) → are_seats kinds.Hello head.from head.to ≡ true → HasHead bytes head 0
+    → length bytes ≡ 24 → IsAccepted kinds.Hello bytes
 unfolding applies
 hello_accepted bytes head seats has long =
     let front = front_accepted kinds.Hello bytes head 0 has long in
@@ -58,7 +62,8 @@ hello_accepted bytes head seats has long =
       beyond = refl;
     }
 
-pub welcome_accepted : (bytes : List ℕ) (head : HeadValue) (ack : ℕ) → are_seats kinds.Welcome head.from head.to ≡ true → ack ≤ most_inputs → HasHead bytes head 4 → length bytes ≡ 28 → number_at 24 4 bytes ≡ ack → IsAccepted kinds.Welcome bytes
+pub welcome_accepted : (bytes : List ℕ) (head : HeadValue) (ack : ℕ) → are_seats kinds.Welcome head.from head.to ≡ true → ack ≤ most_inputs
+    → HasHead bytes head 4 → length bytes ≡ 28 → number_at 24 4 bytes ≡ ack → IsAccepted kinds.Welcome bytes
 unfolding applies
 welcome_accepted bytes head ack seats few has long body =
     let front = front_accepted kinds.Welcome bytes head 4 has long in

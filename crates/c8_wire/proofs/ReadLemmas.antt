@@ -36,7 +36,8 @@ record IsRead (refused : Option WireError) (named : Option DatagramKind) (bytes 
   names : named ≡ Some kind
   packet : packet_at kind bytes ≡ p
 
-read_from : (refused : Option WireError) (named : Option DatagramKind) (bytes : List ℕ) (p : Packet) → answer refused named bytes ≡ Ok p → IsRead refused named bytes p
+read_from : (refused : Option WireError) (named : Option DatagramKind) (bytes : List ℕ) (p : Packet) → answer refused named bytes ≡ Ok p
+    → IsRead refused named bytes p
 read_from (Some error) named bytes p e = absurd cc
 read_from None (Some kind) bytes p e = record { kind = kind; none = refl; names = refl; packet = cc }
 read_from None None bytes p e = absurd cc
@@ -52,7 +53,8 @@ spelled_unrefused bytes are none =
     let kind = kind_named bytes none in
     (packet_at kind.0 bytes, found kind.0 bytes are kind.1 none)
 
-refused_from : (bytes : List ℕ) (refused : Option WireError) (error : WireError) → refusal bytes ≡ refused → answer refused (kind_at bytes) bytes ≡ Err error → refused ≡ Some error
+refused_from : (bytes : List ℕ) (refused : Option WireError) (error : WireError) → refusal bytes ≡ refused
+    → answer refused (kind_at bytes) bytes ≡ Err error → refused ≡ Some error
 refused_from bytes (Some other) error is e = cc
 refused_from bytes None error is e =
     let kind = kind_named bytes is in

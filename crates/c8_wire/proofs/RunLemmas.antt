@@ -1,5 +1,6 @@
 -- A run's start, count and inputs, wherever they stand.
-use Rattle.std.proofs.Common.{◌≡◌, ℕ, ◌+◌, ◌-◌, ◌^◌, ◌<◌, ◌≤◌, ◌&&◌, ◌||◌, Bool, true, false, cond, List, ◌++◌, length, drop, slice_index, refl, sym, ap, ◌∙◌, arith}
+use Rattle.std.proofs.Common.{◌≡◌, ℕ, ◌+◌, ◌-◌, ◌^◌, ◌<◌, ◌≤◌, ◌&&◌, ◌||◌, Bool, true, false, cond, List, ◌++◌, length, drop, slice_index,
+  refl, sym, ap, ◌∙◌, arith}
 use Rattle.std.specs.Prelude.{nat_lt}
 use Rattle.std.proofs.lemmas.Bool.{or_parts}
 use Rattle.std.proofs.lemmas.Bool.Decides.{nat_tests}
@@ -26,14 +27,18 @@ pub record IsRunAt (place : ℕ) (bytes : List ℕ) : Type 0 where
   pub sized : has_wrong_size (version_at bytes) (number_at (place + 4) 2 bytes) (length (drop (place + 6) bytes)) ≡ false
   pub paired : are_no_run (version_at bytes) (number_at (place + 4) 2 bytes) (drop (place + 6) bytes) ≡ false
 
-pub run_here : (place : ℕ) (bytes : List ℕ) → AreBytes bytes → IsRunAt place bytes → AreRun (version_at bytes) (number_at (place + 4) 2 bytes) (drop (place + 6) bytes)
-run_here place bytes fits run = are_run_of (version_at bytes) (number_at (place + 4) 2 bytes) (drop (place + 6) bytes) (AreBytes-drop (place + 6) bytes fits) run.sized run.paired
+pub run_here : (place : ℕ) (bytes : List ℕ) → AreBytes bytes → IsRunAt place bytes
+    → AreRun (version_at bytes) (number_at (place + 4) 2 bytes) (drop (place + 6) bytes)
+run_here place bytes fits run = are_run_of (version_at bytes) (number_at (place + 4) 2 bytes) (drop (place + 6) bytes)
+    (AreBytes-drop (place + 6) bytes fits) run.sized run.paired
 
-pub spelled_run : (place : ℕ) (bytes : List ℕ) → AreBytes bytes → IsRunAt place bytes → drop place bytes ≡ run_bytes (version_at bytes) (number_at place 4 bytes) (run_at (place + 6) bytes)
+pub spelled_run : (place : ℕ) (bytes : List ℕ) → AreBytes bytes → IsRunAt place bytes
+    → drop place bytes ≡ run_bytes (version_at bytes) (number_at place 4 bytes) (run_at (place + 6) bytes)
 spelled_run place bytes fits run =
     let here = run_here place bytes fits run in
     let counted : drop (place + 4) bytes ≡ big_bytes 2 (length (run_at (place + 6) bytes)) ++ drop (place + 6) bytes =
-    spelled_at (place + 4) 2 (place + 6) bytes (omega arith) (omega (arith, run.long)) fits ∙ ap (λ (n : ℕ). big_bytes 2 n ++ drop (place + 6) bytes) (sym here.many) in
+    spelled_at (place + 4) 2 (place + 6) bytes (omega arith) (omega (arith, run.long)) fits
+        ∙ ap (λ (n : ℕ). big_bytes 2 n ++ drop (place + 6) bytes) (sym here.many) in
     then (big_bytes 4 (number_at place 4 bytes)) (spelled_at place 4 (place + 4) bytes refl (omega (arith, run.long)) fits)
     (then (big_bytes 2 (length (run_at (place + 6) bytes))) counted (sym here.spells))
 
@@ -44,7 +49,9 @@ pub record HasRun (place : ℕ) (bytes : List ℕ) (version : WireVersion) (star
   pub spelled : drop (place + 6) bytes ≡ inputs_bytes version words
   pub inputs : run_at (place + 6) bytes ≡ words
 
-pub run_again : (place : ℕ) (bytes : List ℕ) (version : WireVersion) (start : ℕ) (words : List ℕ) → version_at bytes ≡ version → drop place bytes ≡ run_bytes version start words → start < 2 ^ 32 → length words < 2 ^ 16 → ((i : ℕ) → slice_index words i < 2 ^ 16) → HasRun place bytes version start words
+pub run_again : (place : ℕ) (bytes : List ℕ) (version : WireVersion) (start : ℕ) (words : List ℕ) → version_at bytes ≡ version
+    → drop place bytes ≡ run_bytes version start words → start < 2 ^ 32 → length words < 2 ^ 16 → ((i : ℕ) → slice_index words i < 2 ^ 16)
+    → HasRun place bytes version start words
 unfolding number_at
 run_again place bytes version start words is here low few fits =
     let tail : List ℕ = inputs_bytes version words in
@@ -71,7 +78,8 @@ not_above : (least number : ℕ) → number ≤ least → nat_lt least number �
 not_above least number low = grind (arith, nat_tests)
 
 -- none applies to a run that has room
-pub counted : (kind : DatagramKind) (bytes : List ℕ) (version : WireVersion) (words : List ℕ) → version_at bytes ≡ version → count_at kind bytes ≡ length words → size_at bytes ≡ (shape_of kind).fixed + length (inputs_bytes version words)
+pub counted : (kind : DatagramKind) (bytes : List ℕ) (version : WireVersion) (words : List ℕ) → version_at bytes ≡ version
+    → count_at kind bytes ≡ length words → size_at bytes ≡ (shape_of kind).fixed + length (inputs_bytes version words)
     → length words ≤ 64 → has_few_stretches version words ≡ true → (shape_of kind).tail ≡ tails.Run → miscounts kind bytes ≡ false
 counted kind bytes version words is count size short room run =
     let left : size_at bytes - (shape_of kind).fixed ≡ length (inputs_bytes version words) = omega (arith, size) in
@@ -79,7 +87,8 @@ counted kind bytes version words is count size short room run =
     (λ i. has_wrong_size (is i) (count i) (left i)) ∙ right_size version words room in
     ap (λ (tail : Tail). miscounts_tail tail kind bytes) run ∙ or_false _ _ (not_above 64 (count_at kind bytes) (omega (arith, count, short))) right
 
-pub paired : (kind : DatagramKind) (bytes : List ℕ) (version : WireVersion) (words : List ℕ) → version_at bytes ≡ version → count_at kind bytes ≡ length words → drop (run_place kind) bytes ≡ inputs_bytes version words
+pub paired : (kind : DatagramKind) (bytes : List ℕ) (version : WireVersion) (words : List ℕ) → version_at bytes ≡ version
+    → count_at kind bytes ≡ length words → drop (run_place kind) bytes ≡ inputs_bytes version words
     → ((i : ℕ) → slice_index words i < 2 ^ 16) → mispairs kind bytes ≡ false
 paired kind bytes version words is count ended fits =
     let right : are_no_run (version_at bytes) (count_at kind bytes) (drop (run_place kind) bytes) ≡ false =
@@ -87,7 +96,8 @@ paired kind bytes version words is count ended fits =
     and_false (is_run (shape_of kind).tail) _ right
 
 -- what the table says of a body that ends with a run of this size
-pub run_shaped : (place size : ℕ) (bytes : List ℕ) → length bytes ≡ place + 6 + size → nat_lt 64 (number_at (place + 4) 2 bytes) || has_wrong_size (version_at bytes) (number_at (place + 4) 2 bytes) size ≡ false
+pub run_shaped : (place size : ℕ) (bytes : List ℕ) → length bytes ≡ place + 6 + size
+    → nat_lt 64 (number_at (place + 4) 2 bytes) || has_wrong_size (version_at bytes) (number_at (place + 4) 2 bytes) size ≡ false
     → are_no_run (version_at bytes) (number_at (place + 4) 2 bytes) (drop (place + 6) bytes) ≡ false → IsRunAt place bytes
 run_shaped place size bytes ends count pairs =
     let both = or_parts (nat_lt 64 (number_at (place + 4) 2 bytes)) (has_wrong_size (version_at bytes) (number_at (place + 4) 2 bytes) size) count in

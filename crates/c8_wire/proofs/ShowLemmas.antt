@@ -1,5 +1,6 @@
 -- SHOW and SEEN: their bytes are those of what they say, and what they say is read again.
-use Rattle.std.proofs.Common.{◌≡◌, ℕ, zero, suc, ◌+◌, ◌*◌, ◌^◌, ◌<◌, ◌≤◌, true, List, [], ◌∷◌, ◌++◌, length, drop, get_or, Some, refl, sym, ap, subst, ◌∙◌, arith}
+use Rattle.std.proofs.Common.{◌≡◌, ℕ, zero, suc, ◌+◌, ◌*◌, ◌^◌, ◌<◌, ◌≤◌, true, List, [], ◌∷◌, ◌++◌, length, drop, get_or, Some, refl, sym,
+  ap, subst, ◌∙◌, arith}
 use Rattle.std.specs.Prelude.{IfSome}
 use Rattle.std.specs.List.{slice_get, flat_map}
 use Rattle.std.proofs.lemmas.List.{drop_all, drop-drop, length-append, get_or_past}
@@ -45,7 +46,8 @@ sets_fit place (suc (suc (suc (suc q)))) bytes fits = omega arith
 is_row : (place : ℕ) (bytes : List ℕ) → AreBytes bytes → IsRow (row_at place bytes)
 is_row place bytes fits = record { four = refl; sets = λ q. sets_fit place q bytes fits }
 
-within_four : (sets : List Keys) (q : ℕ) → length sets ≡ 4 → set_at (record { sets = sets }) 0 < 2 ^ 16 → set_at (record { sets = sets }) 1 < 2 ^ 16 → set_at (record { sets = sets }) 2 < 2 ^ 16 → set_at (record { sets = sets }) 3 < 2 ^ 16
+within_four : (sets : List Keys) (q : ℕ) → length sets ≡ 4 → set_at (record { sets = sets }) 0 < 2 ^ 16
+    → set_at (record { sets = sets }) 1 < 2 ^ 16 → set_at (record { sets = sets }) 2 < 2 ^ 16 → set_at (record { sets = sets }) 3 < 2 ^ 16
     → set_at (record { sets = sets }) q < 2 ^ 16
 within_four sets zero four a b c d = a
 within_four sets (suc zero) four a b c d = b
@@ -56,7 +58,8 @@ within_four sets (suc (suc (suc (suc q)))) four a b c d =
     subst (λ (n : ℕ). n < 2 ^ 16) (sym past) (omega arith)
 
 -- four sets that fit are all that a row has
-pub row_of_four : (row : Row) → length row.sets ≡ 4 → set_at row 0 < 2 ^ 16 → set_at row 1 < 2 ^ 16 → set_at row 2 < 2 ^ 16 → set_at row 3 < 2 ^ 16 → IsRow row
+pub row_of_four : (row : Row) → length row.sets ≡ 4 → set_at row 0 < 2 ^ 16 → set_at row 1 < 2 ^ 16 → set_at row 2 < 2 ^ 16
+    → set_at row 3 < 2 ^ 16 → IsRow row
 row_of_four row four a b c d = record { four = four; sets = λ q. within_four row.sets q four a b c d }
 
 are_rows : (count place : ℕ) (bytes : List ℕ) → AreBytes bytes → AreRows (rows_at count place bytes)
@@ -65,17 +68,20 @@ are_rows zero place bytes fits i = tt
 are_rows (suc count) place bytes fits zero = is_row place bytes fits
 are_rows (suc count) place bytes fits (suc i) = are_rows count (8 + place) bytes fits i
 
-spelled_row : (place : ℕ) (bytes : List ℕ) → AreBytes bytes → place + 8 ≤ length bytes → drop place bytes ≡ row_bytes (row_at place bytes) ++ drop (8 + place) bytes
+spelled_row : (place : ℕ) (bytes : List ℕ) → AreBytes bytes → place + 8 ≤ length bytes
+    → drop place bytes ≡ row_bytes (row_at place bytes) ++ drop (8 + place) bytes
 spelled_row place bytes fits long =
     then (big_bytes 2 (number_at place 2 bytes)) (spelled_at place 2 (2 + place) bytes (omega arith) (omega arith) fits)
     (then (big_bytes 2 (number_at (2 + place) 2 bytes)) (spelled_at (2 + place) 2 (4 + place) bytes (omega arith) (omega arith) fits)
     (then (big_bytes 2 (number_at (4 + place) 2 bytes)) (spelled_at (4 + place) 2 (6 + place) bytes (omega arith) (omega arith) fits)
     (spelled_at (6 + place) 2 (8 + place) bytes (omega arith) (omega arith) fits)))
 
-spelled_rows : (count place : ℕ) (bytes : List ℕ) → AreBytes bytes → place + 8 * count ≡ length bytes → drop place bytes ≡ rows_bytes (rows_at count place bytes)
+spelled_rows : (count place : ℕ) (bytes : List ℕ) → AreBytes bytes → place + 8 * count ≡ length bytes
+    → drop place bytes ≡ rows_bytes (rows_at count place bytes)
 unfolding rows_at
 spelled_rows zero place bytes fits ends = drop_all place bytes (omega arith)
-spelled_rows (suc count) place bytes fits ends = then (row_bytes (row_at place bytes)) (spelled_row place bytes fits (omega arith)) (spelled_rows count (8 + place) bytes fits (omega arith))
+spelled_rows (suc count) place bytes fits ends =
+    then (row_bytes (row_at place bytes)) (spelled_row place bytes fits (omega arith)) (spelled_rows count (8 + place) bytes fits (omega arith))
 
 length-row_bytes : (sets : List Keys) → length (flat_map (λ (keys : Keys). big_bytes 2 keys.0) sets) ≡ 2 * length sets
 length-row_bytes [] = refl
@@ -88,7 +94,8 @@ length-rows_bytes (row ∷ rows) are =
     omega (arith, length-append (row_bytes row) (rows_bytes rows), length-row_bytes row.sets, first.four, length-rows_bytes rows (λ i. are (suc i)))
 
 after : (n place : ℕ) (bytes here : List ℕ) → drop place bytes ≡ here → drop (n + place) bytes ≡ drop n here
-after n place bytes here is = let moved : n + place ≡ place + n = omega arith in ap (λ (k : ℕ). drop k bytes) moved ∙ sym (drop-drop n place bytes) ∙ ap (drop n) is
+after n place bytes here is = let moved : n + place ≡ place + n = omega arith in
+    ap (λ (k : ℕ). drop k bytes) moved ∙ sym (drop-drop n place bytes) ∙ ap (drop n) is
 
 -- one row more of those that fit
 pub one_row_more : (rows : List Row) (row : Row) → AreRows rows → IsRow row → AreRows (rows ++ row ∷ [])
@@ -102,7 +109,8 @@ record IsRowAgain (place : ℕ) (bytes rest : List ℕ) (row : Row) : Type 0 whe
   same : row_at place bytes ≡ row
   after : drop (8 + place) bytes ≡ rest
 
-row_again : (sets : List Keys) (place : ℕ) (bytes rest : List ℕ) → length sets ≡ 4 → ((q : ℕ) → set_at (record { sets = sets }) q < 2 ^ 16) → drop place bytes ≡ flat_map (λ (keys : Keys). big_bytes 2 keys.0) sets ++ rest
+row_again : (sets : List Keys) (place : ℕ) (bytes rest : List ℕ) → length sets ≡ 4 → ((q : ℕ) → set_at (record { sets = sets }) q < 2 ^ 16)
+    → drop place bytes ≡ flat_map (λ (keys : Keys). big_bytes 2 keys.0) sets ++ rest
     → IsRowAgain place bytes rest (record { sets = sets })
 unfolding number_at
 row_again [] place bytes rest four fits here = absurd (omega arith)
@@ -126,7 +134,8 @@ row_again (a ∷ b ∷ c ∷ d ∷ []) place bytes rest four fits here =
     }
 row_again (a ∷ b ∷ c ∷ d ∷ e ∷ sets) place bytes rest four fits here = absurd (omega arith)
 
-rows_again : (rows : List Row) (place : ℕ) (bytes : List ℕ) → AreRows rows → drop place bytes ≡ rows_bytes rows → rows_at (length rows) place bytes ≡ rows
+rows_again : (rows : List Row) (place : ℕ) (bytes : List ℕ) → AreRows rows → drop place bytes ≡ rows_bytes rows
+    → rows_at (length rows) place bytes ≡ rows
 unfolding rows_at
 rows_again [] place bytes are here = refl
 rows_again (row ∷ rows) place bytes are here =
@@ -149,7 +158,8 @@ show_shaped bytes sized a =
     let beyond = a.beyond in
     record { size = grind (arith, nat_tests); short = grind (arith, nat_tests); within = grind (arith, nat_tests) }
 
-pub spelled_show : (version : WireVersion) (bytes : List ℕ) → AreBytes bytes → IsShowShaped bytes → drop 24 bytes ≡ body_bytes version (Show (show_at bytes))
+pub spelled_show : (version : WireVersion) (bytes : List ℕ) → AreBytes bytes → IsShowShaped bytes
+    → drop 24 bytes ≡ body_bytes version (Show (show_at bytes))
 spelled_show version bytes fits is =
     let count = number_at 28 2 bytes in
     let long : 30 ≤ length bytes = omega (arith, is.size) in
@@ -174,8 +184,10 @@ seen_shaped bytes sized a =
     let beyond = a.beyond in
     record { size = grind (arith, nat_tests); ack = grind (arith, nat_tests) }
 
-pub spelled_seen : (version : WireVersion) (bytes : List ℕ) → AreBytes bytes → IsSeenShaped bytes → drop 24 bytes ≡ body_bytes version (Seen (number_at 24 4 bytes))
-spelled_seen version bytes fits is = then (big_bytes 4 (number_at 24 4 bytes)) (spelled_at 24 4 28 bytes refl (omega (arith, is.size)) fits) (drop_all 28 bytes (omega (arith, is.size)))
+pub spelled_seen : (version : WireVersion) (bytes : List ℕ) → AreBytes bytes → IsSeenShaped bytes
+    → drop 24 bytes ≡ body_bytes version (Seen (number_at 24 4 bytes))
+spelled_seen version bytes fits is = then (big_bytes 4 (number_at 24 4 bytes)) (spelled_at 24 4 28 bytes refl (omega (arith, is.size)) fits)
+    (drop_all 28 bytes (omega (arith, is.size)))
 
 -- ---- what is spelled is read again
 
@@ -184,7 +196,8 @@ pub record HasShow (bytes : List ℕ) (m : ShowMessage) : Type 0 where
   pub count : number_at 28 2 bytes ≡ length m.rows
   pub rows : rows_at (length m.rows) 30 bytes ≡ m.rows
 
-pub show_again : (head : HeadValue) (size : ℕ) (m : ShowMessage) → IsShowMessage m → AreRows m.rows → HasShow (header_bytes head size ++ show_bytes m) m
+pub show_again : (head : HeadValue) (size : ℕ) (m : ShowMessage) → IsShowMessage m → AreRows m.rows
+    → HasShow (header_bytes head size ++ show_bytes m) m
 unfolding number_at
 show_again head size m is are =
     record {
@@ -199,12 +212,15 @@ show_values bytes m has = λ i. record { start = has.start i; rows = (ap (λ (n 
 pub length-show_bytes : (m : ShowMessage) → AreRows m.rows → length (show_bytes m) ≡ 6 + 8 * length m.rows
 length-show_bytes m are = omega (arith, length-rows_bytes m.rows are)
 
-pub seen_again : (head : HeadValue) (size ack : ℕ) → ack ≤ most_frames → number_at 24 4 (header_bytes head size ++ body_bytes head.version (Seen ack)) ≡ ack
+pub seen_again : (head : HeadValue) (size ack : ℕ) → ack ≤ most_frames
+    → number_at 24 4 (header_bytes head size ++ body_bytes head.version (Seen ack)) ≡ ack
 unfolding number_at
 seen_again head size ack few = big_number-reads_back 4 ack [] (omega arith)
 
 -- no refusal applies to the spelling
-pub show_accepted : (bytes : List ℕ) (head : HeadValue) (size : ℕ) (m : ShowMessage) → are_seats kinds.Show head.from head.to ≡ true → IsShowMessage m → HasHead bytes head size → length bytes ≡ 24 + size → size ≡ 6 + 8 * length m.rows → HasShow bytes m → IsAccepted kinds.Show bytes
+pub show_accepted : (bytes : List ℕ) (head : HeadValue) (size : ℕ) (m : ShowMessage) → are_seats kinds.Show head.from head.to ≡ true
+    → IsShowMessage m → HasHead bytes head size → length bytes ≡ 24 + size → size ≡ 6 + 8 * length m.rows → HasShow bytes m
+    → IsAccepted kinds.Show bytes
 unfolding applies
 show_accepted bytes head size m seats message has long sized body =
     let front = front_accepted kinds.Show bytes head size has long in
@@ -220,7 +236,8 @@ show_accepted bytes head size m seats message has long sized body =
       beyond = grind (arith, nat_tests, body.start, body.count, message.within);
     }
 
-pub seen_accepted : (bytes : List ℕ) (head : HeadValue) (ack : ℕ) → are_seats kinds.Seen head.from head.to ≡ true → ack ≤ most_frames → HasHead bytes head 4 → length bytes ≡ 28 → number_at 24 4 bytes ≡ ack → IsAccepted kinds.Seen bytes
+pub seen_accepted : (bytes : List ℕ) (head : HeadValue) (ack : ℕ) → are_seats kinds.Seen head.from head.to ≡ true → ack ≤ most_frames
+    → HasHead bytes head 4 → length bytes ≡ 28 → number_at 24 4 bytes ≡ ack → IsAccepted kinds.Seen bytes
 unfolding applies
 seen_accepted bytes head ack seats few has long body =
     let front = front_accepted kinds.Seen bytes head 4 has long in

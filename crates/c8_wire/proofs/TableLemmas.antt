@@ -10,14 +10,16 @@ use Rattle.c8_wire.specs.Kinds.{shape_of, all_kinds, kind_of_code}
 use Rattle.c8_wire.specs.Reading.{kind_at}
 use Rattle.c8_wire.specs.Refusal.{applies, first_of, front_refusals, body_refusals, refusal}
 
-found_in : {A : Type 0} (test : Bool) (x y : A) (others : Option A) → cond test (Some x) others ≡ Some y → ((test ≡ true) × (x ≡ y)) ⊎ (others ≡ Some y)
+found_in : {A : Type 0} (test : Bool) (x y : A) (others : Option A) → cond test (Some x) others ≡ Some y
+    → ((test ≡ true) × (x ≡ y)) ⊎ (others ≡ Some y)
 found_in true x y others e = inl (refl, cc)
 found_in false x y others e = inr e
 
 -- what is found passes the test
 find_passes : {A : Type 0} (test : A → Bool) (xs : List A) (x : A) → find test xs ≡ Some x → test x ≡ true
 find_passes test [] x e = absurd cc
-find_passes test (y ∷ ys) x e = elim (found_in (test y) y x (find test ys) e) [ inl here ↦ ap test (sym here.1) ∙ here.0 | inr later ↦ find_passes test ys x later ]
+find_passes test (y ∷ ys) x e = elim (found_in (test y) y x (find test ys) e)
+    [ inl here ↦ ap test (sym here.1) ∙ here.0 | inr later ↦ find_passes test ys x later ]
 
 none_in : {A : Type 0} (test : Bool) (x : A) (others : Option A) → cond test (Some x) others ≡ None → (test ≡ false) × (others ≡ None)
 none_in true x others e = absurd cc
@@ -65,7 +67,8 @@ pub record IsAccepted (kind : DatagramKind) (bytes : List ℕ) : Type 0 where
 pub accepted : (kind : DatagramKind) (bytes : List ℕ) → kind_at bytes ≡ Some kind → refusal bytes ≡ None → IsAccepted kind bytes
 unfolding refusal
 accepted kind bytes named none =
-    let found : first_of (front_refusals ++ body_refusals) (Some kind) bytes ≡ None = ap (λ (k : Option DatagramKind). first_of (front_refusals ++ body_refusals) k bytes) (sym named) ∙ none in
+    let found : first_of (front_refusals ++ body_refusals) (Some kind) bytes ≡ None =
+        ap (λ (k : Option DatagramKind). first_of (front_refusals ++ body_refusals) k bytes) (sym named) ∙ none in
     let a = none_in _ _ _ found in
     let b = none_in _ _ _ a.1 in
     let c = none_in _ _ _ b.1 in
@@ -94,10 +97,12 @@ kind_there bytes None e = absurd (no_kind bytes e)
 pub kind_named : (bytes : List ℕ) → refusal bytes ≡ None → (kind : DatagramKind) × (kind_at bytes ≡ Some kind)
 unfolding refusal
 kind_named bytes none =
-    kind_there bytes (kind_at bytes) (none_at (λ error. applies error (kind_at bytes) bytes) (errors.Short ∷ errors.Magic ∷ errors.Version ∷ []) body_refusals errors.Kind none)
+    kind_there bytes (kind_at bytes) (none_at (λ error. applies error (kind_at bytes) bytes)
+        (errors.Short ∷ errors.Magic ∷ errors.Version ∷ []) body_refusals errors.Kind none)
 
 -- a header that is right leaves the refusals of the body
-pub past_front : (kind : DatagramKind) (bytes : List ℕ) → kind_at bytes ≡ Some kind → applies errors.Short (Some kind) bytes ≡ false → applies errors.Magic (Some kind) bytes ≡ false → applies errors.Version (Some kind) bytes ≡ false
+pub past_front : (kind : DatagramKind) (bytes : List ℕ) → kind_at bytes ≡ Some kind → applies errors.Short (Some kind) bytes ≡ false
+    → applies errors.Magic (Some kind) bytes ≡ false → applies errors.Version (Some kind) bytes ≡ false
     → refusal bytes ≡ first_of body_refusals (Some kind) bytes
 unfolding refusal
 past_front kind bytes named short magic version =
@@ -107,4 +112,5 @@ past_front kind bytes named short magic version =
 pub not_refused : (kind : DatagramKind) (bytes : List ℕ) → kind_at bytes ≡ Some kind → IsAccepted kind bytes → refusal bytes ≡ None
 not_refused kind bytes named a =
     past_front kind bytes named a.short a.magic a.version
-    ∙ skipped _ _ _ a.length ∙ skipped _ _ _ a.player ∙ skipped _ _ _ a.reserved ∙ skipped _ _ _ a.count ∙ skipped _ _ _ a.pairs ∙ skipped _ _ _ a.beyond
+    ∙ skipped _ _ _ a.length ∙ skipped _ _ _ a.player ∙ skipped _ _ _ a.reserved ∙ skipped _ _ _ a.count ∙ skipped _ _ _ a.pairs
+    ∙ skipped _ _ _ a.beyond

@@ -21,7 +21,8 @@ head_value head = record {
 abbrev pub message_of : Body → Message
 message_of bodies.Hello = Hello
 message_of (bodies.Welcome ack) = Welcome ack
-message_of (bodies.Data ack mark_frame mark start run) = Data (record { ack = ack; mark_frame = mark_frame; mark = mark; start = start; words = run.now })
+message_of (bodies.Data ack mark_frame mark start run) =
+    Data (record { ack = ack; mark_frame = mark_frame; mark = mark; start = start; words = run.now })
 message_of (bodies.Freeze leaver have) = Freeze (record { leaver = leaver.number; have = have })
 message_of (bodies.Frozen leaver held start run) = Frozen (record { leaver = leaver.number; length = held; start = start; words = run.now })
 message_of (bodies.Cut leaver length start run) = Cut (record { leaver = leaver.number; length = length; start = start; words = run.now })

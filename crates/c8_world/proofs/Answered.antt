@@ -19,11 +19,14 @@ use Rattle.c8_peer.specs.State.{Mode, Down, Away, State, Call, Outcome}
 use Rattle.c8_peer.specs.Steps.{outcome, DiskOutcome, Works, Refuses, refused_by_disk, Stepped, done, at_mode, step}
 use Rattle.c8_peer.specs.Opening.{Opening, NoPlayer, Stands, NotWritten, NoMemory, NotRead, Unfit, Spent, found, opened}
 use Rattle.c8_world.specs.checked.Below.{ArePeersLawful}
-use Rattle.c8_world.specs.World.{World, is_player, peer_of, journal_of, Act, Open, Tick, Say, Give, Leave, Decide, Event, Do, Stop, Happening, Answer, Told, NoSuch, After, call_at_mode, call_at, open_at_mode, give_to, acted, after, CanHappen, Chain, IsReached, Check, Show, Hear, Seen, Fresh, hear_at, Watched, known_by, watch_of}
+use Rattle.c8_world.specs.World.{World, is_player, peer_of, journal_of, Act, Open, Tick, Say, Give, Leave, Decide, Event, Do, Stop,
+  Happening, Answer, Told, NoSuch, After, call_at_mode, call_at, open_at_mode, give_to, acted, after, CanHappen, Chain, IsReached, Check,
+  Show, Hear, Seen, Fresh, hear_at, Watched, known_by, watch_of}
 use Rattle.c8_world.specs.Agreement.{IsPlayer, IsUndropped, NobodyLeaves, refused_for}
 use Rattle.c8_world.proofs.Events.{IsWorldly}
 use Rattle.c8_world.proofs.Worlds.{IsSound, plays_if, shown_stands}
-use Rattle.c8_world.proofs.Reached.{checks_true, reached_sound, reached_later, peers_agree, inputs_entered, begins_own, said_holds, said_spells, links_name, cut_bounds, reports_bound, stayers_froze, rows_true}
+use Rattle.c8_world.proofs.Reached.{checks_true, reached_sound, reached_later, peers_agree, inputs_entered, begins_own, said_holds,
+  said_spells, links_name, cut_bounds, reports_bound, stayers_froze, rows_true}
 use Rattle.c8_world.specs.Headline.{IsHeadline}
 use Rattle.c8_world.proofs.Openings.{after_if, openings_fit}
 use Rattle.c8_world.proofs.Replies.{IsCalm, AnswersCalmly, EndsCalmly, calm_other, unrefused, teller_of, calm_call}
@@ -41,7 +44,8 @@ calm_by_disk J p q (states.Leave leaver) why = unrefused J p q _ (λ x e. cc e)
 calm_by_disk J p q (states.Decide leaver) why = unrefused J p q _ (λ x e. cc e)
 calm_by_disk J p q states.Checkpoint why = unrefused J p q _ (λ x e. cc e)
 
-calm_done : (J : ℕ → List Record) (p q : ℕ) (s : State) (call : Call) (o : Outcome) (kept : Option Record) (on_disk : DiskOutcome) → EndsCalmly J p q o → AnswersCalmly J p q (done s call o kept on_disk).reply
+calm_done : (J : ℕ → List Record) (p q : ℕ) (s : State) (call : Call) (o : Outcome) (kept : Option Record) (on_disk : DiskOutcome)
+    → EndsCalmly J p q o → AnswersCalmly J p q (done s call o kept on_disk).reply
 calm_done J p q s call o None on_disk calm = calm
 calm_done J p q s call o (Some r) Works calm = calm
 calm_done J p q s call o (Some r) (Refuses why) calm = calm_by_disk J p q call why
@@ -50,20 +54,23 @@ calm_done J p q s call o (Some r) (Refuses why) calm = calm_by_disk J p q call w
 abbrev IsCalmAnswer : (ℕ → List Record) → ℕ → ℕ → Answer → Type 0
 IsCalmAnswer J p q answer = (why : Refused) → answer ≡ refused_for why → IsCalm J p q why
 
-calm_mode : (rules : Rules) (room : ℕ) (w : World) (p : ℕ) (call : Call) (on_disk : DiskOutcome) (mode : Mode) → AreInRange rules → IsSound rules room w → IsPlayer rules p → (peer_of w p).mode ≡ mode
+calm_mode : (rules : Rules) (room : ℕ) (w : World) (p : ℕ) (call : Call) (on_disk : DiskOutcome) (mode : Mode) → AreInRange rules
+    → IsSound rules room w → IsPlayer rules p → (peer_of w p).mode ≡ mode
     → IsWorldly rules (journal_of w) w.said call → IsCalmAnswer (journal_of w) p (teller_of call) (call_at_mode rules w p call on_disk mode).answer
 calm_mode rules room w p call on_disk states.Open range sound plays up worldly why e =
     let J : ℕ → List Record = journal_of w in
     let q : ℕ = teller_of call in
     let o : Outcome = outcome rules (told_of rules p (J p)) (known_of rules p (J p)) (peer_of w p).memory call in
-    let at : step rules p (peer_of w p) call on_disk ≡ done (peer_of w p) call o o.keeps on_disk = ap (λ (mode : Mode). at_mode (peer_of w p) call o mode on_disk) up in
+    let at : step rules p (peer_of w p) call on_disk ≡ done (peer_of w p) call o o.keeps on_disk =
+        ap (λ (mode : Mode). at_mode (peer_of w p) call o mode on_disk) up in
     let awake = (sound.peers p plays).awake (λ gone. absurd (cc (up, gone))) in
     let calm : EndsCalmly J p q o = calm_call rules room J w.said p (peer_of w p).memory call range sound.journals plays awake worldly in
     subst (λ (t : Stepped). AnswersCalmly J p q t.reply) (sym at) (calm_done J p q (peer_of w p) call o o.keeps on_disk calm) why cc
 calm_mode rules room w p call on_disk Down range sound plays up worldly why e = absurd (cc e)
 calm_mode rules room w p call on_disk Away range sound plays up worldly why e = absurd (cc e)
 
-calm_call_at : (rules : Rules) (room : ℕ) (w : World) (p : ℕ) (call : Call) (on_disk : DiskOutcome) → AreInRange rules → IsSound rules room w → IsWorldly rules (journal_of w) w.said call
+calm_call_at : (rules : Rules) (room : ℕ) (w : World) (p : ℕ) (call : Call) (on_disk : DiskOutcome) → AreInRange rules
+    → IsSound rules room w → IsWorldly rules (journal_of w) w.said call
     → IsCalmAnswer (journal_of w) p (teller_of call) (call_at rules w p call on_disk).answer
 calm_call_at rules room w p call on_disk range sound worldly =
     after_if (λ (a : After). IsCalmAnswer (journal_of w) p (teller_of call) a.answer) (is_player rules p) _ _
@@ -78,7 +85,8 @@ record IsRefusalOf (w : World) (p : ℕ) (o : Option Packet) (why : Refused) : T
   is : o ≡ Some packet
   calm : IsCalm (journal_of w) p packet.head.from why
 
-calm_given : (rules : Rules) (room : ℕ) (w : World) (p number : ℕ) (on_disk : DiskOutcome) (o : Option Packet) (why : Refused) → AreInRange rules → IsSound rules room w → slice_get w.said number ≡ o
+calm_given : (rules : Rules) (room : ℕ) (w : World) (p number : ℕ) (on_disk : DiskOutcome) (o : Option Packet) (why : Refused)
+    → AreInRange rules → IsSound rules room w → slice_get w.said number ≡ o
     → (give_to rules w p on_disk o).answer ≡ refused_for why → IsRefusalOf w p o why
 calm_given rules room w p number on_disk None why range sound at e = absurd (cc e)
 calm_given rules room w p number on_disk (Some packet) why range sound at e = record {
@@ -93,13 +101,16 @@ unfolding acted
 given rules room w v p number answer why range sound can e =
     calm_given rules room w p number can.happening.on_disk (slice_get w.said number) why range sound refl (ap (λ (a : After). a.answer) can.is ∙ e)
 
-pub never_differs : (laws : ArePeersLawful) (rules : Rules) (room : ℕ) (w v : World) (p number : ℕ) (answer : Answer) → AreInRange rules → room < 2 ^ 64 → IsReached rules room w → IsUndropped w p
+pub never_differs : (laws : ArePeersLawful) (rules : Rules) (room : ℕ) (w v : World) (p number : ℕ) (answer : Answer) → AreInRange rules
+    → room < 2 ^ 64 → IsReached rules room w → IsUndropped w p
     → CanHappen rules room w (Do (Give number p)) answer v → answer ≢ refused_for (Known Differs)
 never_differs laws rules room w v p number answer range few reached stays can e =
     (given rules room w v p number answer (Known Differs) range (reached_sound laws rules room w range few reached) can e).calm.inputs stays refl
 
-pub never_desync : (laws : ArePeersLawful) (rules : Rules) (room : ℕ) (w v : World) (p number : ℕ) (packet : Packet) (answer : Answer) → AreInRange rules → room < 2 ^ 64 → IsReached rules room w → IsUndropped w p
-    → slice_get w.said number ≡ Some packet → IsUndropped w packet.head.from → CanHappen rules room w (Do (Give number p)) answer v → answer ≢ refused_for Desync
+pub never_desync : (laws : ArePeersLawful) (rules : Rules) (room : ℕ) (w v : World) (p number : ℕ) (packet : Packet) (answer : Answer)
+    → AreInRange rules → room < 2 ^ 64 → IsReached rules room w → IsUndropped w p
+    → slice_get w.said number ≡ Some packet → IsUndropped w packet.head.from → CanHappen rules room w (Do (Give number p)) answer v
+    → answer ≢ refused_for Desync
 never_desync laws rules room w v p number packet answer range few reached stays at teller_stays can e =
     let found = given rules room w v p number answer Desync range (reached_sound laws rules room w range few reached) can e in
     let same : packet ≡ found.packet = cc (at, found.is) in
@@ -107,7 +118,8 @@ never_desync laws rules room w v p number packet answer range few reached stays 
 
 -- ---- any event
 
-opened_otherwise : (rules : Rules) (room p : ℕ) (s : State) (journal : List Record) (outcome : Opening) (why : Refused) → Told (opened rules room p s journal outcome).reply ≢ refused_for why
+opened_otherwise : (rules : Rules) (room p : ℕ) (s : State) (journal : List Record) (outcome : Opening) (why : Refused)
+    → Told (opened rules room p s journal outcome).reply ≢ refused_for why
 opened_otherwise rules room p s journal Stands why = λ e. cc e
 opened_otherwise rules room p s journal (NotWritten error) why = λ e. cc e
 opened_otherwise rules room p s journal NoPlayer why = λ e. cc e
@@ -116,36 +128,47 @@ opened_otherwise rules room p s journal (NotRead error) why = λ e. cc e
 opened_otherwise rules room p s journal (Unfit error) why = λ e. cc e
 opened_otherwise rules room p s journal Spent why = λ e. cc e
 
-opens_otherwise : (rules : Rules) (room : ℕ) (w : World) (p : ℕ) (h : Happening) (mode : Mode) (why : Refused) → (open_at_mode rules room w p h mode).answer ≢ refused_for why
+opens_otherwise : (rules : Rules) (room : ℕ) (w : World) (p : ℕ) (h : Happening) (mode : Mode) (why : Refused)
+    → (open_at_mode rules room w p h mode).answer ≢ refused_for why
 opens_otherwise rules room w p h states.Open why = λ e. cc e
 opens_otherwise rules room w p h Down why = opened_otherwise rules room p (peer_of w p) (found (peer_of w p) h.finds) h.opening why
 opens_otherwise rules room w p h Away why = opened_otherwise rules room p (peer_of w p) (found (peer_of w p) h.finds) h.opening why
 
 -- a watcher's answer is not a peer's
-watched_otherwise : (rules : Rules) (room : ℕ) (w : World) (watcher : ℕ) (o : Option Packet) (why : Refused) → (hear_at rules room w watcher o).answer ≢ refused_for why
+watched_otherwise : (rules : Rules) (room : ℕ) (w : World) (watcher : ℕ) (o : Option Packet) (why : Refused)
+    → (hear_at rules room w watcher o).answer ≢ refused_for why
 watched_otherwise rules room w watcher None why = λ e. cc e
 watched_otherwise rules room w watcher (Some packet) why = λ e. cc e
 
-acted_well : (rules : Rules) (room : ℕ) (w : World) (act : Act) (h : Happening) → AreInRange rules → IsSound rules room w → (acted rules room w act h).answer ≢ refused_for BadAck
+acted_well : (rules : Rules) (room : ℕ) (w : World) (act : Act) (h : Happening) → AreInRange rules → IsSound rules room w
+    → (acted rules room w act h).answer ≢ refused_for BadAck
 unfolding acted
 acted_well rules room w (Open p) h range sound =
-    after_if (λ (a : After). a.answer ≢ refused_for BadAck) (is_player rules p) _ _ (λ is. opens_otherwise rules room w p h (peer_of w p).mode BadAck) (λ none e. cc e)
+    after_if (λ (a : After). a.answer ≢ refused_for BadAck) (is_player rules p) _ _
+        (λ is. opens_otherwise rules room w p h (peer_of w p).mode BadAck) (λ none e. cc e)
 acted_well rules room w (Tick p keys) h range sound = λ e. (calm_call_at rules room w p (states.Tick keys) h.on_disk range sound tt BadAck e).ack refl
-acted_well rules room w (Say p to what) h range sound = λ e. (calm_call_at rules room w p (states.Say to what) h.on_disk range sound tt BadAck e).ack refl
-acted_well rules room w (Give number p) h range sound = λ e. (calm_given rules room w p number h.on_disk (slice_get w.said number) BadAck range sound refl e).calm.ack refl
-acted_well rules room w (Leave leaver) h range sound = λ e. (calm_call_at rules room w 1 (states.Leave leaver) h.on_disk range sound tt BadAck e).ack refl
-acted_well rules room w (Decide leaver) h range sound = λ e. (calm_call_at rules room w 1 (states.Decide leaver) h.on_disk range sound tt BadAck e).ack refl
+acted_well rules room w (Say p to what) h range sound =
+    λ e. (calm_call_at rules room w p (states.Say to what) h.on_disk range sound tt BadAck e).ack refl
+acted_well rules room w (Give number p) h range sound =
+    λ e. (calm_given rules room w p number h.on_disk (slice_get w.said number) BadAck range sound refl e).calm.ack refl
+acted_well rules room w (Leave leaver) h range sound =
+    λ e. (calm_call_at rules room w 1 (states.Leave leaver) h.on_disk range sound tt BadAck e).ack refl
+acted_well rules room w (Decide leaver) h range sound =
+    λ e. (calm_call_at rules room w 1 (states.Decide leaver) h.on_disk range sound tt BadAck e).ack refl
 acted_well rules room w (Check p) h range sound = λ e. (calm_call_at rules room w p states.Checkpoint h.on_disk range sound tt BadAck e).ack refl
-acted_well rules room w (Show watcher) h range sound = λ e. (calm_call_at rules room w 1 (states.Show watcher) h.on_disk range sound tt BadAck e).ack refl
+acted_well rules room w (Show watcher) h range sound =
+    λ e. (calm_call_at rules room w 1 (states.Show watcher) h.on_disk range sound tt BadAck e).ack refl
 acted_well rules room w (Hear number watcher) h range sound = watched_otherwise rules room w watcher (slice_get w.said number) BadAck
 acted_well rules room w (Seen watcher) h range sound = λ e. cc e
 acted_well rules room w (Fresh watcher) h range sound = λ e. cc e
 
-after_well : (rules : Rules) (room : ℕ) (w : World) (event : Event) (h : Happening) → AreInRange rules → IsSound rules room w → (after rules room w event h).answer ≢ refused_for BadAck
+after_well : (rules : Rules) (room : ℕ) (w : World) (event : Event) (h : Happening) → AreInRange rules → IsSound rules room w
+    → (after rules room w event h).answer ≢ refused_for BadAck
 after_well rules room w (Do act) h range sound = acted_well rules room w act h range sound
 after_well rules room w (Stop act calls pick) h range sound = λ e. cc e
 
-pub never_bad_ack : (laws : ArePeersLawful) (rules : Rules) (room : ℕ) (w v : World) (event : Event) (answer : Answer) → AreInRange rules → room < 2 ^ 64 → IsReached rules room w
+pub never_bad_ack : (laws : ArePeersLawful) (rules : Rules) (room : ℕ) (w v : World) (event : Event) (answer : Answer) → AreInRange rules
+    → room < 2 ^ 64 → IsReached rules room w
     → CanHappen rules room w event answer v → answer ≢ refused_for BadAck
 never_bad_ack laws rules room w v event answer range few reached can e =
     after_well rules room w event can.happening range (reached_sound laws rules room w range few reached) (ap (λ (a : After). a.answer) can.is ∙ e)
@@ -153,22 +176,27 @@ never_bad_ack laws rules room w v event answer range few reached can e =
 -- ---- watchers
 
 -- a watcher is never shown a row that differs
-hear_agrees : (rules : Rules) (room : ℕ) (w : World) (watcher number : ℕ) (o : Option Packet) → IsSound rules room w → slice_get w.said number ≡ o → (hear_at rules room w watcher o).answer ≢ Watched (Err (refusals.Watch watches.Differs))
+hear_agrees : (rules : Rules) (room : ℕ) (w : World) (watcher number : ℕ) (o : Option Packet) → IsSound rules room w
+    → slice_get w.said number ≡ o → (hear_at rules room w watcher o).answer ≢ Watched (Err (refusals.Watch watches.Differs))
 hear_agrees rules room w watcher number None sound e = λ is. cc is
 hear_agrees rules room w watcher number (Some packet) sound e = λ is.
-    let shown : ShowsRowsOf (confirmed_rows (known_by rules w 1)) packet = record { stand = λ m shows. shown_stands rules (journal_of w) packet m shows (sound.said packet (number, e)).told } in
+    let shown : ShowsRowsOf (confirmed_rows (known_by rules w 1)) packet =
+        record { stand = λ m shows. shown_stands rules (journal_of w) packet m shows (sound.said packet (number, e)).told } in
     truth_agrees (confirmed_rows (known_by rules w 1)) (watch_of rules room w watcher) packet (sound.watched watcher) shown cc
 
-pub never_differs_watched : (laws : ArePeersLawful) (rules : Rules) (room : ℕ) (w v : World) (watcher number : ℕ) (answer : Answer) → AreInRange rules → room < 2 ^ 64 → IsReached rules room w
+pub never_differs_watched : (laws : ArePeersLawful) (rules : Rules) (room : ℕ) (w v : World) (watcher number : ℕ) (answer : Answer)
+    → AreInRange rules → room < 2 ^ 64 → IsReached rules room w
     → CanHappen rules room w (Do (Hear number watcher)) answer v → answer ≢ Watched (Err (refusals.Watch watches.Differs))
 unfolding acted
 never_differs_watched laws rules room w v watcher number answer range few reached can e =
-    hear_agrees rules room w watcher number (slice_get w.said number) (reached_sound laws rules room w range few reached) refl (ap (λ (a : After). a.answer) can.is ∙ e)
+    hear_agrees rules room w watcher number (slice_get w.said number) (reached_sound laws rules room w range few reached) refl
+        (ap (λ (a : After). a.answer) can.is ∙ e)
 
 -- ---- while no player is dropped
 
 -- a number without a datagram delivers nothing
-none_given : (rules : Rules) (w : World) (p : ℕ) (on_disk : DiskOutcome) (o : Option Packet) (answer : Answer) (v : World) → o ≡ None → give_to rules w p on_disk o ≡ record { answer = answer; world = v } → answer ≢ refused_for Desync
+none_given : (rules : Rules) (w : World) (p : ℕ) (on_disk : DiskOutcome) (o : Option Packet) (answer : Answer) (v : World) → o ≡ None
+    → give_to rules w p on_disk o ≡ record { answer = answer; world = v } → answer ≢ refused_for Desync
 none_given rules w p on_disk None answer v none is e = let same : NoSuch ≡ answer = ap (λ (a : After). a.answer) is in absurd (cc (same, e))
 none_given rules w p on_disk (Some packet) answer v none is e = absurd cc
 
@@ -176,11 +204,14 @@ said_or_not : (o : Option Packet) → (o ≡ None) ⊎ ((packet : Packet) × (o 
 said_or_not None = inl refl
 said_or_not (Some packet) = inr (packet, refl)
 
-pub calm_differs : (laws : ArePeersLawful) (rules : Rules) (room : ℕ) (w v : World) (p number : ℕ) (answer : Answer) → AreInRange rules → room < 2 ^ 64 → IsReached rules room w → NobodyLeaves w
+pub calm_differs : (laws : ArePeersLawful) (rules : Rules) (room : ℕ) (w v : World) (p number : ℕ) (answer : Answer) → AreInRange rules
+    → room < 2 ^ 64 → IsReached rules room w → NobodyLeaves w
     → CanHappen rules room w (Do (Give number p)) answer v → answer ≢ refused_for (Known Differs)
-calm_differs laws rules room w v p number answer range few is nobody can = never_differs laws rules room w v p number answer range few is (nobody p) can
+calm_differs laws rules room w v p number answer range few is nobody can =
+    never_differs laws rules room w v p number answer range few is (nobody p) can
 
-pub calm_desync : (laws : ArePeersLawful) (rules : Rules) (room : ℕ) (w v : World) (p number : ℕ) (answer : Answer) → AreInRange rules → room < 2 ^ 64 → IsReached rules room w → NobodyLeaves w
+pub calm_desync : (laws : ArePeersLawful) (rules : Rules) (room : ℕ) (w v : World) (p number : ℕ) (answer : Answer) → AreInRange rules
+    → room < 2 ^ 64 → IsReached rules room w → NobodyLeaves w
     → CanHappen rules room w (Do (Give number p)) answer v → answer ≢ refused_for Desync
 unfolding acted
 calm_desync laws rules room w v p number answer range few is nobody can =
@@ -191,7 +222,8 @@ calm_desync laws rules room w v p number answer range few is nobody can =
 
 -- ---- two moments
 
-pub headline : (laws : ArePeersLawful) (rules : Rules) (room : ℕ) (w v : World) (events : List Event) (answers : List Answer) → AreInRange rules → room < 2 ^ 64 → IsReached rules room w
+pub headline : (laws : ArePeersLawful) (rules : Rules) (room : ℕ) (w v : World) (events : List Event) (answers : List Answer)
+    → AreInRange rules → room < 2 ^ 64 → IsReached rules room w
     → Chain rules room w events answers v → IsHeadline rules room w v
 headline laws rules room w v events answers range few reached chain =
     let later = reached_later rules room w v events answers reached chain in

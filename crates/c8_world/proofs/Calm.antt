@@ -1,6 +1,7 @@
 -- Why no open peer answers a datagram that was sent with BadAck, and no undropped one with Differs or Desync.
 use Rattle.c8_known.specs.Growth.{Stands}
-use Rattle.std.proofs.Common.{◌≡◌, ◌≢◌, ℕ, zero, suc, ◌+◌, ◌-◌, ◌*◌, ◌/◌, ◌<◌, ◌≤◌, List, [], ◌∷◌, length, drop, map, Bool, true, false, cond, Option, Some, None, refl, sym, ap, subst, ◌∙◌, arith}
+use Rattle.std.proofs.Common.{◌≡◌, ◌≢◌, ℕ, zero, suc, ◌+◌, ◌-◌, ◌*◌, ◌/◌, ◌<◌, ◌≤◌, List, [], ◌∷◌, length, drop, map, Bool, true, false,
+  cond, Option, Some, None, refl, sym, ap, subst, ◌∙◌, arith}
 use Rattle.std.specs.Prelude.{◌==◌, nat_lt, fold, if◌then◌else◌}
 use Rattle.std.specs.List.{range_with_len}
 use Rattle.std.proofs.lemmas.Bool.{ltb-true, eqb-true}
@@ -33,13 +34,17 @@ use Rattle.c8_world.proofs.Records.{said_known, count_known, me_is}
 -- ---- acknowledgements
 
 -- no peer holds more of a player's inputs than that player
-pub holds_no_more : (rules : Rules) (room : ℕ) (J : ℕ → List Record) (p q : ℕ) → AreSound rules room J → IsPlayer rules p → IsPlayer rules q → count rules p (J q) ≤ count rules p (J p)
+pub holds_no_more : (rules : Rules) (room : ℕ) (J : ℕ → List Record) (p q : ℕ) → AreSound rules room J → IsPlayer rules p → IsPlayer rules q
+    → count rules p (J q) ≤ count rules p (J p)
 holds_no_more rules room J p q sound plays q_plays = begins_length (held rules p (J q)) (held rules p (J p)) (sound.begins q p q_plays plays)
 
-own_count : (rules : Rules) (p : ℕ) (journal : List Record) → IsPlayer rules p → count_in (known_of rules p journal) (known_of rules p journal).me ≡ count rules p journal
-own_count rules p journal plays = ap (λ (me : ℕ). count_in (known_of rules p journal) me) (me_is rules p journal) ∙ count_known rules p p journal plays
+own_count : (rules : Rules) (p : ℕ) (journal : List Record) → IsPlayer rules p
+    → count_in (known_of rules p journal) (known_of rules p journal).me ≡ count rules p journal
+own_count rules p journal plays = ap (λ (me : ℕ). count_in (known_of rules p journal) me) (me_is rules p journal)
+    ∙ count_known rules p p journal plays
 
-pub no_bad_ack : (rules : Rules) (room : ℕ) (J : ℕ → List Record) (p q ack : ℕ) → AreSound rules room J → IsPlayer rules p → IsPlayer rules q → ack ≤ count rules p (J q)
+pub no_bad_ack : (rules : Rules) (room : ℕ) (J : ℕ → List Record) (p q ack : ℕ) → AreSound rules room J → IsPlayer rules p
+    → IsPlayer rules q → ack ≤ count rules p (J q)
     → nat_lt (count_in (known_of rules p (J p)) (known_of rules p (J p)).me) ack ≡ true → ⊥
 no_bad_ack rules room J p q ack sound plays q_plays few is =
     let k : KnownValue = known_of rules p (J p) in
@@ -50,19 +55,24 @@ no_bad_ack rules room J p q ack sound plays q_plays few is =
 -- ---- runs
 
 -- a run that is in what a player entered does not differ from what another one holds of it
-pub no_difference : (rules : Rules) (room : ℕ) (J : ℕ → List Record) (p q start : ℕ) (words : List ℕ) → AreSound rules room J → IsPlayer rules p → IsPlayer rules q
+pub no_difference : (rules : Rules) (room : ℕ) (J : ℕ → List Record) (p q start : ℕ) (words : List ℕ) → AreSound rules room J
+    → IsPlayer rules p → IsPlayer rules q
     → Stands start words (held rules q (J q)) → differ (drop start (player_in (known_of rules p (J p)) q).held) words ≡ false
 no_difference rules room J p q start words sound plays q_plays stands =
-    let same : (player_in (known_of rules p (J p)) q).held ≡ held rules q (J p) = ap (λ (v : PlayerValue). v.held) (said_known rules p q (J p) q_plays) in
+    let same : (player_in (known_of rules p (J p)) q).held ≡ held rules q (J p) =
+        ap (λ (v : PlayerValue). v.held) (said_known rules p q (J p) q_plays) in
     subst (λ (xs : List ℕ). differ (drop start xs) words ≡ false) (sym same)
-    (begin_one (drop start (held rules q (J p))) words (drop start (held rules q (J q))) (begins_drop start (held rules q (J p)) (held rules q (J q)) (sound.begins p q plays q_plays)) stands.is)
+    (begin_one (drop start (held rules q (J p))) words (drop start (held rules q (J q)))
+        (begins_drop start (held rules q (J p)) (held rules q (J q)) (sound.begins p q plays q_plays)) stands.is)
 
-some_past : (test : Bool) (x error : KnownError) (others : Option KnownError) → cond test (Some x) others ≡ Some error → x ≢ knowns.Differs → (others ≡ Some error → error ≢ knowns.Differs) → error ≢ knowns.Differs
+some_past : (test : Bool) (x error : KnownError) (others : Option KnownError) → cond test (Some x) others ≡ Some error → x ≢ knowns.Differs
+    → (others ≡ Some error → error ≢ knowns.Differs) → error ≢ knowns.Differs
 some_past true x error others e apart rest = λ same. let here : x ≡ error = cc in apart (here ∙ same)
 some_past false x error others e apart rest = rest e
 
 -- inputs that do not differ are not refused because they differ
-pub not_differs : (k : KnownValue) (q start : ℕ) (words : List ℕ) (error : KnownError) → differ (drop start (player_in k q).held) words ≡ false → misfit k q start words ≡ Some error → error ≢ knowns.Differs
+pub not_differs : (k : KnownValue) (q start : ℕ) (words : List ℕ) (error : KnownError)
+    → differ (drop start (player_in k q).held) words ≡ false → misfit k q start words ≡ Some error → error ≢ knowns.Differs
 not_differs k q start words error same e =
     some_past (nat_lt k.limit (start + length words)) knowns.Full error _ e (λ x. cc x) (λ gap.
     some_past (nat_lt (count_in k q) start) knowns.Gap error _ gap (λ x. cc x) (λ last.
@@ -89,11 +99,13 @@ abbrev HoldsIf : (List ℕ → Type 0) → Option (List ℕ) → Type 0
 HoldsIf Q None = Unit {0}
 HoldsIf Q (Some mark) = Q mark
 
-found_if : (Q : List ℕ → Type 0) (b : Bool) (mark : List ℕ) (others : Option (List ℕ)) → (b ≡ true → Q mark) → HoldsIf Q others → HoldsIf Q (cond b (Some mark) others)
+found_if : (Q : List ℕ → Type 0) (b : Bool) (mark : List ℕ) (others : Option (List ℕ)) → (b ≡ true → Q mark) → HoldsIf Q others
+    → HoldsIf Q (cond b (Some mark) others)
 found_if Q true mark others here there = here refl
 found_if Q false mark others here there = there
 
-found_among : (Q : List ℕ → Type 0) (frame : ℕ) (marks : List FrameMark) (start : Option (List ℕ)) → HoldsIf Q start → Each (λ (m : FrameMark). m.frame ≡ frame → Q m.mark) marks
+found_among : (Q : List ℕ → Type 0) (frame : ℕ) (marks : List FrameMark) (start : Option (List ℕ)) → HoldsIf Q start
+    → Each (λ (m : FrameMark). m.frame ≡ frame → Q m.mark) marks
     → HoldsIf Q (fold (λ found m. if m.frame == frame then Some m.mark else found) start marks)
 found_among Q frame [] start first each = first
 found_among Q frame (m ∷ marks) start first each =
@@ -114,21 +126,29 @@ kept_marks rules k frame =
     (omega (arith, below, same), ap (λ (n : ℕ). mark_of (serial rules (rows_below k n))) same)) in
     found_among Q frame (drop (length all - 16) all) None tt (each_drop P (length all - 16) all each)
 
-same_mark : (Q : List ℕ → Type 0) (o : Option (List ℕ)) (mark : List ℕ) → HoldsIf Q o → ((own : List ℕ) → Q own → own ≡ mark) → differs_from o mark ≡ false
+same_mark : (Q : List ℕ → Type 0) (o : Option (List ℕ)) (mark : List ℕ) → HoldsIf Q o → ((own : List ℕ) → Q own → own ≡ mark)
+    → differs_from o mark ≡ false
 same_mark Q None mark holds same = refl
 same_mark Q (Some own) mark holds same =
     subst (λ (other : List ℕ). differ own other ≡ false) (same own holds) (begin_one own own own (begins_same own) (begins_same own))
 
 -- the own marks are those of the serial run
-own_marks : (rules : Rules) (p : ℕ) (journal : List Record) → HasTrueChecks rules p journal → (told_of rules p journal).marks ≡ marks_up_to rules (known_of rules p journal) (confirmed (known_of rules p journal))
+own_marks : (rules : Rules) (p : ℕ) (journal : List Record) → HasTrueChecks rules p journal
+    → (told_of rules p journal).marks ≡ marks_up_to rules (known_of rules p journal) (confirmed (known_of rules p journal))
 unfolding told_of
-own_marks rules p journal true_checks = marks_on_the_way rules (known_of rules p journal) (begun_at rules journal) (confirmed (known_of rules p journal)) true_checks.begun true_checks.begun.confirmed_is
+own_marks rules p journal true_checks = marks_on_the_way rules (known_of rules p journal) (begun_at rules journal)
+    (confirmed (known_of rules p journal)) true_checks.begun true_checks.begun.confirmed_is
 
-pub no_desync : (rules : Rules) (room : ℕ) (J : ℕ → List Record) (p q : ℕ) (d : DataMessage) → AreInRange rules → AreSound rules room J → IsPlayer rules p → IsPlayer rules q
-    → has_leave p (J 1) ≡ false → has_leave q (J 1) ≡ false → IsTrueMark rules q (J q) d.mark_frame d.mark → is_desync (told_of rules p (J p)) d ≡ false
+pub no_desync : (rules : Rules) (room : ℕ) (J : ℕ → List Record) (p q : ℕ) (d : DataMessage) → AreInRange rules → AreSound rules room J
+    → IsPlayer rules p → IsPlayer rules q
+    → has_leave p (J 1) ≡ false → has_leave q (J 1) ≡ false → IsTrueMark rules q (J q) d.mark_frame d.mark
+    → is_desync (told_of rules p (J p)) d ≡ false
 unfolding is_desync
 no_desync rules room J p q d range sound plays q_plays stays q_stays is =
     let k : KnownValue = known_of rules p (J p) in
     let marks = own_marks rules p (J p) (sound.checks p plays) in
-    same_mark (IsMarkOf rules k d.mark_frame) (mark_at d.mark_frame (told_of rules p (J p)).marks) d.mark (subst (λ (kept : List FrameMark). HoldsIf (IsMarkOf rules k d.mark_frame) (mark_at d.mark_frame kept)) (sym marks) (kept_marks rules k d.mark_frame)) (λ own here.
-    here.1 ∙ ap (λ (rows : List Row). mark_of (serial rules rows)) (rows_agree rules room J p q d.mark_frame range sound plays q_plays stays q_stays here.0 is.confirmed) ∙ sym is.is)
+    same_mark (IsMarkOf rules k d.mark_frame) (mark_at d.mark_frame (told_of rules p (J p)).marks) d.mark
+        (subst (λ (kept : List FrameMark). HoldsIf (IsMarkOf rules k d.mark_frame) (mark_at d.mark_frame kept)) (sym marks)
+        (kept_marks rules k d.mark_frame)) (λ own here.
+    here.1 ∙ ap (λ (rows : List Row). mark_of (serial rules rows))
+        (rows_agree rules room J p q d.mark_frame range sound plays q_plays stays q_stays here.0 is.confirmed) ∙ sym is.is)

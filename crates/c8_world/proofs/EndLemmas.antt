@@ -1,5 +1,6 @@
 -- Why the ends of a world are what its definition says.
-use Rattle.std.proofs.Common.{◌≡◌, ℕ, suc, ◌+◌, ◌-◌, ◌<◌, ◌≤◌, ◌⊎◌, inl, inr, List, [], ◌∷◌, ◌++◌, length, map, slice_index_or, Bool, true, false, Option, Some, Result, Ok, Err, refl, sym, ap, subst, ◌∙◌, arith}
+use Rattle.std.proofs.Common.{◌≡◌, ℕ, suc, ◌+◌, ◌-◌, ◌<◌, ◌≤◌, ◌⊎◌, inl, inr, List, [], ◌∷◌, ◌++◌, length, map, slice_index_or, Bool, true,
+  false, Option, Some, Result, Ok, Err, refl, sym, ap, subst, ◌∙◌, arith}
 use Rattle.std.specs.List.{slice_get, range_with_len}
 use Rattle.std.specs.Prelude.{◌↔◌, IfOk}
 use Rattle.std.proofs.Math.Seq.{get_or-append_seam}
@@ -32,35 +33,41 @@ use Rattle.c8_world.specs.World.{World, peer_of}
 use Rattle.c8_world.specs.Agreement.{IsPlayer, Reads, read_by, AgreeByReads}
 use Rattle.c8_world.specs.Nodes.{IsNode, Tells}
 use Rattle.c8_world.specs.Table.{TableValue, node_of, Holds}
-use Rattle.c8_world.specs.Ends.{known_at, tally_of, tally_at, both, AreSameRows, HasStayedAt, HaveAgreed, IsRead, IsStanding, AreStandings, HasStayed, known_read, AreEnds}
+use Rattle.c8_world.specs.Ends.{known_at, tally_of, tally_at, both, AreSameRows, HasStayedAt, HaveAgreed, IsRead, IsStanding, AreStandings,
+  HasStayed, known_read, AreEnds}
 use Rattle.c8_world.proofs.TableLemmas.{held_at, node_held}
 use Rattle.c8_world.proofs.NodeLemmas.{found_now}
 
 -- ---- rows
 
 pub same_rows : (a b : KnownValue) (frames : ℕ) → frames ≡ both a b → ((frame : ℕ) → frame < frames → row a frame ≡ row b frame) → AreSameRows a b
-same_rows a b frames is same = subst (λ (n : ℕ). rows_below a n ≡ rows_below b n) is (map_same (row a) (row b) 0 frames (λ frame within. same frame (omega (arith, within))))
+same_rows a b frames is same = subst (λ (n : ℕ). rows_below a n ≡ rows_below b n) is
+    (map_same (row a) (row b) 0 frames (λ frame within. same frame (omega (arith, within))))
 
 pub same_row_of : (a b : KnownValue) (frame : ℕ) → AreSameRows a b → frame < both a b → row a frame ≡ row b frame
 same_row_of a b frame same within =
-    sym (get_or-map-range_with_len (row a) 0 (both a b) frame frame (row a frame) within (omega arith)) ∙ ap (λ (rows : List Row). slice_index_or rows frame (row a frame)) same
+    sym (get_or-map-range_with_len (row a) 0 (both a b) frame frame (row a frame) within (omega arith))
+        ∙ ap (λ (rows : List Row). slice_index_or rows frame (row a frame)) same
     ∙ get_or-map-range_with_len (row b) 0 (both a b) frame frame (row a frame) within (omega arith)
 
 -- ---- a read of a disk
 
 -- a replay of what a disk keeps gives what the journal says, with the pending record or without
-pub replayed_known : (rules : Rules) (room p : ℕ) (s : State) (disk : MemDisk) (result : Result ℕ ReplayError) (known : KnownValue) (checks : ChecksValue) → Tells s disk
+pub replayed_known : (rules : Rules) (room p : ℕ) (s : State) (disk : MemDisk) (result : Result ℕ ReplayError) (known : KnownValue)
+    (checks : ChecksValue) → Tells s disk
     → ((finds : Bool) → IsJournal rules p room (found s finds))
     → ((journal : List Record) → IsJournal rules p room journal → records_of (map body_of journal) ≡ journal)
     → ((journal : List Record) → IsJournal rules p room journal → AreJournalBodies rules p room (map body_of journal))
     → ((bodies : List (List ℕ)) (error : ReplayError) → AreJournalBodies rules p room bodies → IsRefusal rules p room bodies error → ⊥)
-    → IsReplayed rules p room (kept (bytes_of disk)) result known checks → (finds : Bool) × (known ≡ known_of rules p (found s finds)) × Keeps (found s finds) (bytes_of disk)
+    → IsReplayed rules p room (kept (bytes_of disk)) result known checks
+    → (finds : Bool) × (known ≡ known_of rules p (found s finds)) × Keeps (found s finds) (bytes_of disk)
 replayed_known rules room p s disk (Ok last) known checks tells journals back spell unrefused is =
     let now = found_now s disk tells in
     (now.0, is.1 ∙ ap (known_of rules p) (ap records_of now.1 ∙ back (found s now.0) (journals now.0)), now.1)
 replayed_known rules room p s disk (Err error) known checks tells journals back spell unrefused is =
     let now = found_now s disk tells in
-    let bodies : AreJournalBodies rules p room (kept (bytes_of disk)) = subst (λ (xs : List (List ℕ)). AreJournalBodies rules p room xs) (sym now.1) (spell (found s now.0) (journals now.0)) in
+    let bodies : AreJournalBodies rules p room (kept (bytes_of disk)) =
+        subst (λ (xs : List (List ℕ)). AreJournalBodies rules p room xs) (sym now.1) (spell (found s now.0) (journals now.0)) in
     absurd (unrefused (kept (bytes_of disk)) error bodies is.0)
 
 -- ---- one player
@@ -69,9 +76,12 @@ if_ok : {A E : Type 0} (P Q : A → Type 0) (r : Result A E) → ((a : A) → P 
 if_ok P Q (Ok a) each is = each a is
 if_ok P Q (Err e) each is = tt
 
-pub standing_at : {E : Type 0} (t self : TableValue) (place p : ℕ) (x : Option Node) (node : Node) (result : Result Standing E) → t ≡ self → place + 1 ≡ p → place < length t.nodes → IsPlayer t.rules p
-    → x ≡ slice_index_or t.nodes place x → x ≡ Some node → ((w : World) → Holds t w → (finds : Bool) → IsJournal t.rules p t.room (found (peer_of w p) finds))
-    → IfOk result (λ standing. (s : State) → IsNode t.rules t.room p node s → ((finds : Bool) → IsJournal t.rules p t.room (found s finds)) → IsStanding t.rules p s (Some node) standing)
+pub standing_at : {E : Type 0} (t self : TableValue) (place p : ℕ) (x : Option Node) (node : Node) (result : Result Standing E) → t ≡ self
+    → place + 1 ≡ p → place < length t.nodes → IsPlayer t.rules p
+    → x ≡ slice_index_or t.nodes place x → x ≡ Some node
+    → ((w : World) → Holds t w → (finds : Bool) → IsJournal t.rules p t.room (found (peer_of w p) finds))
+    → IfOk result (λ standing. (s : State) → IsNode t.rules t.room p node s → ((finds : Bool) → IsJournal t.rules p t.room (found s finds))
+    → IsStanding t.rules p s (Some node) standing)
     → IfOk result (λ standing. (w : World) → Holds self w → IsStanding self.rules p (peer_of w p) (node_of self p) standing)
 standing_at t self place p x node result view at within plays here is journals =
     if_ok _ _ result (λ standing asked.
@@ -82,7 +92,8 @@ standing_at t self place p x node result view at within plays here is journals =
 -- ---- all players
 
 -- what holds for the standings so far, and for one more, holds for all of them
-pub standings_more : (t : TableValue) (w : World) (standings now : List Standing) (standing : Standing) (number : ℕ) → length standings + 1 ≡ number → now ≡ standings ++ standing ∷ []
+pub standings_more : (t : TableValue) (w : World) (standings now : List Standing) (standing : Standing) (number : ℕ)
+    → length standings + 1 ≡ number → now ≡ standings ++ standing ∷ []
     → ((p : ℕ) (other : Standing) → 1 ≤ p → p < number → IsStanding t.rules p (peer_of w p) (node_of t p) (slice_index_or standings (p - 1) other))
     → IsStanding t.rules number (peer_of w number) (node_of t number) standing
     → (p : ℕ) (other : Standing) → 1 ≤ p → p < number + 1 → IsStanding t.rules p (peer_of w p) (node_of t p) (slice_index_or now (p - 1) other)
@@ -90,13 +101,18 @@ standings_more t w standings now standing number count is before one p other fro
     elim (cases_lt p number) [
       | inl early ↦
           let within : p - 1 < length standings = omega (arith, early, count, from) in
-          subst (λ (x : Standing). IsStanding t.rules p (peer_of w p) (node_of t p) x) (sym (ap (λ (xs : List Standing). slice_index_or xs (p - 1) other) is ∙ get_or_append_left standings (standing ∷ []) other (p - 1) within))
+          subst (λ (x : Standing). IsStanding t.rules p (peer_of w p) (node_of t p) x)
+              (sym (ap (λ (xs : List Standing). slice_index_or xs (p - 1) other) is
+              ∙ get_or_append_left standings (standing ∷ []) other (p - 1) within))
           (before p other from early)
       | inr late ↦
           let same : p ≡ number = omega (arith, late, to) in
           let at : slice_index_or now (p - 1) other ≡ standing =
-          ap (λ (xs : List Standing). slice_index_or xs (p - 1) other) is ∙ ap (λ (i : ℕ). slice_index_or (standings ++ standing ∷ []) i other) (omega (arith, same, count)) ∙ get_or-append_seam standings standing [] other in
-          subst (λ (x : Standing). IsStanding t.rules p (peer_of w p) (node_of t p) x) (sym at) (subst (λ (q : ℕ). IsStanding t.rules q (peer_of w q) (node_of t q) standing) (sym same) one)
+          ap (λ (xs : List Standing). slice_index_or xs (p - 1) other) is
+              ∙ ap (λ (i : ℕ). slice_index_or (standings ++ standing ∷ []) i other) (omega (arith, same, count))
+              ∙ get_or-append_seam standings standing [] other in
+          subst (λ (x : Standing). IsStanding t.rules p (peer_of w p) (node_of t p) x) (sym at)
+              (subst (λ (q : ℕ). IsStanding t.rules q (peer_of w q) (node_of t q) standing) (sym same) one)
     ]
 
 -- ---- the reads
@@ -123,7 +139,8 @@ first_of : (standings : List Standing) → 0 < length standings → Standing
 first_of [] some = absurd (omega (arith, some))
 first_of (standing ∷ standings) some = standing
 
-tallies_from : (standings : List Standing) (from : ℕ) (known : ℕ → KnownValue) → ((i : ℕ) (d : Standing) → i < length standings → known_at (slice_index_or standings i d) ≡ known (from + i))
+tallies_from : (standings : List Standing) (from : ℕ) (known : ℕ → KnownValue)
+    → ((i : ℕ) (d : Standing) → i < length standings → known_at (slice_index_or standings i d) ≡ known (from + i))
     → map tally_at standings ≡ map (λ p. tally_of (known p)) (range_with_len from (length standings))
 tallies_from [] from known each = refl
 tallies_from (standing ∷ standings) from known each =
@@ -135,10 +152,12 @@ tallies_from (standing ∷ standings) from known each =
     rw (first, rest) refl
 
 -- what player 1's journal says of a LEAVE is what player 1 knows by it
-leave_known : (rules : Rules) (journal : List Record) (p : ℕ) → IsPlayer rules p → (player_in (known_of rules 1 journal) p).leaving ≡ has_leave p journal
+leave_known : (rules : Rules) (journal : List Record) (p : ℕ) → IsPlayer rules p
+    → (player_in (known_of rules 1 journal) p).leaving ≡ has_leave p journal
 leave_known rules journal p plays = ap (λ (x : PlayerValue). x.leaving) (player_known rules 1 p journal plays.from_one plays.in_game)
 
-module _ (t : TableValue) (w : World) (standings : List Standing) (reads : Reads) (size : length standings ≡ t.rules.players) (some : 2 ≤ t.rules.players)
+module _ (t : TableValue) (w : World) (standings : List Standing) (reads : Reads) (size : length standings ≡ t.rules.players)
+    (some : 2 ≤ t.rules.players)
     (known : (p : ℕ) (d : Standing) → IsPlayer t.rules p → known_at (slice_index_or standings (p - 1) d) ≡ known_read t.rules w reads p) where
   player_one : IsPlayer t.rules 1
   player_one = record { from_one = omega arith; in_game = omega (arith, some) }
@@ -148,23 +167,27 @@ module _ (t : TableValue) (w : World) (standings : List Standing) (reads : Reads
 
   known_here : (i : ℕ) (one : Standing) → i < length standings → slice_get standings i ≡ Some one → known_at one ≡ known_read t.rules w reads (i + 1)
   known_here i one within at =
-      ap known_at (sym (get_or_from_slice_get standings i one one at)) ∙ ap (λ (j : ℕ). known_at (slice_index_or standings j one)) (omega arith) ∙ known (i + 1) one (player_at i within)
+      ap known_at (sym (get_or_from_slice_get standings i one one at))
+          ∙ ap (λ (j : ℕ). known_at (slice_index_or standings j one)) (omega arith) ∙ known (i + 1) one (player_at i within)
 
   stayed_at : (i : ℕ) → i < length standings → HasStayed t.rules w reads (i + 1) → HasStayedAt standings i
   stayed_at i within stays first at =
-      ap (λ (k : KnownValue). (player_in k (i + 1)).leaving) (known_here 0 first (omega (arith, within)) at) ∙ leave_known t.rules (read_by w reads 1) (i + 1) (player_at i within) ∙ stays
+      ap (λ (k : KnownValue). (player_in k (i + 1)).leaving) (known_here 0 first (omega (arith, within)) at)
+          ∙ leave_known t.rules (read_by w reads 1) (i + 1) (player_at i within) ∙ stays
 
   has_stayed : (i : ℕ) → i < length standings → HasStayedAt standings i → HasStayed t.rules w reads (i + 1)
   has_stayed i within stays =
       let many : 0 < length standings = omega (arith, within) in
       let d : Standing = first_of standings many in
       let at = slice_get-get_or standings 0 d many in
-      sym (leave_known t.rules (read_by w reads 1) (i + 1) (player_at i within)) ∙ sym (ap (λ (k : KnownValue). (player_in k (i + 1)).leaving) (known_here 0 (slice_index_or standings 0 d) many at))
+      sym (leave_known t.rules (read_by w reads 1) (i + 1) (player_at i within))
+          ∙ sym (ap (λ (k : KnownValue). (player_in k (i + 1)).leaving) (known_here 0 (slice_index_or standings 0 d) many at))
       ∙ stays (slice_index_or standings 0 d) at
 
   -- any two undropped players, by their numbers
   abbrev Agreed : Type 0
-  Agreed = (p r : ℕ) → IsPlayer t.rules p → IsPlayer t.rules r → HasStayed t.rules w reads p → HasStayed t.rules w reads r → AreSameRows (known_read t.rules w reads p) (known_read t.rules w reads r)
+  Agreed = (p r : ℕ) → IsPlayer t.rules p → IsPlayer t.rules r → HasStayed t.rules w reads p → HasStayed t.rules w reads r
+      → AreSameRows (known_read t.rules w reads p) (known_read t.rules w reads r)
 
   by_numbers : HaveAgreed standings → Agreed
   by_numbers all p r p_plays r_plays p_stays r_stays =
@@ -179,10 +202,12 @@ module _ (t : TableValue) (w : World) (standings : List Standing) (reads : Reads
       let d : Standing = first_of standings (omega (arith, p_within)) in
       let one : Standing = slice_index_or standings (p - 1) d in
       let other : Standing = slice_index_or standings (r - 1) d in
-      let same = all (p - 1) p_within (r - 1) r_within (stayed_at (p - 1) p_within (subst (λ (q : ℕ). HasStayed t.rules w reads q) (sym p_is) p_stays))
+      let same = all (p - 1) p_within (r - 1) r_within
+          (stayed_at (p - 1) p_within (subst (λ (q : ℕ). HasStayed t.rules w reads q) (sym p_is) p_stays))
       (stayed_at (r - 1) r_within (subst (λ (q : ℕ). HasStayed t.rules w reads q) (sym r_is) r_stays)) one other
       (slice_get-get_or standings (p - 1) d p_within) (slice_get-get_or standings (r - 1) d r_within) in
-      subst (λ (k : KnownValue). AreSameRows k (known_read t.rules w reads r)) (known p d p_plays) (subst (λ (k : KnownValue). AreSameRows (known_at one) k) (known r d r_plays) same)
+      subst (λ (k : KnownValue). AreSameRows k (known_read t.rules w reads r)) (known p d p_plays)
+          (subst (λ (k : KnownValue). AreSameRows (known_at one) k) (known r d r_plays) same)
 
   by_places : Agreed → HaveAgreed standings
   by_places all i i_within j j_within i_stays j_stays one other i_at j_at =
@@ -190,13 +215,16 @@ module _ (t : TableValue) (w : World) (standings : List Standing) (reads : Reads
       subst (λ (k : KnownValue). AreSameRows k (known_at other)) (sym (known_here i one i_within i_at))
       (subst (λ (k : KnownValue). AreSameRows (known_read t.rules w reads (i + 1)) k) (sym (known_here j other j_within j_at)) same)
 
-pub are_ends : (t : TableValue) (w : World) (standings : List Standing) (players : List Tally) (agree : Bool) → 2 ≤ t.rules.players → AreStandings t w standings → players ≡ map tally_at standings
+pub are_ends : (t : TableValue) (w : World) (standings : List Standing) (players : List Tally) (agree : Bool) → 2 ≤ t.rules.players
+    → AreStandings t w standings → players ≡ map tally_at standings
     → ((agree ≡ true) ↔ HaveAgreed standings) → (reads : Reads) × AreEnds t w reads players agree
 are_ends t w standings players agree some stand players_are agreed =
     let size = stand.size in
     let many : 0 < length standings = omega (arith, some, size) in
     let d : Standing = first_of standings many in
-    let picked = all_picked t.rules.players (λ p finds. ((other : Standing) → known_at (slice_index_or standings (p - 1) other) ≡ known_of t.rules p (found (peer_of w p) finds)) × IsRead (peer_of w p) (node_of t p) finds)
+    let picked = all_picked t.rules.players (λ p finds.
+        ((other : Standing) → known_at (slice_index_or standings (p - 1) other) ≡ known_of t.rules p (found (peer_of w p) finds))
+        × IsRead (peer_of w p) (node_of t p) finds)
     (λ p from to.
     let one = stand.each p d (record { from_one = omega (arith, from); in_game = to }) in
     let within : p - 1 < length standings = omega (arith, from, to, size) in
@@ -208,9 +236,11 @@ are_ends t w standings players agree some stand players_are agreed =
       record {
         read = λ p plays. (picked.1 p (omega (arith, plays.from_one)) plays.in_game).1;
         players_are = players_are ∙ tallies_from standings 1 (known_read t.rules w reads) (λ i e within.
-            ap (λ (j : ℕ). known_at (slice_index_or standings j e)) (omega arith) ∙ known (1 + i) e (record { from_one = omega arith; in_game = omega (arith, within, size) }))
+            ap (λ (j : ℕ). known_at (slice_index_or standings j e)) (omega arith)
+                ∙ known (1 + i) e (record { from_one = omega arith; in_game = omega (arith, within, size) }))
             ∙ ap (λ (n : ℕ). map (λ p. tally_of (known_read t.rules w reads p)) (range_with_len 1 n)) size;
-        agree_is = (λ yes. by_numbers t w standings reads size some known (agreed.0 yes), λ all. agreed.1 (by_places t w standings reads size some known all));
+        agree_is = (λ yes. by_numbers t w standings reads size some known (agreed.0 yes),
+            λ all. agreed.1 (by_places t w standings reads size some known all));
       },
     )
 

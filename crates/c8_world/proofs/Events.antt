@@ -1,6 +1,7 @@
 -- What a call of an open peer records fits, and its memory stays sound.
 use Rattle.c8_known.specs.Growth.{Stands}
-use Rattle.std.proofs.Common.{◌≡◌, ◌≢◌, ℕ, ◌+◌, ◌-◌, ◌≤◌, ⊎_elim, List, [], ◌∷◌, length, drop, Bool, true, false, not, cond, Option, Some, None, Ok, Err, refl, sym, ap, subst, ◌∙◌, arith}
+use Rattle.std.proofs.Common.{◌≡◌, ◌≢◌, ℕ, ◌+◌, ◌-◌, ◌≤◌, ⊎_elim, List, [], ◌∷◌, length, drop, Bool, true, false, not, cond, Option, Some,
+  None, Ok, Err, refl, sym, ap, subst, ◌∙◌, arith}
 use Rattle.std.specs.Prelude.{◌==◌, ◌&&◌, ◌||◌, nat_lt, nat_le, is_some}
 use Rattle.std.proofs.lemmas.Bool.{eq-eqb, eqb-true, both_ways, ltb-false, leb-true, and_parts, or_parts, not-false}
 use Rattle.std.proofs.lemmas.List.{length-drop}
@@ -26,7 +27,8 @@ use Rattle.c8_peer.specs.Told.{Told, told_of}
 use Rattle.c8_refusals.specs.declared.error.Refused.TheVariants as refusals
 use Rattle.c8_peer.specs.State.{Memory, Saying, Call, Tick, Deliver, Say, Show, Leave, Decide, Reply, Outcome, answered, recorded, Checkpoint}
 use Rattle.c8_peer.specs.Calls.{tick, leave, decide, next_piece, checkpoint}
-use Rattle.c8_peer.specs.Hearing.{is_of_other_wire, refused, unless_misfit, got, is_desync, hear_data, hear_welcome, hear_freeze, hear_frozen, hear_end, hear_cut, hear_message, hear_seen, hear_from, seen_in, unless_hand, deliver}
+use Rattle.c8_peer.specs.Hearing.{is_of_other_wire, refused, unless_misfit, got, is_desync, hear_data, hear_welcome, hear_freeze,
+  hear_frozen, hear_end, hear_cut, hear_message, hear_seen, hear_from, seen_in, unless_hand, deliver}
 use Rattle.c8_peer.specs.Saying.{is_not_mine, lacks_record, lacks_link, say, show}
 use Rattle.c8_peer.specs.Steps.{outcome}
 use Rattle.c8_peer.specs.Truth.{IsFrozenAt, IsTrue, IsTrueMessage}
@@ -34,7 +36,8 @@ use Rattle.c8_peer.specs.Lawful.{IsMemory}
 use Rattle.c8_world.specs.checked.Below.{ArePeersLawful}
 use Rattle.c8_world.specs.Agreement.{IsPlayer, IsAmong, Names}
 use Rattle.c8_world.proofs.Journals.{AreSound, MayAdd, Fits}
-use Rattle.c8_world.proofs.Records.{count_known, freeze_known_by, leave_known_by, me_is, names_player, one_unfrozen, stands_entered, fits_own, fits_got, fits_freeze, fits_leave, fits_cut, fits_decision, fits_state, fits_check}
+use Rattle.c8_world.proofs.Records.{count_known, freeze_known_by, leave_known_by, me_is, names_player, one_unfrozen, stands_entered,
+  fits_own, fits_got, fits_freeze, fits_leave, fits_cut, fits_decision, fits_state, fits_check}
 
 -- ---- what holds for the memory
 
@@ -72,14 +75,17 @@ pub branch : (P : Outcome → Type 0) (b : Bool) (x y : Outcome) → (b ≡ true
 branch P true x y when unless = when refl
 branch P false x y when unless = unless refl
 
-good_answered : (rules : Rules) (room : ℕ) (J : ℕ → List Record) (said : List Packet) (p : ℕ) (m : Memory) (reply : Reply) → AreReported rules J p m.chair → AreNamed said p m.links
+good_answered : (rules : Rules) (room : ℕ) (J : ℕ → List Record) (said : List Packet) (p : ℕ) (m : Memory) (reply : Reply)
+    → AreReported rules J p m.chair → AreNamed said p m.links
     → IsGood rules room J said p (answered m reply)
 good_answered rules room J said p m reply chair named = record { keeps = λ r e. absurd cc; chair = chair; links = named }
 
-good_recorded : (rules : Rules) (room : ℕ) (J : ℕ → List Record) (said : List Packet) (p : ℕ) (m : Memory) (reply : Reply) (r : Record) → AreReported rules J p m.chair → AreNamed said p m.links
+good_recorded : (rules : Rules) (room : ℕ) (J : ℕ → List Record) (said : List Packet) (p : ℕ) (m : Memory) (reply : Reply) (r : Record)
+    → AreReported rules J p m.chair → AreNamed said p m.links
     → (MayAdd rules room J p r → Fits rules room J p r) → IsGood rules room J said p (recorded m reply r)
 good_recorded rules room J said p m reply r chair named fits = record {
-  keeps = λ s e allowed. let same : r ≡ s = cc in subst (λ (x : Record). Fits rules room J p x) same (fits (subst (λ (x : Record). MayAdd rules room J p x) (sym same) allowed));
+  keeps = λ s e allowed. let same : r ≡ s = cc in
+      subst (λ (x : Record). Fits rules room J p x) same (fits (subst (λ (x : Record). MayAdd rules room J p x) (sym same) allowed));
   chair = chair;
   links = named;
 }
@@ -113,17 +119,20 @@ is_fit k q start words none =
     let from = ltb-false (count_in k q) start gap.0 in
     record { room = omega (arith, room); no_gap = omega (arith, from) }
 
-unless_misfit_by : (P : Outcome → Type 0) (m : Memory) (o : Option KnownError) (x : Outcome) → ((error : KnownError) → P (refused m (refusals.Known error))) → (o ≡ None → P x) → P (unless_misfit m o x)
+unless_misfit_by : (P : Outcome → Type 0) (m : Memory) (o : Option KnownError) (x : Outcome)
+    → ((error : KnownError) → P (refused m (refusals.Known error))) → (o ≡ None → P x) → P (unless_misfit m o x)
 unless_misfit_by P m None x refuses fits = fits refl
 unless_misfit_by P m (Some error) x refuses fits = refuses error
 
-unless_hand_by : (P : Outcome → Type 0) (m : Memory) (o : Option HandError) (x : Outcome) → ((error : HandError) → P (refused m (refusals.Hand error))) → (o ≡ None → P x) → P (unless_hand m o x)
+unless_hand_by : (P : Outcome → Type 0) (m : Memory) (o : Option HandError) (x : Outcome)
+    → ((error : HandError) → P (refused m (refusals.Hand error))) → (o ≡ None → P x) → P (unless_hand m o x)
 unless_hand_by P m None x refuses admits = admits refl
 unless_hand_by P m (Some error) x refuses admits = refuses error
 
 -- ---- ticks, leaves and decisions
 
-good_tick : (rules : Rules) (room : ℕ) (J : ℕ → List Record) (said : List Packet) (p : ℕ) (m : Memory) (keys : ℕ) → AreSound rules room J → IsPlayer rules p → IsAwake rules room J said p m
+good_tick : (rules : Rules) (room : ℕ) (J : ℕ → List Record) (said : List Packet) (p : ℕ) (m : Memory) (keys : ℕ) → AreSound rules room J
+    → IsPlayer rules p → IsAwake rules room J said p m
     → IsGood rules room J said p (tick rules (known_of rules p (J p)) m keys)
 unfolding tick
 good_tick rules room J said p m keys sound plays awake =
@@ -135,9 +144,11 @@ good_tick rules room J said p m keys sound plays awake =
     branch P (nat_le (confirmed k + rules.window) k.ticks) _ _ (λ is. refuses _) (λ within.
     good_recorded rules room J said p m _ (records.Own k.me (count_in k k.me) keys) awake.chair awake.links (λ allowed.
     subst (λ (me : ℕ). Fits rules room J p (records.Own me (count_in k k.me) keys)) (sym (me_is rules p (J p)))
-    (fits_own rules room J p (count_in k k.me) keys sound plays (subst (λ (me : ℕ). MayAdd rules room J p (records.Own me (count_in k k.me) keys)) (me_is rules p (J p)) allowed))))))
+    (fits_own rules room J p (count_in k k.me) keys sound plays
+        (subst (λ (me : ℕ). MayAdd rules room J p (records.Own me (count_in k k.me) keys)) (me_is rules p (J p)) allowed))))))
 
-good_leave : (rules : Rules) (room : ℕ) (J : ℕ → List Record) (said : List Packet) (p : ℕ) (m : Memory) (leaver : ℕ) → AreSound rules room J → IsPlayer rules p → IsAwake rules room J said p m
+good_leave : (rules : Rules) (room : ℕ) (J : ℕ → List Record) (said : List Packet) (p : ℕ) (m : Memory) (leaver : ℕ) → AreSound rules room J
+    → IsPlayer rules p → IsAwake rules room J said p m
     → IsGood rules room J said p (leave (known_of rules p (J p)) m leaver)
 unfolding leave
 good_leave rules room J said p m leaver sound plays awake =
@@ -151,7 +162,8 @@ good_leave rules room J said p m leaver sound plays awake =
     good_recorded rules room J said p m _ (records.Leave leaver) awake.chair awake.links (fits_leave rules room J p leaver sound plays)))))
 
 -- what all who stay have answered is what they froze
-decided_by_all : (laws : ArePeersLawful) (rules : Rules) (room : ℕ) (J : ℕ → List Record) (said : List Packet) (p : ℕ) (m : Memory) (leaver : ℕ) → IsPlayer rules p → IsPlayer rules leaver → IsAwake rules room J said p m → p ≡ 1
+decided_by_all : (laws : ArePeersLawful) (rules : Rules) (room : ℕ) (J : ℕ → List Record) (said : List Packet) (p : ℕ) (m : Memory)
+    (leaver : ℕ) → IsPlayer rules p → IsPlayer rules leaver → IsAwake rules room J said p m → p ≡ 1
     → is_ready m.chair (known_of rules p (J p)) leaver ≡ true
     → (s : ℕ) → IsPlayer rules s → s ≢ 1 → has_leave s (J 1) ≡ false → IsFrozenAt rules leaver (count_in (known_of rules p (J p)) leaver) (J s)
 decided_by_all laws rules room J said p m leaver plays leaver_plays awake first ready s s_plays other stays =
@@ -159,14 +171,16 @@ decided_by_all laws rules room J said p m leaver plays leaver_plays awake first 
     let from = s_plays.from_one in
     let to = s_plays.in_game in
     let at_k : Plays k s = record { from_one = from; in_game = omega (arith, to, players_known rules p (J p)) } in
-    let stays_here : (player_in k s).leaving ≡ false = leave_known_by rules p s (J p) s_plays ∙ subst (λ (x : ℕ). has_leave s (J x) ≡ false) (sym first) stays in
+    let stays_here : (player_in k s).leaving ≡ false =
+        leave_known_by rules p s (J p) s_plays ∙ subst (λ (x : ℕ). has_leave s (J x) ≡ false) (sym first) stays in
     let answer = laws.answered m.chair k leaver ready s at_k other stays_here in
     let at = awake.chair first leaver s answer.held s_plays answer.told in
     let few = at.few in
     let within = answer.few in
     record { before = at.before; rest = at.rest; is = at.is; few = omega (arith, few, within) }
 
-good_decide : (laws : ArePeersLawful) (rules : Rules) (room : ℕ) (J : ℕ → List Record) (said : List Packet) (p : ℕ) (m : Memory) (leaver : ℕ) → AreSound rules room J → IsPlayer rules p → IsAwake rules room J said p m
+good_decide : (laws : ArePeersLawful) (rules : Rules) (room : ℕ) (J : ℕ → List Record) (said : List Packet) (p : ℕ) (m : Memory)
+    (leaver : ℕ) → AreSound rules room J → IsPlayer rules p → IsAwake rules room J said p m
     → IsGood rules room J said p (decide (known_of rules p (J p)) m leaver)
 unfolding decide
 good_decide laws rules room J said p m leaver sound plays awake =
@@ -180,27 +194,34 @@ good_decide laws rules room J said p m leaver sound plays awake =
     let ready : is_ready m.chair k leaver ≡ true = not-false (is_ready m.chair k leaver) all in
     good_recorded rules room J said p m _ (records.Cut leaver (count_in k leaver) (count_in k leaver) []) awake.chair awake.links (λ allowed.
     let leaver_plays = names_player rules room p (J p) (records.Cut leaver (count_in k leaver) (count_in k leaver) []) allowed.allowed in
-    fits_decision rules room J p leaver (count_in k leaver) (count_in k leaver) sound plays leaver_plays first allowed (decided_by_all laws rules room J said p m leaver plays leaver_plays awake first ready)))))
+    fits_decision rules room J p leaver (count_in k leaver) (count_in k leaver) sound plays leaver_plays first allowed
+        (decided_by_all laws rules room J said p m leaver plays leaver_plays awake first ready)))))
 
 -- ---- deliveries
 
 -- new inputs of a player, from a run that is in what it entered
-good_got : (rules : Rules) (room : ℕ) (J : ℕ → List Record) (said : List Packet) (p : ℕ) (m : Memory) (q start : ℕ) (words fresh : List ℕ) → AreSound rules room J → IsPlayer rules p → IsPlayer rules q
+good_got : (rules : Rules) (room : ℕ) (J : ℕ → List Record) (said : List Packet) (p : ℕ) (m : Memory) (q start : ℕ) (words fresh : List ℕ)
+    → AreSound rules room J → IsPlayer rules p → IsPlayer rules q
     → AreReported rules J p m.chair → AreNamed said p m.links
     → fresh ≡ drop (count rules q (J p) - start) words → start ≤ count rules q (J p) → Stands start words (held rules q (J q))
-    → (has_freeze q (J p) ≡ true → (K : ℕ) × (cut_of q (J 1) ≡ Some K) × (count rules q (J p) + length (drop (count rules q (J p) - start) words) ≤ K))
+    → (has_freeze q (J p) ≡ true → (K : ℕ) × (cut_of q (J 1) ≡ Some K)
+    × (count rules q (J p) + length (drop (count rules q (J p) - start) words) ≤ K))
     → IsGood rules room J said p (got (known_of rules p (J p)) m q fresh)
-good_got rules room J said p m q start words [] sound plays q_plays chair named e from stands frozen = good_answered rules room J said p m _ chair named
+good_got rules room J said p m q start words [] sound plays q_plays chair named e from stands frozen =
+    good_answered rules room J said p m _ chair named
 good_got rules room J said p m q start words (w ∷ ws) sound plays q_plays chair named e from stands frozen =
     let k : KnownValue = known_of rules p (J p) in
     good_recorded rules room J said p m _ (records.Got q (count_in k q) (w ∷ ws)) chair named (λ allowed.
     subst (λ (all : List ℕ). Fits rules room J p (records.Got q (count_in k q) all)) (sym e)
-    (fits_got rules room J p q (count_in k q) start words sound plays q_plays (subst (λ (all : List ℕ). MayAdd rules room J p (records.Got q (count_in k q) all)) e allowed) from stands frozen))
+    (fits_got rules room J p q (count_in k q) start words sound plays q_plays
+        (subst (λ (all : List ℕ). MayAdd rules room J p (records.Got q (count_in k q) all)) e allowed) from stands frozen))
 
-fresh_is : (rules : Rules) (p q start : ℕ) (words : List ℕ) (journal : List Record) → IsPlayer rules q → fresh_words (known_of rules p journal) q start words ≡ drop (count rules q journal - start) words
+fresh_is : (rules : Rules) (p q start : ℕ) (words : List ℕ) (journal : List Record) → IsPlayer rules q
+    → fresh_words (known_of rules p journal) q start words ≡ drop (count rules q journal - start) words
 fresh_is rules p q start words journal plays = ap (λ (n : ℕ). drop (n - start) words) (count_known rules p q journal plays)
 
-no_gap_is : (rules : Rules) (p q start : ℕ) (words : List ℕ) (journal : List Record) → IsPlayer rules q → IsFit (known_of rules p journal) q start words → start ≤ count rules q journal
+no_gap_is : (rules : Rules) (p q start : ℕ) (words : List ℕ) (journal : List Record) → IsPlayer rules q
+    → IsFit (known_of rules p journal) q start words → start ≤ count rules q journal
 no_gap_is rules p q start words journal plays fit = let from = fit.no_gap in omega (arith, from, count_known rules p q journal plays)
 
 frozen_off : (p : PlayerValue) → is_frozen_of p ≡ false → p.frozen ≡ false
@@ -214,7 +235,8 @@ from_off : (k : KnownValue) (q : ℕ) → is_from_leaver k q q ≡ false → (pl
 from_off k q e = frozen_off (player_in k q) (and_off (q == q) (is_frozen_of (player_in k q)) (eq-eqb q q refl) e)
 
 -- a DATA of player q, whose inputs are in what q entered
-good_data : (rules : Rules) (room : ℕ) (J : ℕ → List Record) (said : List Packet) (p q : ℕ) (m : Memory) (d : DataMessage) → AreSound rules room J → IsPlayer rules p → IsPlayer rules q → IsAwake rules room J said p m
+good_data : (rules : Rules) (room : ℕ) (J : ℕ → List Record) (said : List Packet) (p q : ℕ) (m : Memory) (d : DataMessage)
+    → AreSound rules room J → IsPlayer rules p → IsPlayer rules q → IsAwake rules room J said p m
     → Stands d.start d.words (held rules q (J q)) → IsGood rules room J said p (hear_data (told_of rules p (J p)) (known_of rules p (J p)) m q d)
 unfolding hear_data
 good_data rules room J said p q m d sound plays q_plays awake stands =
@@ -227,11 +249,13 @@ good_data rules room J said p q m d sound plays q_plays awake stands =
     let fit = is_fit k q d.start d.words fits in
     let thawed : has_freeze q (J p) ≡ false = sym (freeze_known_by rules p q (J p) q_plays) ∙ from_off k q itself in
     branch P (is_desync (told_of rules p (J p)) d) _ _ (λ is. good_answered rules room J said p _ _ awake.chair awake.links) (λ same.
-    good_got rules room J said p (record m { acks = acked_more m.acks q d.ack }) q d.start d.words (fresh_words k q d.start d.words) sound plays q_plays awake.chair awake.links
+    good_got rules room J said p (record m { acks = acked_more m.acks q d.ack }) q d.start d.words (fresh_words k q d.start d.words) sound
+        plays q_plays awake.chair awake.links
     (fresh_is rules p q d.start d.words (J p) q_plays) (no_gap_is rules p q d.start d.words (J p) q_plays fit) stands
     (λ is. absurd (both_ways (has_freeze q (J p)) thawed is))))))
 
-good_freeze : (rules : Rules) (room : ℕ) (J : ℕ → List Record) (said : List Packet) (p q : ℕ) (m : Memory) (f : FreezeMessage) → AreSound rules room J → IsPlayer rules p → IsAwake rules room J said p m
+good_freeze : (rules : Rules) (room : ℕ) (J : ℕ → List Record) (said : List Packet) (p q : ℕ) (m : Memory) (f : FreezeMessage)
+    → AreSound rules room J → IsPlayer rules p → IsAwake rules room J said p m
     → IsGood rules room J said p (hear_freeze (known_of rules p (J p)) m q f)
 unfolding hear_freeze
 good_freeze rules room J said p q m f sound plays awake =
@@ -241,10 +265,12 @@ good_freeze rules room J said p q m f sound plays awake =
     branch P (not (q == 1)) _ _ (λ is. refuses _) (λ chair.
     branch P (f.leaver == k.me || not (is_player k f.leaver)) _ _ (λ is. refuses _) (λ who.
     branch P (player_in k f.leaver).frozen _ _ (λ is. good_answered rules room J said p _ _ awake.chair awake.links) (λ first.
-    good_recorded rules room J said p (record m { stayer = with_have m.stayer f.leaver f.have }) _ (records.Freeze f.leaver) awake.chair awake.links (fits_freeze rules room J p f.leaver sound plays))))
+    good_recorded rules room J said p (record m { stayer = with_have m.stayer f.leaver f.have }) _ (records.Freeze f.leaver) awake.chair
+        awake.links (fits_freeze rules room J p f.leaver sound plays))))
 
 -- a true answer keeps the answers sound
-reported_more : (laws : ArePeersLawful) (rules : Rules) (J : ℕ → List Record) (p L q n : ℕ) (c : ChairValue) → IsPlayer rules q → 2 ≤ L → AreReported rules J p c → IsFrozenAt rules L n (J q) → AreReported rules J p (with_report c L q n)
+reported_more : (laws : ArePeersLawful) (rules : Rules) (J : ℕ → List Record) (p L q n : ℕ) (c : ChairValue) → IsPlayer rules q → 2 ≤ L
+    → AreReported rules J p c → IsFrozenAt rules L n (J q) → AreReported rules J p (with_report c L q n)
 reported_more laws rules J p L q n c q_plays least reports at first l s m s_plays told =
     ⊎_elim
     (λ old. reports first l s m s_plays old)
@@ -258,14 +284,17 @@ reported_more laws rules J p L q n c q_plays least reports at first l s m s_play
     rw (leaver, stayer, new.2) at)
     (laws.reports c L q n l s m told)
 
-good_frozen : (laws : ArePeersLawful) (rules : Rules) (room : ℕ) (J : ℕ → List Record) (said : List Packet) (p q : ℕ) (m : Memory) (f : LeaverMessage) → AreSound rules room J → IsPlayer rules p → IsPlayer rules q → IsAwake rules room J said p m
-    → 2 ≤ f.leaver → IsFrozenAt rules f.leaver f.length (J q) → Stands f.start f.words (held rules f.leaver (J q)) → IsGood rules room J said p (hear_frozen (known_of rules p (J p)) m q f)
+good_frozen : (laws : ArePeersLawful) (rules : Rules) (room : ℕ) (J : ℕ → List Record) (said : List Packet) (p q : ℕ) (m : Memory)
+    (f : LeaverMessage) → AreSound rules room J → IsPlayer rules p → IsPlayer rules q → IsAwake rules room J said p m
+    → 2 ≤ f.leaver → IsFrozenAt rules f.leaver f.length (J q) → Stands f.start f.words (held rules f.leaver (J q))
+    → IsGood rules room J said p (hear_frozen (known_of rules p (J p)) m q f)
 unfolding hear_frozen
 good_frozen laws rules room J said p q m f sound plays q_plays awake least at stands =
     let P : Outcome → Type 0 = IsGood rules room J said p in
     let refuses = λ (reply : Reply). good_answered rules room J said p m reply awake.chair awake.links in
     let k : KnownValue = known_of rules p (J p) in
-    let chair : AreReported rules J p (with_report m.chair f.leaver q f.length) = reported_more laws rules J p f.leaver q f.length m.chair q_plays least awake.chair at in
+    let chair : AreReported rules J p (with_report m.chair f.leaver q f.length) =
+        reported_more laws rules J p f.leaver q f.length m.chair q_plays least awake.chair at in
     branch P (not (k.me == 1)) _ _ (λ is. refuses _) (λ one.
     branch P (f.leaver == q || not (is_player k f.leaver)) _ _ (λ is. refuses _) (λ who.
     branch P (not (player_in k f.leaver).leaving) _ _ (λ is. refuses _) (λ leaves.
@@ -273,11 +302,14 @@ good_frozen laws rules room J said p q m f sound plays q_plays awake least at st
     branch P (nat_lt k.limit f.length) _ _ (λ is. refuses _) (λ room_left.
     unless_misfit_by P m (misfit k f.leaver f.start f.words) _ (λ error. refuses _) (λ fits.
     let fit = is_fit k f.leaver f.start f.words fits in
-    let leaver : IsPlayer rules f.leaver = in_game rules p f.leaver (J p) (not-false (is_player k f.leaver) (or_parts (f.leaver == q) (not (is_player k f.leaver)) who).1) in
-    good_got rules room J said p (record m { chair = with_report m.chair f.leaver q f.length }) f.leaver f.start f.words (fresh_words k f.leaver f.start f.words) sound plays leaver chair awake.links
+    let leaver : IsPlayer rules f.leaver = in_game rules p f.leaver (J p)
+        (not-false (is_player k f.leaver) (or_parts (f.leaver == q) (not (is_player k f.leaver)) who).1) in
+    good_got rules room J said p (record m { chair = with_report m.chair f.leaver q f.length }) f.leaver f.start f.words
+        (fresh_words k f.leaver f.start f.words) sound plays leaver chair awake.links
     (fresh_is rules p f.leaver f.start f.words (J p) leaver) (no_gap_is rules p f.leaver f.start f.words (J p) leaver fit)
     (stands_entered rules room J q f.leaver f.start f.words sound q_plays leaver stands)
-    (λ is. absurd (both_ways (has_freeze f.leaver (J p)) (one_unfrozen rules room J p f.leaver sound plays leaver (is_one rules p (J p) one)) is))))))))
+    (λ is. absurd (both_ways (has_freeze f.leaver (J p))
+        (one_unfrozen rules room J p f.leaver sound plays leaver (is_one rules p (J p) one)) is))))))))
 
 -- a list within the cut stays within it with the new inputs of a run that ends within it
 fresh_within : (held start K : ℕ) (words : List ℕ) → held ≤ K → start + length words ≤ K → held + length (drop (held - start) words) ≤ K
@@ -285,7 +317,8 @@ fresh_within held start K words few within =
     let many : length (drop (held - start) words) ≡ length words - (held - start) = length-drop (held - start) words in
     omega (arith, many, few, within)
 
-good_end : (rules : Rules) (room : ℕ) (J : ℕ → List Record) (said : List Packet) (p : ℕ) (m : Memory) (c : LeaverMessage) (o : Option ℕ) → AreSound rules room J → IsPlayer rules p → IsPlayer rules c.leaver → IsAwake rules room J said p m
+good_end : (rules : Rules) (room : ℕ) (J : ℕ → List Record) (said : List Packet) (p : ℕ) (m : Memory) (c : LeaverMessage) (o : Option ℕ)
+    → AreSound rules room J → IsPlayer rules p → IsPlayer rules c.leaver → IsAwake rules room J said p m
     → p ≢ 1 → cut_of c.leaver (J 1) ≡ Some c.length → Stands c.start c.words (held rules c.leaver (J c.leaver)) → c.start + length c.words ≤ c.length
     → IsGood rules room J said p (hear_end (known_of rules p (J p)) m c o)
 good_end rules room J said p m c (Some K) sound plays leaver awake elsewhere cut stands within =
@@ -310,9 +343,11 @@ good_end rules room J said p m c None sound plays leaver awake elsewhere cut sta
     subst (λ (all : List ℕ). Fits rules room J p (records.Cut c.leaver c.length (count_in k c.leaver) all)) (sym same)
     (fits_cut rules room J p c.leaver c.length (count_in k c.leaver) c.start c.words sound plays leaver elsewhere
     (subst (λ (all : List ℕ). MayAdd rules room J p (records.Cut c.leaver c.length (count_in k c.leaver) all)) same allowed) from stands cut whole)))
-    (λ short. good_got rules room J said p m c.leaver c.start c.words fresh sound plays leaver awake.chair awake.links same from stands (λ is. (c.length, cut, whole)))))
+    (λ short. good_got rules room J said p m c.leaver c.start c.words fresh sound plays leaver awake.chair awake.links same from stands
+        (λ is. (c.length, cut, whole)))))
 
-good_cut : (rules : Rules) (room : ℕ) (J : ℕ → List Record) (said : List Packet) (p q : ℕ) (m : Memory) (c : LeaverMessage) → AreSound rules room J → IsPlayer rules p → IsPlayer rules q → IsAwake rules room J said p m
+good_cut : (rules : Rules) (room : ℕ) (J : ℕ → List Record) (said : List Packet) (p q : ℕ) (m : Memory) (c : LeaverMessage)
+    → AreSound rules room J → IsPlayer rules p → IsPlayer rules q → IsAwake rules room J said p m
     → q ≢ p → q ≡ 1 → cut_of c.leaver (J q) ≡ Some c.length → Stands c.start c.words (held rules c.leaver (J q)) → c.start + length c.words ≤ c.length
     → IsGood rules room J said p (hear_cut (known_of rules p (J p)) m q c)
 unfolding hear_cut
@@ -321,15 +356,18 @@ good_cut rules room J said p q m c sound plays q_plays awake apart first cut sta
     let refuses = λ (reply : Reply). good_answered rules room J said p m reply awake.chair awake.links in
     let k : KnownValue = known_of rules p (J p) in
     branch P (not (q == 1)) _ _ (λ is. refuses _) (λ chair.
-    branch P (c.leaver == k.me) _ _ (λ is. good_recorded rules room J said p m _ (records.Leave k.me) awake.chair awake.links (fits_leave rules room J p k.me sound plays)) (λ other.
+    branch P (c.leaver == k.me) _ _ (λ is. good_recorded rules room J said p m _ (records.Leave k.me) awake.chair awake.links
+        (fits_leave rules room J p k.me sound plays)) (λ other.
     branch P (not (is_player k c.leaver)) _ _ (λ is. refuses _) (λ inside.
     branch P (not (player_in k c.leaver).frozen) _ _ (λ is. refuses _) (λ frozen.
     let leaver : IsPlayer rules c.leaver = in_game rules p c.leaver (J p) (not-false (is_player k c.leaver) inside) in
     good_end rules room J said p m c (player_in k c.leaver).cut sound plays leaver awake (λ e. apart (first ∙ sym e))
-    (subst (λ (x : ℕ). cut_of c.leaver (J x) ≡ Some c.length) first cut) (stands_entered rules room J q c.leaver c.start c.words sound q_plays leaver stands) within))))
+    (subst (λ (x : ℕ). cut_of c.leaver (J x) ≡ Some c.length) first cut)
+        (stands_entered rules room J q c.leaver c.start c.words sound q_plays leaver stands) within))))
 
 -- a link that a datagram opens is named by it
-named_heard : (said : List Packet) (p : ℕ) (l : LinksValue) (packet : Packet) → l.me ≡ p → IsAmong said packet → links.refusal l packet.head ≡ None → AreNamed said p l → AreNamed said p (heard l packet.head)
+named_heard : (said : List Packet) (p : ℕ) (l : LinksValue) (packet : Packet) → l.me ≡ p → IsAmong said packet
+    → links.refusal l packet.head ≡ None → AreNamed said p l → AreNamed said p (heard l packet.head)
 named_heard said p l packet me among admitted named q opens =
     ⊎_elim
     (λ old.
@@ -345,7 +383,8 @@ named_heard said p l packet me among admitted named q opens =
     })
     (opens_by_welcome l packet.head (player_admitted l packet.head admitted) q opens)
 
-good_welcome : (rules : Rules) (room : ℕ) (J : ℕ → List Record) (said : List Packet) (p : ℕ) (m : Memory) (packet : Packet) (ack : ℕ) → IsAwake rules room J said p m → IsAmong said packet
+good_welcome : (rules : Rules) (room : ℕ) (J : ℕ → List Record) (said : List Packet) (p : ℕ) (m : Memory) (packet : Packet) (ack : ℕ)
+    → IsAwake rules room J said p m → IsAmong said packet
     → links.refusal m.links packet.head ≡ None → IsGood rules room J said p (hear_welcome (known_of rules p (J p)) m packet.head ack)
 unfolding hear_welcome
 good_welcome rules room J said p m packet ack awake among admitted =
@@ -354,7 +393,8 @@ good_welcome rules room J said p m packet ack awake among admitted =
     branch P (nat_lt (count_in k k.me) ack) _ _ (λ is. good_answered rules room J said p m _ awake.chair awake.links)
     (λ few. good_answered rules room J said p _ _ awake.chair (named_heard said p m.links packet awake.lawful.player among admitted awake.links))
 
-good_message : (laws : ArePeersLawful) (rules : Rules) (room : ℕ) (J : ℕ → List Record) (said : List Packet) (p : ℕ) (m : Memory) (packet : Packet) (message : Message) → AreSound rules room J → IsPlayer rules p → IsAwake rules room J said p m → IsAmong said packet
+good_message : (laws : ArePeersLawful) (rules : Rules) (room : ℕ) (J : ℕ → List Record) (said : List Packet) (p : ℕ) (m : Memory)
+    (packet : Packet) (message : Message) → AreSound rules room J → IsPlayer rules p → IsAwake rules room J said p m → IsAmong said packet
     → links.refusal m.links packet.head ≡ None → IsPlayer rules packet.head.from → packet.head.from ≢ p
     → IsTrueMessage rules packet.head.from packet.head.to (J packet.head.from) message → IsMessage message
     → IsGood rules room J said p (hear_message rules (told_of rules p (J p)) (known_of rules p (J p)) m packet.head message)
@@ -370,31 +410,41 @@ good_message laws rules room J said p m packet (packets.Frozen f) sound plays aw
     good_frozen laws rules room J said p packet.head.from m f sound plays from awake fits.leaver_from_two is_true.0 is_true.2
 good_message laws rules room J said p m packet (packets.Cut c) sound plays awake among admitted from apart is_true fits =
     good_cut rules room J said p packet.head.from m c sound plays from awake apart is_true.0 is_true.1 is_true.2 fits.run.within
-good_message laws rules room J said p m packet (packets.Show shown) sound plays awake among admitted from apart is_true fits = good_answered rules room J said p m _ awake.chair awake.links
-good_message laws rules room J said p m packet (packets.Seen ack) sound plays awake among admitted from apart is_true fits = good_answered rules room J said p m _ awake.chair awake.links
+good_message laws rules room J said p m packet (packets.Show shown) sound plays awake among admitted from apart is_true fits =
+    good_answered rules room J said p m _ awake.chair awake.links
+good_message laws rules room J said p m packet (packets.Seen ack) sound plays awake among admitted from apart is_true fits =
+    good_answered rules room J said p m _ awake.chair awake.links
 
-good_seen : (rules : Rules) (room : ℕ) (J : ℕ → List Record) (said : List Packet) (p : ℕ) (m : Memory) (head : HeadValue) (ack : ℕ) → IsAwake rules room J said p m → IsGood rules room J said p (hear_seen (known_of rules p (J p)) m head ack)
+good_seen : (rules : Rules) (room : ℕ) (J : ℕ → List Record) (said : List Packet) (p : ℕ) (m : Memory) (head : HeadValue) (ack : ℕ)
+    → IsAwake rules room J said p m → IsGood rules room J said p (hear_seen (known_of rules p (J p)) m head ack)
 unfolding hear_seen
 good_seen rules room J said p m head ack awake =
-    branch (IsGood rules room J said p) (nat_lt (confirmed (known_of rules p (J p))) ack) _ _ (λ is. good_answered rules room J said p m _ awake.chair awake.links)
+    branch (IsGood rules room J said p) (nat_lt (confirmed (known_of rules p (J p))) ack) _ _
+        (λ is. good_answered rules room J said p m _ awake.chair awake.links)
     (λ few. good_answered rules room J said p _ _ awake.chair awake.links)
 
 -- the sender of an admitted datagram is another player
-pub sender_apart : (rules : Rules) (room p : ℕ) (journal : List Record) (m : Memory) (head : HeadValue) → IsMemory rules room p journal m → links.refusal m.links head ≡ None → head.from ≢ p
+pub sender_apart : (rules : Rules) (room p : ℕ) (journal : List Record) (m : Memory) (head : HeadValue) → IsMemory rules room p journal m
+    → links.refusal m.links head ≡ None → head.from ≢ p
 sender_apart rules room p journal m head lawful admitted e = (is_for_me m.links head admitted).apart (e ∙ sym lawful.player)
 
 -- a datagram that is not refused before its sender matters
-good_from : (laws : ArePeersLawful) (rules : Rules) (room : ℕ) (J : ℕ → List Record) (said : List Packet) (p : ℕ) (m : Memory) (packet : Packet) (heard_rows : Option ℕ) → AreSound rules room J → IsPlayer rules p → IsAwake rules room J said p m → IsAmong said packet
-    → IsTold rules J packet heard_rows → IsPacket packet → IsGood rules room J said p (hear_from rules (told_of rules p (J p)) (known_of rules p (J p)) m packet heard_rows)
+good_from : (laws : ArePeersLawful) (rules : Rules) (room : ℕ) (J : ℕ → List Record) (said : List Packet) (p : ℕ) (m : Memory)
+    (packet : Packet) (heard_rows : Option ℕ) → AreSound rules room J → IsPlayer rules p → IsAwake rules room J said p m → IsAmong said packet
+    → IsTold rules J packet heard_rows → IsPacket packet
+    → IsGood rules room J said p (hear_from rules (told_of rules p (J p)) (known_of rules p (J p)) m packet heard_rows)
 good_from laws rules room J said p m packet (Some ack) sound plays awake among told spelled =
-    unless_hand_by (IsGood rules room J said p) m (links.refusal_of_seen m.links packet.head) _ (λ error. good_answered rules room J said p m _ awake.chair awake.links)
+    unless_hand_by (IsGood rules room J said p) m (links.refusal_of_seen m.links packet.head) _
+        (λ error. good_answered rules room J said p m _ awake.chair awake.links)
     (λ admitted. good_seen rules room J said p m packet.head ack awake)
 good_from laws rules room J said p m packet None sound plays awake among told spelled =
-    unless_hand_by (IsGood rules room J said p) m (links.refusal m.links packet.head) _ (λ error. good_answered rules room J said p m _ awake.chair awake.links) (λ admitted.
+    unless_hand_by (IsGood rules room J said p) m (links.refusal m.links packet.head) _
+        (λ error. good_answered rules room J said p m _ awake.chair awake.links) (λ admitted.
     good_message laws rules room J said p m packet packet.message sound plays awake among admitted told.0
     (sender_apart rules room p (J p) m packet.head awake.lawful admitted) told.1.message spelled.message)
 
-good_delivery : (laws : ArePeersLawful) (rules : Rules) (room : ℕ) (J : ℕ → List Record) (said : List Packet) (p : ℕ) (m : Memory) (packet : Packet) → AreSound rules room J → IsPlayer rules p → IsAwake rules room J said p m → IsAmong said packet → IsSaid rules J packet
+good_delivery : (laws : ArePeersLawful) (rules : Rules) (room : ℕ) (J : ℕ → List Record) (said : List Packet) (p : ℕ) (m : Memory)
+    (packet : Packet) → AreSound rules room J → IsPlayer rules p → IsAwake rules room J said p m → IsAmong said packet → IsSaid rules J packet
     → IsGood rules room J said p (deliver rules (told_of rules p (J p)) (known_of rules p (J p)) m (Ok packet))
 good_delivery laws rules room J said p m packet sound plays awake among is_said =
     let P : Outcome → Type 0 = IsGood rules room J said p in
@@ -404,7 +454,8 @@ good_delivery laws rules room J said p m packet sound plays awake among is_said 
     branch P (is_of_other_wire rules packet.head) _ _ (λ is. refuses _) (λ own.
     good_from laws rules room J said p m packet (seen_in packet.message) sound plays awake among is_said.told is_said.spelled))
 
-good_say : (rules : Rules) (room : ℕ) (J : ℕ → List Record) (said : List Packet) (p : ℕ) (m : Memory) (to : ℕ) (what : Saying) → IsAwake rules room J said p m → IsGood rules room J said p (say rules (told_of rules p (J p)) (known_of rules p (J p)) m to what)
+good_say : (rules : Rules) (room : ℕ) (J : ℕ → List Record) (said : List Packet) (p : ℕ) (m : Memory) (to : ℕ) (what : Saying)
+    → IsAwake rules room J said p m → IsGood rules room J said p (say rules (told_of rules p (J p)) (known_of rules p (J p)) m to what)
 unfolding say
 good_say rules room J said p m to what awake =
     let P : Outcome → Type 0 = IsGood rules room J said p in
@@ -416,23 +467,29 @@ good_say rules room J said p m to what awake =
     branch P (lacks_record k what) _ _ (λ is. refuses _) (λ kept.
     branch P (lacks_link m to what) _ _ (λ is. refuses _) (λ linked. refuses _)))))
 
-good_show : (rules : Rules) (room : ℕ) (J : ℕ → List Record) (said : List Packet) (p : ℕ) (m : Memory) (watcher : ℕ) → IsAwake rules room J said p m → IsGood rules room J said p (show (known_of rules p (J p)) m watcher)
+good_show : (rules : Rules) (room : ℕ) (J : ℕ → List Record) (said : List Packet) (p : ℕ) (m : Memory) (watcher : ℕ)
+    → IsAwake rules room J said p m → IsGood rules room J said p (show (known_of rules p (J p)) m watcher)
 unfolding show
 good_show rules room J said p m watcher awake =
-    branch (IsGood rules room J said p) ((known_of rules p (J p)).me == 1) _ _ (λ is. good_answered rules room J said p m _ awake.chair awake.links) (λ other. good_answered rules room J said p m _ awake.chair awake.links)
+    branch (IsGood rules room J said p) ((known_of rules p (J p)).me == 1) _ _
+        (λ is. good_answered rules room J said p m _ awake.chair awake.links) (λ other. good_answered rules room J said p m _ awake.chair awake.links)
 
-good_piece : (rules : Rules) (room : ℕ) (J : ℕ → List Record) (said : List Packet) (p : ℕ) (m : Memory) (o : Option Pieces) → AreSound rules room J → IsPlayer rules p → IsAwake rules room J said p m
+good_piece : (rules : Rules) (room : ℕ) (J : ℕ → List Record) (said : List Packet) (p : ℕ) (m : Memory) (o : Option Pieces)
+    → AreSound rules room J → IsPlayer rules p → IsAwake rules room J said p m
     → IsGood rules room J said p (next_piece (told_of rules p (J p)) (known_of rules p (J p)) m o)
 good_piece rules room J said p m None sound plays awake =
     let k : KnownValue = known_of rules p (J p) in
     let t : Told = told_of rules p (J p) in
-    branch (IsGood rules room J said p) (nat_le (confirmed k) (frames_of t.checks.last)) _ _ (λ is. good_answered rules room J said p m _ awake.chair awake.links)
+    branch (IsGood rules room J said p) (nat_le (confirmed k) (frames_of t.checks.last)) _ _
+        (λ is. good_answered rules room J said p m _ awake.chair awake.links)
     (λ above. good_recorded rules room J said p m _ _ awake.chair awake.links (fits_state rules room J p _ _ _ _ sound plays))
 good_piece rules room J said p m (Some pieces) sound plays awake =
-    branch (IsGood rules room J said p) (pieces.count == 36) _ _ (λ all. good_recorded rules room J said p m _ _ awake.chair awake.links (fits_check rules room J p _ _ _ sound plays))
+    branch (IsGood rules room J said p) (pieces.count == 36) _ _
+        (λ all. good_recorded rules room J said p m _ _ awake.chair awake.links (fits_check rules room J p _ _ _ sound plays))
     (λ more. good_recorded rules room J said p m _ _ awake.chair awake.links (fits_state rules room J p _ _ _ _ sound plays))
 
-good_checkpoint : (rules : Rules) (room : ℕ) (J : ℕ → List Record) (said : List Packet) (p : ℕ) (m : Memory) → AreSound rules room J → IsPlayer rules p → IsAwake rules room J said p m
+good_checkpoint : (rules : Rules) (room : ℕ) (J : ℕ → List Record) (said : List Packet) (p : ℕ) (m : Memory) → AreSound rules room J
+    → IsPlayer rules p → IsAwake rules room J said p m
     → IsGood rules room J said p (checkpoint (told_of rules p (J p)) (known_of rules p (J p)) m)
 unfolding checkpoint
 good_checkpoint rules room J said p m sound plays awake =
@@ -452,10 +509,12 @@ IsWorldly rules J said (Leave leaver) = Unit {0}
 IsWorldly rules J said (Decide leaver) = Unit {0}
 IsWorldly rules J said Checkpoint = Unit {0}
 
-pub good_call : (laws : ArePeersLawful) (rules : Rules) (room : ℕ) (J : ℕ → List Record) (said : List Packet) (p : ℕ) (m : Memory) (call : Call) → AreSound rules room J → IsPlayer rules p → IsAwake rules room J said p m → IsWorldly rules J said call
+pub good_call : (laws : ArePeersLawful) (rules : Rules) (room : ℕ) (J : ℕ → List Record) (said : List Packet) (p : ℕ) (m : Memory)
+    (call : Call) → AreSound rules room J → IsPlayer rules p → IsAwake rules room J said p m → IsWorldly rules J said call
     → IsGood rules room J said p (outcome rules (told_of rules p (J p)) (known_of rules p (J p)) m call)
 good_call laws rules room J said p m (Tick keys) sound plays awake worldly = good_tick rules room J said p m keys sound plays awake
-good_call laws rules room J said p m (Deliver (Ok packet)) sound plays awake worldly = good_delivery laws rules room J said p m packet sound plays awake worldly.0 worldly.1
+good_call laws rules room J said p m (Deliver (Ok packet)) sound plays awake worldly =
+    good_delivery laws rules room J said p m packet sound plays awake worldly.0 worldly.1
 good_call laws rules room J said p m (Deliver (Err error)) sound plays awake worldly = absurd worldly
 good_call laws rules room J said p m (Say to what) sound plays awake worldly = good_say rules room J said p m to what awake
 good_call laws rules room J said p m (Show watcher) sound plays awake worldly = good_show rules room J said p m watcher awake

@@ -1,5 +1,6 @@
 -- Computes the worked matches.
-use Rattle.std.proofs.Common.{◌≡◌, ◌≢◌, ◌⊎◌, ℕ, zero, suc, ◌<◌, ◌≤◌, ◌^◌, List, [], ◌∷◌, ◌++◌, length, slice_index_or, Bool, true, false, refl, inl, ap, arith}
+use Rattle.std.proofs.Common.{◌≡◌, ◌≢◌, ◌⊎◌, ℕ, zero, suc, ◌<◌, ◌≤◌, ◌^◌, List, [], ◌∷◌, ◌++◌, length, slice_index_or, Bool, true, false,
+  refl, inl, ap, arith}
 use Rattle.std.specs.Prelude.{slice_index}
 use Rattle.std.proofs.lemmas.Bool.{leb-true}
 use Rattle.std.proofs.lemmas.List.{length-append}
@@ -32,7 +33,9 @@ use Rattle.c8_peer.specs.Saying.{say}
 use Rattle.c8_world.specs.checked.Below.{ArePeersLawful}
 use Rattle.c8_world.specs.World.{World, start, Open, Happening, acted, known_by, IsReached}
 use Rattle.c8_world.specs.Agreement.{IsPlayer, AgreeUpTo}
-use Rattle.c8_world.specs.Matches.{Line, events_of, answers_of, works, datagram, inputs, confirmed_by, lengths_from, two, three, four, begins, replies, goes_on, GoesInTurn, lost, left, taken, StopsInTick, play, let_go, answers, cuts, CutsWhereHeld, eleventh, told, DiffersWhenDropped, opened_again, CutsAfterRestart, silent, WaitsForSilent, over, EndsAfterLastFrame, with_head, RefusesOther}
+use Rattle.c8_world.specs.Matches.{Line, events_of, answers_of, works, datagram, inputs, confirmed_by, lengths_from, two, three, four,
+  begins, replies, goes_on, GoesInTurn, lost, left, taken, StopsInTick, play, let_go, answers, cuts, CutsWhereHeld, eleventh, told,
+  DiffersWhenDropped, opened_again, CutsAfterRestart, silent, WaitsForSilent, over, EndsAfterLastFrame, with_head, RefusesOther}
 use Rattle.c8_world.proofs.Worlds.{start_sound}
 use Rattle.c8_world.proofs.Runs.{course, IsWorked, worked}
 
@@ -146,28 +149,34 @@ abbrev turn_end : World
 turn_end = (course (two 100 1) 0 both goes_on).world
 
 begins_worked : ArePeersLawful → IsWorked (two 100 1) (start (two 100 1)) begins one
-unfolding acted tick leave decide say hear_welcome hear_freeze hear_frozen hear_cut known_of told_of opened_since checks_of has_leave held ticks cut_of has_freeze epochs confirmed greatest input_of differ mark_at is_ready fits_in
+unfolding acted tick leave decide say hear_welcome hear_freeze hear_frozen hear_cut known_of told_of opened_since checks_of has_leave held
+    ticks cut_of has_freeze epochs confirmed greatest input_of differ mark_at is_ready fits_in
 begins_worked laws = worked laws (two 100 1) (start (two 100 1)) begins turn_range (start_sound (two 100 1) 0 turn_range) refl refl refl
 
 replies_worked : ArePeersLawful → IsWorked (two 100 1) one replies both
-unfolding acted tick leave decide say hear_welcome hear_freeze hear_frozen hear_cut known_of told_of opened_since checks_of has_leave held ticks cut_of has_freeze epochs confirmed greatest input_of differ mark_at is_ready fits_in
+unfolding acted tick leave decide say hear_welcome hear_freeze hear_frozen hear_cut known_of told_of opened_since checks_of has_leave held
+    ticks cut_of has_freeze epochs confirmed greatest input_of differ mark_at is_ready fits_in
 replies_worked laws = worked laws (two 100 1) one replies turn_range (begins_worked laws).sound refl refl refl
 
 goes_on_worked : ArePeersLawful → IsWorked (two 100 1) both goes_on turn_end
-unfolding acted tick leave decide say hear_welcome hear_freeze hear_frozen hear_cut known_of told_of opened_since checks_of has_leave held ticks cut_of has_freeze epochs confirmed greatest input_of differ mark_at is_ready fits_in
+unfolding acted tick leave decide say hear_welcome hear_freeze hear_frozen hear_cut known_of told_of opened_since checks_of has_leave held
+    ticks cut_of has_freeze epochs confirmed greatest input_of differ mark_at is_ready fits_in
 goes_on_worked laws = worked laws (two 100 1) both goes_on turn_range (replies_worked laws).sound refl refl refl
 
 -- DATA with one input has 48 bytes
 one_input : (head : HeadValue) (ack frame start word : ℕ) (mark : List ℕ) → head.version ≡ versions.One → length mark ≡ 8
-    → length (spelling (record { head = head; message = packets.Data (record { ack = ack; mark_frame = frame; mark = mark; start = start; words = word ∷ [] }) })) ≡ 48
+    → length (spelling (record { head = head;
+    message = packets.Data (record { ack = ack; mark_frame = frame; mark = mark; start = start; words = word ∷ [] }) })) ≡ 48
 unfolding spelling
 one_input head ack frame start word mark first eight =
     let run : length (run_bytes versions.One start (word ∷ [])) ≡ 8 = refl in
-    let same : length (run_bytes head.version start (word ∷ [])) ≡ length (run_bytes versions.One start (word ∷ [])) = ap (λ (v : WireVersion). length (run_bytes v start (word ∷ []))) first in
+    let same : length (run_bytes head.version start (word ∷ [])) ≡ length (run_bytes versions.One start (word ∷ [])) =
+        ap (λ (v : WireVersion). length (run_bytes v start (word ∷ []))) first in
     omega (arith, length-append mark (run_bytes head.version start (word ∷ [])), eight, run, same)
 
 turn_lengths : ArePeersLawful → lengths_from 0 turn_end ≡ 24 ∷ 28 ∷ 24 ∷ 28 ∷ 48 ∷ 48 ∷ []
-unfolding spelling acted tick leave decide say hear_welcome hear_freeze hear_frozen hear_cut known_of told_of opened_since checks_of has_leave held ticks cut_of has_freeze epochs confirmed greatest input_of differ mark_at is_ready fits_in
+unfolding spelling acted tick leave decide say hear_welcome hear_freeze hear_frozen hear_cut known_of told_of opened_since checks_of
+    has_leave held ticks cut_of has_freeze epochs confirmed greatest input_of differ mark_at is_ready fits_in
 turn_lengths laws =
     let one_said : Packet = datagram (two 100 1) 1 1 2 1 (inputs (two 100 1) 0 0 (0x0020 ∷ [])) in
     let other_said : Packet = datagram (two 100 1) 2 1 1 1 (inputs (two 100 1) 1 0 (0x0000 ∷ [])) in
@@ -177,7 +186,8 @@ turn_lengths laws =
     λ i. 24 ∷ 28 ∷ 24 ∷ 28 ∷ one i ∷ other i ∷ []
 
 pub goes_in_turn : ArePeersLawful → GoesInTurn
-unfolding acted tick leave decide say hear_welcome hear_freeze hear_frozen hear_cut known_of told_of opened_since checks_of has_leave held ticks cut_of has_freeze epochs confirmed greatest input_of differ mark_at is_ready fits_in
+unfolding acted tick leave decide say hear_welcome hear_freeze hear_frozen hear_cut known_of told_of opened_since checks_of has_leave held
+    ticks cut_of has_freeze epochs confirmed greatest input_of differ mark_at is_ready fits_in
 goes_in_turn laws = record {
   one = one;
   both = both;
@@ -200,18 +210,28 @@ goes_in_turn laws = record {
 stop_range : AreInRange (two 100 8)
 stop_range = two_range 100 8 (omega arith) (omega arith) (omega arith) (omega arith)
 
-lost_worked : ArePeersLawful → (calls pick : ℕ) → IsWorked (two 100 8) (start (two 100 8)) (lost calls pick) (course (two 100 8) 0 (start (two 100 8)) (lost calls pick)).world
-unfolding acted tick leave decide say hear_welcome hear_freeze hear_frozen hear_cut known_of told_of opened_since checks_of has_leave held ticks cut_of has_freeze epochs confirmed greatest input_of differ mark_at is_ready fits_in
-lost_worked laws calls pick = worked laws (two 100 8) (start (two 100 8)) (lost calls pick) stop_range (start_sound (two 100 8) 0 stop_range) refl refl refl
+lost_worked : ArePeersLawful → (calls pick : ℕ)
+    → IsWorked (two 100 8) (start (two 100 8)) (lost calls pick) (course (two 100 8) 0 (start (two 100 8)) (lost calls pick)).world
+unfolding acted tick leave decide say hear_welcome hear_freeze hear_frozen hear_cut known_of told_of opened_since checks_of has_leave held
+    ticks cut_of has_freeze epochs confirmed greatest input_of differ mark_at is_ready fits_in
+lost_worked laws calls pick = worked laws (two 100 8) (start (two 100 8)) (lost calls pick) stop_range
+    (start_sound (two 100 8) 0 stop_range) refl refl refl
 
-left_worked : ArePeersLawful → (calls pick : ℕ) → IsWorked (two 100 8) (start (two 100 8)) (left calls pick) (course (two 100 8) 0 (start (two 100 8)) (left calls pick)).world
-unfolding acted tick leave decide say hear_welcome hear_freeze hear_frozen hear_cut known_of told_of opened_since checks_of has_leave held ticks cut_of has_freeze epochs confirmed greatest input_of differ mark_at is_ready fits_in
-left_worked laws calls pick = worked laws (two 100 8) (start (two 100 8)) (left calls pick) stop_range (start_sound (two 100 8) 0 stop_range) refl refl refl
+left_worked : ArePeersLawful → (calls pick : ℕ)
+    → IsWorked (two 100 8) (start (two 100 8)) (left calls pick) (course (two 100 8) 0 (start (two 100 8)) (left calls pick)).world
+unfolding acted tick leave decide say hear_welcome hear_freeze hear_frozen hear_cut known_of told_of opened_since checks_of has_leave held
+    ticks cut_of has_freeze epochs confirmed greatest input_of differ mark_at is_ready fits_in
+left_worked laws calls pick = worked laws (two 100 8) (start (two 100 8)) (left calls pick) stop_range
+    (start_sound (two 100 8) 0 stop_range) refl refl refl
 
-taken_worked : ArePeersLawful → (calls pick : ℕ) (leaves : Bool) → IsWorked (two 100 8) (start (two 100 8)) (taken calls pick leaves) (course (two 100 8) 0 (start (two 100 8)) (taken calls pick leaves)).world
-unfolding acted tick leave decide say hear_welcome hear_freeze hear_frozen hear_cut known_of told_of opened_since checks_of has_leave held ticks cut_of has_freeze epochs confirmed greatest input_of differ mark_at is_ready fits_in
-taken_worked laws calls pick true = worked laws (two 100 8) (start (two 100 8)) (taken calls pick true) stop_range (start_sound (two 100 8) 0 stop_range) refl refl refl
-taken_worked laws calls pick false = worked laws (two 100 8) (start (two 100 8)) (taken calls pick false) stop_range (start_sound (two 100 8) 0 stop_range) refl refl refl
+taken_worked : ArePeersLawful → (calls pick : ℕ) (leaves : Bool)
+    → IsWorked (two 100 8) (start (two 100 8)) (taken calls pick leaves) (course (two 100 8) 0 (start (two 100 8)) (taken calls pick leaves)).world
+unfolding acted tick leave decide say hear_welcome hear_freeze hear_frozen hear_cut known_of told_of opened_since checks_of has_leave held
+    ticks cut_of has_freeze epochs confirmed greatest input_of differ mark_at is_ready fits_in
+taken_worked laws calls pick true = worked laws (two 100 8) (start (two 100 8)) (taken calls pick true) stop_range
+    (start_sound (two 100 8) 0 stop_range) refl refl refl
+taken_worked laws calls pick false = worked laws (two 100 8) (start (two 100 8)) (taken calls pick false) stop_range
+    (start_sound (two 100 8) 0 stop_range) refl refl refl
 
 pub stops_in_tick : ArePeersLawful → (calls pick : ℕ) → StopsInTick calls pick
 stops_in_tick laws calls pick = record {
@@ -232,19 +252,23 @@ abbrev cut_end : World
 cut_end = (course three 0 brought cuts).world
 
 play_worked : ArePeersLawful → IsWorked three (start three) (play ++ let_go) played
-unfolding acted tick leave decide say hear_welcome hear_freeze hear_frozen hear_cut known_of told_of opened_since checks_of has_leave held ticks cut_of has_freeze epochs confirmed greatest input_of differ mark_at is_ready fits_in
+unfolding acted tick leave decide say hear_welcome hear_freeze hear_frozen hear_cut known_of told_of opened_since checks_of has_leave held
+    ticks cut_of has_freeze epochs confirmed greatest input_of differ mark_at is_ready fits_in
 play_worked laws = worked laws three (start three) (play ++ let_go) three_range (start_sound three 0 three_range) refl refl refl
 
 answers_worked : ArePeersLawful → IsWorked three played answers brought
-unfolding acted tick leave decide say hear_welcome hear_freeze hear_frozen hear_cut known_of told_of opened_since checks_of has_leave held ticks cut_of has_freeze epochs confirmed greatest input_of differ mark_at is_ready fits_in
+unfolding acted tick leave decide say hear_welcome hear_freeze hear_frozen hear_cut known_of told_of opened_since checks_of has_leave held
+    ticks cut_of has_freeze epochs confirmed greatest input_of differ mark_at is_ready fits_in
 answers_worked laws = worked laws three played answers three_range (play_worked laws).sound refl refl refl
 
 cuts_worked : ArePeersLawful → IsWorked three brought cuts cut_end
-unfolding acted tick leave decide say hear_welcome hear_freeze hear_frozen hear_cut known_of told_of opened_since checks_of has_leave held ticks cut_of has_freeze epochs confirmed greatest input_of differ mark_at is_ready fits_in
+unfolding acted tick leave decide say hear_welcome hear_freeze hear_frozen hear_cut known_of told_of opened_since checks_of has_leave held
+    ticks cut_of has_freeze epochs confirmed greatest input_of differ mark_at is_ready fits_in
 cuts_worked laws = worked laws three brought cuts three_range (answers_worked laws).sound refl refl refl
 
 pub cuts_where_held : ArePeersLawful → CutsWhereHeld
-unfolding spelling acted tick leave decide say hear_welcome hear_freeze hear_frozen hear_cut known_of told_of opened_since checks_of has_leave held ticks cut_of has_freeze epochs confirmed greatest input_of differ mark_at is_ready fits_in
+unfolding spelling acted tick leave decide say hear_welcome hear_freeze hear_frozen hear_cut known_of told_of opened_since checks_of
+    has_leave held ticks cut_of has_freeze epochs confirmed greatest input_of differ mark_at is_ready fits_in
 cuts_where_held laws = record {
   played = played;
   brought = brought;
@@ -270,11 +294,13 @@ abbrev out : World
 out = (course three 0 eleven told).world
 
 eleven_worked : ArePeersLawful → IsWorked three (start three) all_eleven eleven
-unfolding acted tick leave decide say hear_welcome hear_freeze hear_frozen hear_cut known_of told_of opened_since checks_of has_leave held ticks cut_of has_freeze epochs confirmed greatest input_of differ mark_at is_ready fits_in
+unfolding acted tick leave decide say hear_welcome hear_freeze hear_frozen hear_cut known_of told_of opened_since checks_of has_leave held
+    ticks cut_of has_freeze epochs confirmed greatest input_of differ mark_at is_ready fits_in
 eleven_worked laws = worked laws three (start three) all_eleven three_range (start_sound three 0 three_range) refl refl refl
 
 told_worked : ArePeersLawful → IsWorked three eleven told out
-unfolding acted tick leave decide say hear_welcome hear_freeze hear_frozen hear_cut known_of told_of opened_since checks_of has_leave held ticks cut_of has_freeze epochs confirmed greatest input_of differ mark_at is_ready fits_in
+unfolding acted tick leave decide say hear_welcome hear_freeze hear_frozen hear_cut known_of told_of opened_since checks_of has_leave held
+    ticks cut_of has_freeze epochs confirmed greatest input_of differ mark_at is_ready fits_in
 told_worked laws = worked laws three eleven told three_range (eleven_worked laws).sound refl refl refl
 
 -- player 3's set in a row
@@ -282,20 +308,23 @@ abbrev third : Row → ℕ
 third r = set_at r 2
 
 tenth_differs : row (known_by three eleven 1) 10 ≢ row (known_by three eleven 3) 10
-unfolding acted tick leave decide say hear_welcome hear_freeze hear_frozen hear_cut known_of told_of opened_since checks_of has_leave held ticks cut_of has_freeze epochs confirmed greatest input_of differ mark_at is_ready fits_in
+unfolding acted tick leave decide say hear_welcome hear_freeze hear_frozen hear_cut known_of told_of opened_since checks_of has_leave held
+    ticks cut_of has_freeze epochs confirmed greatest input_of differ mark_at is_ready fits_in
 tenth_differs same =
     let sets : 0 ≡ 4 = ap third same in
     omega (arith, sets)
 
 eleven_differ : AgreeUpTo three eleven eleven 1 3 → ⊥
-unfolding acted tick leave decide say hear_welcome hear_freeze hear_frozen hear_cut known_of told_of opened_since checks_of has_leave held ticks cut_of has_freeze epochs confirmed greatest input_of differ mark_at is_ready fits_in
+unfolding acted tick leave decide say hear_welcome hear_freeze hear_frozen hear_cut known_of told_of opened_since checks_of has_leave held
+    ticks cut_of has_freeze epochs confirmed greatest input_of differ mark_at is_ready fits_in
 eleven_differ agree =
     let same = (agree 11 (leb-true 11 (confirmed_by three eleven 1) refl) (leb-true 11 (confirmed_by three eleven 3) refl)).rows in
     let sets : 0 ≡ 4 = ap (λ (rows : List Row). third (slice_index_or rows 10 (record { sets = [] }))) same in
     omega (arith, sets)
 
 pub differs_when_dropped : ArePeersLawful → DiffersWhenDropped
-unfolding acted tick leave decide say hear_welcome hear_freeze hear_frozen hear_cut known_of told_of opened_since checks_of has_leave held ticks cut_of has_freeze epochs confirmed greatest input_of differ mark_at is_ready fits_in
+unfolding acted tick leave decide say hear_welcome hear_freeze hear_frozen hear_cut known_of told_of opened_since checks_of has_leave held
+    ticks cut_of has_freeze epochs confirmed greatest input_of differ mark_at is_ready fits_in
 differs_when_dropped laws = record {
   end = eleven;
   leads = (eleven_worked laws).leads;
@@ -309,7 +338,8 @@ differs_when_dropped laws = record {
   dropped = refl;
 }
 
-pub only_of_undropped : ArePeersLawful → ((rules : Rules) (room : ℕ) (w : World) (p r : ℕ) → AreInRange rules → room < 2 ^ 64 → IsReached rules room w → IsPlayer rules p → IsPlayer rules r → AgreeUpTo rules w w p r) → ⊥
+pub only_of_undropped : ArePeersLawful → ((rules : Rules) (room : ℕ) (w : World) (p r : ℕ) → AreInRange rules → room < 2 ^ 64
+    → IsReached rules room w → IsPlayer rules p → IsPlayer rules r → AgreeUpTo rules w w p r) → ⊥
 only_of_undropped laws all =
     eleven_differ (all three 0 eleven 1 3 three_range (omega arith)
     (record { events = events_of all_eleven; answers = answers_of all_eleven; chain = (eleven_worked laws).leads })
@@ -321,11 +351,13 @@ abbrev again : World
 again = (course three 0 (start three) (play ++ let_go ++ opened_again)).world
 
 again_worked : ArePeersLawful → IsWorked three (start three) (play ++ let_go ++ opened_again) again
-unfolding acted tick leave decide say hear_welcome hear_freeze hear_frozen hear_cut known_of told_of opened_since checks_of has_leave held ticks cut_of has_freeze epochs confirmed greatest input_of differ mark_at is_ready fits_in
+unfolding acted tick leave decide say hear_welcome hear_freeze hear_frozen hear_cut known_of told_of opened_since checks_of has_leave held
+    ticks cut_of has_freeze epochs confirmed greatest input_of differ mark_at is_ready fits_in
 again_worked laws = worked laws three (start three) (play ++ let_go ++ opened_again) three_range (start_sound three 0 three_range) refl refl refl
 
 pub cuts_after_restart : ArePeersLawful → CutsAfterRestart
-unfolding acted tick leave decide say hear_welcome hear_freeze hear_frozen hear_cut known_of told_of opened_since checks_of has_leave held ticks cut_of has_freeze epochs confirmed greatest input_of differ mark_at is_ready fits_in
+unfolding acted tick leave decide say hear_welcome hear_freeze hear_frozen hear_cut known_of told_of opened_since checks_of has_leave held
+    ticks cut_of has_freeze epochs confirmed greatest input_of differ mark_at is_ready fits_in
 cuts_after_restart laws = record { end = again; leads = (again_worked laws).leads; ends = refl }
 
 -- ---- a player that has not answered
@@ -334,11 +366,13 @@ abbrev quiet : World
 quiet = (course four 0 (start four) silent).world
 
 quiet_worked : ArePeersLawful → IsWorked four (start four) silent quiet
-unfolding acted tick leave decide say hear_welcome hear_freeze hear_frozen hear_cut known_of told_of opened_since checks_of has_leave held ticks cut_of has_freeze epochs confirmed greatest input_of differ mark_at is_ready fits_in
+unfolding acted tick leave decide say hear_welcome hear_freeze hear_frozen hear_cut known_of told_of opened_since checks_of has_leave held
+    ticks cut_of has_freeze epochs confirmed greatest input_of differ mark_at is_ready fits_in
 quiet_worked laws = worked laws four (start four) silent four_range (start_sound four 0 four_range) refl refl refl
 
 pub waits_for_silent : ArePeersLawful → WaitsForSilent
-unfolding acted tick leave decide say hear_welcome hear_freeze hear_frozen hear_cut known_of told_of opened_since checks_of has_leave held ticks cut_of has_freeze epochs confirmed greatest input_of differ mark_at is_ready fits_in
+unfolding acted tick leave decide say hear_welcome hear_freeze hear_frozen hear_cut known_of told_of opened_since checks_of has_leave held
+    ticks cut_of has_freeze epochs confirmed greatest input_of differ mark_at is_ready fits_in
 waits_for_silent laws = record { end = quiet; leads = (quiet_worked laws).leads; ends = refl }
 
 -- ---- the last frame
@@ -350,11 +384,13 @@ last_range : AreInRange (two 1 1)
 last_range = two_range 1 1 (omega arith) (omega arith) (omega arith) (omega arith)
 
 last_worked : ArePeersLawful → IsWorked (two 1 1) (start (two 1 1)) over last_end
-unfolding acted tick leave decide say hear_welcome hear_freeze hear_frozen hear_cut known_of told_of opened_since checks_of has_leave held ticks cut_of has_freeze epochs confirmed greatest input_of differ mark_at is_ready fits_in
+unfolding acted tick leave decide say hear_welcome hear_freeze hear_frozen hear_cut known_of told_of opened_since checks_of has_leave held
+    ticks cut_of has_freeze epochs confirmed greatest input_of differ mark_at is_ready fits_in
 last_worked laws = worked laws (two 1 1) (start (two 1 1)) over last_range (start_sound (two 1 1) 0 last_range) refl refl refl
 
 pub ends_after_last_frame : ArePeersLawful → EndsAfterLastFrame
-unfolding acted tick leave decide say hear_welcome hear_freeze hear_frozen hear_cut known_of told_of opened_since checks_of has_leave held ticks cut_of has_freeze epochs confirmed greatest input_of differ mark_at is_ready fits_in
+unfolding acted tick leave decide say hear_welcome hear_freeze hear_frozen hear_cut known_of told_of opened_since checks_of has_leave held
+    ticks cut_of has_freeze epochs confirmed greatest input_of differ mark_at is_ready fits_in
 ends_after_last_frame laws = record { end = last_end; leads = (last_worked laws).leads; confirmed = refl }
 
 -- ---- another game's journal
@@ -372,13 +408,15 @@ head_spelled id room long fit few = record {
 abbrev refuses : Happening
 refuses = record works { opening = Unfit replays.WrongGame }
 
-pub refuses_other : (id : List ℕ) (room : ℕ) → length id ≡ 32 → AreBytes id → room < 2 ^ 64 → (id ≢ id_of (two 100 8)) ⊎ (room ≢ 0) → RefusesOther id room
+pub refuses_other : (id : List ℕ) (room : ℕ) → length id ≡ 32 → AreBytes id → room < 2 ^ 64 → (id ≢ id_of (two 100 8)) ⊎ (room ≢ 0)
+    → RefusesOther id room
 unfolding acted
 refuses_other id room long fit few other = record {
   end = (acted (two 100 8) 0 (with_head id room) (Open 1) refuses).world;
   refused = record {
     happening = refuses;
-    may = λ plays. ((1, id, room, (body_of (Head 1 0 id room), 0, refl, record { has = head_spelled id room long fit few; is = refl }), other), omega arith);
+    may = λ plays. ((1, id, room, (body_of (Head 1 0 id room), 0, refl, record { has = head_spelled id room long fit few; is = refl }),
+        other), omega arith);
     is = refl;
   };
   stays = refl;

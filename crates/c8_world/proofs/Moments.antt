@@ -1,5 +1,6 @@
 -- What sound journals have in common: bounds by cuts, agreement, and inputs that were entered.
-use Rattle.std.proofs.Common.{◌≡◌, ℕ, zero, suc, ◌<◌, ◌≤◌, ◌⊎◌, inl, inr, ⊎_elim, List, [], ◌∷◌, ◌++◌, length, Bool, true, false, Option, Some, None, refl, sym, ap, subst, ◌∙◌, arith}
+use Rattle.std.proofs.Common.{◌≡◌, ℕ, zero, suc, ◌<◌, ◌≤◌, ◌⊎◌, inl, inr, ⊎_elim, List, [], ◌∷◌, ◌++◌, length, Bool, true, false, Option,
+  Some, None, refl, sym, ap, subst, ◌∙◌, arith}
 use Rattle.std.specs.Prelude.{nat_le, if◌then◌else◌}
 use Rattle.std.specs.List.{slice_get}
 use Rattle.std.proofs.lemmas.Bool.{cases_eq, cases_lt, leb-true}
@@ -26,7 +27,8 @@ use Rattle.c8_world.proofs.Journals.{AreSound, Grown, player_one, held_grown, cu
 same_cut : (o : Option ℕ) (K L : ℕ) → o ≡ Some K → o ≡ Some L → K ≡ L
 same_cut o K L one two = cc (one, two)
 
-pub bounded_at : (rules : Rules) (room : ℕ) (J : ℕ → List Record) (p L K : ℕ) → AreInRange rules → AreSound rules room J → IsPlayer rules p → IsPlayer rules L
+pub bounded_at : (rules : Rules) (room : ℕ) (J : ℕ → List Record) (p L K : ℕ) → AreInRange rules → AreSound rules room J → IsPlayer rules p
+    → IsPlayer rules L
     → has_leave p (J 1) ≡ false → cut_of L (J 1) ≡ Some K → count rules L (J p) ≤ K
 bounded_at rules room J p L K range sound plays leaver stays cut =
     elim (cases_eq p 1) [
@@ -69,7 +71,8 @@ held_or_cut None (Some K) frame word e = let past = within_past (nat_le K frame)
 input_is : (p : PlayerValue) (frame word : ℕ) → input_of p frame ≡ Some word → (slice_get p.held frame ≡ Some word) ⊎ IsPastCut p frame word
 unfolding input_of
 input_is p frame word e =
-    ⊎_elim (λ here. inl here) (λ past. inr (record { cut = past.0; stands = past.1; past = past.2; empty = past.3; unheld = past.4 })) (held_or_cut (slice_get p.held frame) p.cut frame word e)
+    ⊎_elim (λ here. inl here) (λ past. inr (record { cut = past.0; stands = past.1; past = past.2; empty = past.3; unheld = past.4 }))
+        (held_or_cut (slice_get p.held frame) p.cut frame word e)
 
 -- there is nothing beyond the end of a list
 none_long : {X : Type 0} (xs : List X) (i : ℕ) → slice_get xs i ≡ None → length xs ≤ i
@@ -116,7 +119,8 @@ confirmed_input rules p journal q frame plays below =
     let k : KnownValue = known_of rules p journal in
     let from = plays.from_one in
     let to = plays.in_game in
-    some_value (input_of (player_in k q) frame) ((confirmed_is k).settled frame q below (record { from_one = from; in_game = omega (arith, to, players_known rules p journal) }))
+    some_value (input_of (player_in k q) frame)
+        ((confirmed_is k).settled frame q below (record { from_one = from; in_game = omega (arith, to, players_known rules p journal) }))
 
 said_input : (rules : Rules) (p : ℕ) (journal : List Record) (q frame : ℕ) → IsPlayer rules q
     → input_of (player_in (known_of rules p journal) q) frame ≡ input_of (said_of rules q journal) frame
@@ -129,8 +133,10 @@ sets_agree : (rules : Rules) (room : ℕ) (J : ℕ → List Record) (p r frame q
 sets_agree rules room J p r frame q range sound p_plays r_plays p_stays r_stays p_below r_below from =
     elim (cases_lt rules.players q) [
       | inl past ↦
-          let p_none : player_in (known_of rules p (J p)) q ≡ nobody = nobody_past (known_of rules p (J p)) q (omega (arith, past, players_known rules p (J p))) in
-          let r_none : player_in (known_of rules r (J r)) q ≡ nobody = nobody_past (known_of rules r (J r)) q (omega (arith, past, players_known rules r (J r))) in
+          let p_none : player_in (known_of rules p (J p)) q ≡ nobody =
+              nobody_past (known_of rules p (J p)) q (omega (arith, past, players_known rules p (J p))) in
+          let r_none : player_in (known_of rules r (J r)) q ≡ nobody =
+              nobody_past (known_of rules r (J r)) q (omega (arith, past, players_known rules r (J r))) in
           ap (λ (v : PlayerValue). or_empty (input_of v frame)) (p_none ∙ sym r_none)
       | inr in_game ↦
           let q_plays : IsPlayer rules q = record { from_one = from; in_game = in_game } in
@@ -159,20 +165,26 @@ pub same_up_to : (rules : Rules) (a b : KnownValue) (n : ℕ) → rows_below a n
 same_up_to rules a b n rows = record { rows = rows; machine = ap (λ (all : List Row). serial rules all) rows }
 
 -- what was confirmed at an earlier moment is confirmed now
-grown_rows : (rules : Rules) (room : ℕ) (J J' : ℕ → List Record) (p n : ℕ) → AreInRange rules → AreSound rules room J' → Grown rules J J' → IsPlayer rules p
-    → n ≤ confirmed (known_of rules p (J p)) → (n ≤ confirmed (known_of rules p (J' p))) × (rows_below (known_of rules p (J' p)) n ≡ rows_below (known_of rules p (J p)) n)
+grown_rows : (rules : Rules) (room : ℕ) (J J' : ℕ → List Record) (p n : ℕ) → AreInRange rules → AreSound rules room J' → Grown rules J J'
+    → IsPlayer rules p
+    → n ≤ confirmed (known_of rules p (J p)) → (n ≤ confirmed (known_of rules p (J' p)))
+    × (rows_below (known_of rules p (J' p)) n ≡ rows_below (known_of rules p (J p)) n)
 grown_rows rules room J J' p n range sound grown plays counts =
     let begins : Begins (J p) (J' p) = grown p plays in
-    let valid : IsJournal rules p room (J p ++ begins.rest) = subst (λ (journal : List Record). IsJournal rules p room journal) begins.is (sound.valid p plays) in
-    let rises = confirmed_rises (known_of rules p (J p)) (known_of rules p (J p ++ begins.rest)) (journal_grows rules p room (J p) begins.rest range plays.from_one plays.in_game valid) in
+    let valid : IsJournal rules p room (J p ++ begins.rest) =
+        subst (λ (journal : List Record). IsJournal rules p room journal) begins.is (sound.valid p plays) in
+    let rises = confirmed_rises (known_of rules p (J p)) (known_of rules p (J p ++ begins.rest))
+        (journal_grows rules p room (J p) begins.rest range plays.from_one plays.in_game valid) in
     let rows = confirmed_stays rules p room n (J p) begins.rest range plays.from_one plays.in_game valid counts in
-    subst (λ (journal : List Record). (n ≤ confirmed (known_of rules p journal)) × (rows_below (known_of rules p journal) n ≡ rows_below (known_of rules p (J p)) n)) (sym begins.is)
+    subst (λ (journal : List Record). (n ≤ confirmed (known_of rules p journal))
+        × (rows_below (known_of rules p journal) n ≡ rows_below (known_of rules p (J p)) n)) (sym begins.is)
     (omega (arith, counts, rises), rows)
 
 -- two moments
 pub moments_agree : (rules : Rules) (room : ℕ) (J J' : ℕ → List Record) (p r n : ℕ) → AreInRange rules → AreSound rules room J' → Grown rules J J'
     → IsPlayer rules p → IsPlayer rules r → has_leave p (J' 1) ≡ false → has_leave r (J' 1) ≡ false
-    → n ≤ confirmed (known_of rules p (J p)) → n ≤ confirmed (known_of rules r (J' r)) → AreSameUpTo rules (known_of rules p (J p)) (known_of rules r (J' r)) n
+    → n ≤ confirmed (known_of rules p (J p)) → n ≤ confirmed (known_of rules r (J' r))
+    → AreSameUpTo rules (known_of rules p (J p)) (known_of rules r (J' r)) n
 moments_agree rules room J J' p r n range sound grown p_plays r_plays p_stays r_stays p_counts r_counts =
     let now = grown_rows rules room J J' p n range sound grown p_plays p_counts in
     same_up_to rules (known_of rules p (J p)) (known_of rules r (J' r)) n
@@ -180,17 +192,20 @@ moments_agree rules room J J' p r n range sound grown p_plays r_plays p_stays r_
 
 -- ---- inputs were entered
 
-pub input_entered : (rules : Rules) (room : ℕ) (J J' : ℕ → List Record) (p q frame word : ℕ) → AreInRange rules → AreSound rules room J → Grown rules J J'
+pub input_entered : (rules : Rules) (room : ℕ) (J J' : ℕ → List Record) (p q frame word : ℕ) → AreInRange rules → AreSound rules room J
+    → Grown rules J J'
     → IsPlayer rules p → IsPlayer rules q → input_of (said_of rules q (J p)) frame ≡ Some word
     → (slice_get (held rules q (J' q)) frame ≡ Some word) ⊎ ((word ≡ 0) × (K : ℕ) × (cut_of q (J' 1) ≡ Some K) × (K ≤ frame))
 input_entered rules room J J' p q frame word range sound grown p_plays q_plays is =
     ⊎_elim
     (λ holds. inl (begins_get (held rules q (J q)) (held rules q (J' q)) frame word (held_grown rules q (J q) (J' q) (grown q q_plays))
     (begins_get (held rules q (J p)) (held rules q (J q)) frame word (sound.begins p q p_plays q_plays) holds)))
-    (λ past. inr (past.empty, past.cut, cut_grown q past.cut (J 1) (J' 1) (grown 1 (player_one rules range)) (sound.cuts p q past.cut p_plays past.stands), past.past))
+    (λ past. inr (past.empty, past.cut, cut_grown q past.cut (J 1) (J' 1) (grown 1 (player_one rules range))
+        (sound.cuts p q past.cut p_plays past.stands), past.past))
     (input_is (said_of rules q (J p)) frame word is)
 
-pub confirmed_entered : (rules : Rules) (room : ℕ) (J J' : ℕ → List Record) (p q frame : ℕ) → AreInRange rules → AreSound rules room J → Grown rules J J'
+pub confirmed_entered : (rules : Rules) (room : ℕ) (J J' : ℕ → List Record) (p q frame : ℕ) → AreInRange rules → AreSound rules room J
+    → Grown rules J J'
     → IsPlayer rules p → IsPlayer rules q → frame < confirmed (known_of rules p (J p))
     → (word : ℕ) × (input_of (player_in (known_of rules p (J p)) q) frame ≡ Some word)
     × ((slice_get (held rules q (J' q)) frame ≡ Some word) ⊎ ((word ≡ 0) × (K : ℕ) × (cut_of q (J' 1) ≡ Some K) × (K ≤ frame)))

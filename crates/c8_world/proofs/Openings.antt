@@ -12,23 +12,28 @@ use Rattle.c8_peer.specs.State as states
 use Rattle.c8_peer.specs.State.{Mode, Down, Away, State}
 use Rattle.c8_peer.specs.Opening.{Opening, NoPlayer, Stands, NotWritten, NoMemory, NotRead, Unfit, Spent, found, opened, MayBecome}
 use Rattle.c8_world.specs.checked.Below.{ArePeersLawful}
-use Rattle.c8_world.specs.World.{World, is_player, peer_of, journal_of, Open, Do, Happening, Answer, Told, After, open_at_mode, open_at, acted, CanHappen, IsReached}
+use Rattle.c8_world.specs.World.{World, is_player, peer_of, journal_of, Open, Do, Happening, Answer, Told, After, open_at_mode, open_at,
+  acted, CanHappen, IsReached}
 use Rattle.c8_world.specs.Agreement.{IsPlayer, IsFit}
 use Rattle.c8_world.proofs.Worlds.{IsSound}
 use Rattle.c8_world.proofs.Reached.{reached_sound}
 
-found_by : (rules : Rules) (room : ℕ) (w : World) (p : ℕ) (finds : Bool) (o : Option Record) → IsSound rules room w → IsPlayer rules p → (peer_of w p).pending ≡ o
+found_by : (rules : Rules) (room : ℕ) (w : World) (p : ℕ) (finds : Bool) (o : Option Record) → IsSound rules room w → IsPlayer rules p
+    → (peer_of w p).pending ≡ o
     → IsJournal rules p room (if finds then journal_of w p ++ option_to_list o else journal_of w p)
 found_by rules room w p false o sound plays e = sound.journals.valid p plays
-found_by rules room w p true None sound plays e = subst (λ (journal : List Record). IsJournal rules p room journal) (sym (append-nil (journal_of w p))) (sound.journals.valid p plays)
+found_by rules room w p true None sound plays e =
+    subst (λ (journal : List Record). IsJournal rules p room journal) (sym (append-nil (journal_of w p))) (sound.journals.valid p plays)
 found_by rules room w p true (Some r) sound plays e =
     journal_more rules p room (journal_of w p) r (sound.journals.valid p plays) (((sound.peers p plays).pending r e).1).may.allowed
 
 -- whether or not the pending record is found
-found_valid : (rules : Rules) (room : ℕ) (w : World) (p : ℕ) (finds : Bool) → IsSound rules room w → IsPlayer rules p → IsJournal rules p room (found (peer_of w p) finds)
+found_valid : (rules : Rules) (room : ℕ) (w : World) (p : ℕ) (finds : Bool) → IsSound rules room w → IsPlayer rules p
+    → IsJournal rules p room (found (peer_of w p) finds)
 found_valid rules room w p finds sound plays = found_by rules room w p finds (peer_of w p).pending sound plays refl
 
-opened_fit : (rules : Rules) (room p : ℕ) (s : State) (journal : List Record) (outcome : Opening) → IsPlayer rules p → IsJournal rules p room journal → MayBecome rules room p journal outcome
+opened_fit : (rules : Rules) (room p : ℕ) (s : State) (journal : List Record) (outcome : Opening) → IsPlayer rules p
+    → IsJournal rules p room journal → MayBecome rules room p journal outcome
     → IsFit (Told (opened rules room p s journal outcome).reply)
 opened_fit rules room p s journal Stands plays is may = record { game = λ e. cc e; player = λ e. cc e; records = λ n e. cc e }
 opened_fit rules room p s journal (NotWritten why) plays is may = record { game = λ e. cc e; player = λ e. cc e; records = λ n e. cc e }
@@ -38,11 +43,14 @@ opened_fit rules room p s journal (NotRead why) plays is may = record { game = �
 opened_fit rules room p s journal (Unfit error) plays is may = absurd (journal_not_refused rules p room journal error is may.0)
 opened_fit rules room p s journal Spent plays is may = record { game = λ e. cc e; player = λ e. cc e; records = λ n e. cc e }
 
-mode_fit : (rules : Rules) (room : ℕ) (w : World) (p : ℕ) (h : Happening) (mode : Mode) → IsSound rules room w → IsPlayer rules p → MayBecome rules room p (found (peer_of w p) h.finds) h.opening
+mode_fit : (rules : Rules) (room : ℕ) (w : World) (p : ℕ) (h : Happening) (mode : Mode) → IsSound rules room w → IsPlayer rules p
+    → MayBecome rules room p (found (peer_of w p) h.finds) h.opening
     → IsFit (open_at_mode rules room w p h mode).answer
 mode_fit rules room w p h states.Open sound plays may = record { game = λ e. cc e; player = λ e. cc e; records = λ n e. cc e }
-mode_fit rules room w p h Down sound plays may = opened_fit rules room p (peer_of w p) (found (peer_of w p) h.finds) h.opening plays (found_valid rules room w p h.finds sound plays) may
-mode_fit rules room w p h Away sound plays may = opened_fit rules room p (peer_of w p) (found (peer_of w p) h.finds) h.opening plays (found_valid rules room w p h.finds sound plays) may
+mode_fit rules room w p h Down sound plays may =
+    opened_fit rules room p (peer_of w p) (found (peer_of w p) h.finds) h.opening plays (found_valid rules room w p h.finds sound plays) may
+mode_fit rules room w p h Away sound plays may =
+    opened_fit rules room p (peer_of w p) (found (peer_of w p) h.finds) h.opening plays (found_valid rules room w p h.finds sound plays) may
 
 pub plays_so : (rules : Rules) (p : ℕ) → IsPlayer rules p → is_player rules p ≡ true
 plays_so rules p plays = rw (le-leb 1 p plays.from_one, le-leb p rules.players plays.in_game) refl
@@ -52,19 +60,24 @@ pub after_if : (P : After → Type 0) (b : Bool) (x y : After) → (b ≡ true �
 after_if P true x y when unless = when refl
 after_if P false x y when unless = unless refl
 
-open_fit : (rules : Rules) (room : ℕ) (w : World) (p : ℕ) (h : Happening) → IsSound rules room w → IsPlayer rules p → (is_player rules p ≡ true → MayBecome rules room p (found (peer_of w p) h.finds) h.opening)
+open_fit : (rules : Rules) (room : ℕ) (w : World) (p : ℕ) (h : Happening) → IsSound rules room w → IsPlayer rules p
+    → (is_player rules p ≡ true → MayBecome rules room p (found (peer_of w p) h.finds) h.opening)
     → IsFit (open_at rules room w p h).answer
 open_fit rules room w p h sound plays may =
     after_if (λ (a : After). IsFit a.answer) (is_player rules p) _ _
     (λ is. mode_fit rules room w p h (peer_of w p).mode sound plays (may is))
     (λ none. absurd (both_ways (is_player rules p) none (plays_so rules p plays)))
 
-pub openings_fit : (laws : ArePeersLawful) (rules : Rules) (room : ℕ) (w v : World) (p : ℕ) (answer : Answer) → AreInRange rules → room < 2 ^ 64 → IsReached rules room w → IsPlayer rules p
+pub openings_fit : (laws : ArePeersLawful) (rules : Rules) (room : ℕ) (w v : World) (p : ℕ) (answer : Answer) → AreInRange rules
+    → room < 2 ^ 64 → IsReached rules room w → IsPlayer rules p
     → CanHappen rules room w (Do (Open p)) answer v → IsFit answer
 unfolding acted
 openings_fit laws rules room w v p answer range few reached plays can =
-    subst (λ (a : After). IsFit a.answer) can.is (open_fit rules room w p can.happening (reached_sound laws rules room w range few reached) plays can.may)
+    subst (λ (a : After). IsFit a.answer) can.is
+        (open_fit rules room w p can.happening (reached_sound laws rules room w range few reached) plays can.may)
 
-pub found_journal : (laws : ArePeersLawful) (rules : Rules) (room : ℕ) (w : World) (p : ℕ) (finds : Bool) → AreInRange rules → room < 2 ^ 64 → IsReached rules room w → IsPlayer rules p
+pub found_journal : (laws : ArePeersLawful) (rules : Rules) (room : ℕ) (w : World) (p : ℕ) (finds : Bool) → AreInRange rules → room < 2 ^ 64
+    → IsReached rules room w → IsPlayer rules p
     → IsJournal rules p room (found (peer_of w p) finds)
-found_journal laws rules room w p finds range few reached plays = found_valid rules room w p finds (reached_sound laws rules room w range few reached) plays
+found_journal laws rules room w p finds range few reached plays =
+    found_valid rules room w p finds (reached_sound laws rules room w range few reached) plays

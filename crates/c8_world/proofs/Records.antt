@@ -1,11 +1,13 @@
 -- Each kind of record that a step adds fits the others' journals.
-use Rattle.std.proofs.Common.{◌≡◌, ◌≢◌, ℕ, ◌+◌, ◌-◌, ◌≤◌, ◌⊎◌, inl, inr, List, [], ◌∷◌, ◌++◌, length, drop, true, false, Some, None, refl, sym, ap, subst, ◌∙◌, arith}
+use Rattle.std.proofs.Common.{◌≡◌, ◌≢◌, ℕ, ◌+◌, ◌-◌, ◌≤◌, ◌⊎◌, inl, inr, List, [], ◌∷◌, ◌++◌, length, drop, true, false, Some, None, refl,
+  sym, ap, subst, ◌∙◌, arith}
 use Rattle.std.specs.Prelude.{◌==◌, if◌then◌else◌}
 use Rattle.std.specs.List.{slice_get}
 use Rattle.std.proofs.lemmas.Bool.{cases_eq, eq-eqb, ne_eqb, both_ways}
 use Rattle.std.proofs.lemmas.List.{append-nil}
 use Rattle.c8_game.specs.Rules.{Rules}
-use Rattle.c8_known.specs.Journal.{Record, Head, Epoch, Own, Got, Freeze, Leave, Cut, State, Check, player_of, words_of, cuts_of, held, count, has_freeze, has_leave, cut_of}
+use Rattle.c8_known.specs.Journal.{Record, Head, Epoch, Own, Got, Freeze, Leave, Cut, State, Check, player_of, words_of, cuts_of, held,
+  count, has_freeze, has_leave, cut_of}
 use Rattle.c8_known.specs.Known.{PlayerValue, KnownValue, player_in, count_in, said_of, known_of}
 use Rattle.c8_known.specs.Growth.{Begins, Stands}
 use Rattle.c8_known.specs.checked.BeginsLaws.{begins_fresh}
@@ -20,16 +22,19 @@ use Rattle.c8_world.proofs.Journals.{AreSound, MayAdd, Fits}
 
 -- ---- what is known of a player of the game is what the journal says
 
-pub said_known : (rules : Rules) (p q : ℕ) (journal : List Record) → IsPlayer rules q → player_in (known_of rules p journal) q ≡ said_of rules q journal
+pub said_known : (rules : Rules) (p q : ℕ) (journal : List Record) → IsPlayer rules q
+    → player_in (known_of rules p journal) q ≡ said_of rules q journal
 said_known rules p q journal plays = player_known rules p q journal plays.from_one plays.in_game
 
 pub count_known : (rules : Rules) (p q : ℕ) (journal : List Record) → IsPlayer rules q → count_in (known_of rules p journal) q ≡ count rules q journal
 count_known rules p q journal plays = ap (λ (v : PlayerValue). length v.held) (said_known rules p q journal plays)
 
-pub freeze_known_by : (rules : Rules) (p q : ℕ) (journal : List Record) → IsPlayer rules q → (player_in (known_of rules p journal) q).frozen ≡ has_freeze q journal
+pub freeze_known_by : (rules : Rules) (p q : ℕ) (journal : List Record) → IsPlayer rules q
+    → (player_in (known_of rules p journal) q).frozen ≡ has_freeze q journal
 freeze_known_by rules p q journal plays = ap (λ (v : PlayerValue). v.frozen) (said_known rules p q journal plays)
 
-pub leave_known_by : (rules : Rules) (p q : ℕ) (journal : List Record) → IsPlayer rules q → (player_in (known_of rules p journal) q).leaving ≡ has_leave q journal
+pub leave_known_by : (rules : Rules) (p q : ℕ) (journal : List Record) → IsPlayer rules q
+    → (player_in (known_of rules p journal) q).leaving ≡ has_leave q journal
 leave_known_by rules p q journal plays = ap (λ (v : PlayerValue). v.leaving) (said_known rules p q journal plays)
 
 pub me_is : (rules : Rules) (p : ℕ) (journal : List Record) → (known_of rules p journal).me ≡ p
@@ -65,7 +70,8 @@ cut_is_of : (q K : ℕ) (r : Record) → slice_get (cuts_of q r) 0 ≡ Some K �
 cut_is_of q K r is =
     elim (cases_eq (player_of r) q) [
       | inl same ↦ sym same
-      | inr other ↦ let none : slice_get (cuts_of q r) 0 ≡ None = ap (λ (cuts : List ℕ). slice_get cuts 0) (cuts_of_other q r other) in absurd (cc (is, none))
+      | inr other ↦ let none : slice_get (cuts_of q r) 0 ≡ None = ap (λ (cuts : List ℕ). slice_get cuts 0) (cuts_of_other q r other) in
+      absurd (cc (is, none))
     ]
 
 -- how a record about player q must fit the others' journals
@@ -81,7 +87,8 @@ names_player rules room p journal r allowed =
     let to = allowed.plays.in_game in
     record { from_one = from; in_game = omega (arith, to, players_known rules p journal) }
 
-pub fits_by : (rules : Rules) (room : ℕ) (J : ℕ → List Record) (p : ℕ) (r : Record) → AreSound rules room J → IsPlayer rules p → MayAdd rules room J p r
+pub fits_by : (rules : Rules) (room : ℕ) (J : ℕ → List Record) (p : ℕ) (r : Record) → AreSound rules room J → IsPlayer rules p
+    → MayAdd rules room J p r
     → FitsOf rules J p (player_of r) (words_of (player_of r) r) (cuts_of (player_of r) r) → Fits rules room J p r
 fits_by rules room J p r sound plays may of = record {
   may = may;
@@ -94,16 +101,19 @@ fits_by rules room J p r sound plays may of = record {
       subst (λ (x : ℕ). cut_of x (J 1) ≡ Some K) (sym whose) (of.cut K not_one (subst (λ (x : ℕ). slice_get (cuts_of x r) 0 ≡ Some K) whose is));
   decides = λ L K s first is s_plays not_one stays.
       let whose : L ≡ player_of r = cut_is_of L K r is in
-      subst (λ (x : ℕ). IsFrozenAt rules x K (J s)) (sym whose) (of.decides K s first (subst (λ (x : ℕ). slice_get (cuts_of x r) 0 ≡ Some K) whose is) s_plays not_one stays);
+      subst (λ (x : ℕ). IsFrozenAt rules x K (J s)) (sym whose)
+          (of.decides K s first (subst (λ (x : ℕ). slice_get (cuts_of x r) 0 ≡ Some K) whose is) s_plays not_one stays);
   frozen = λ L is. elim (cases_eq (player_of r) L) [
-    | inl same ↦ subst (λ (x : ℕ). (words_of x r ≡ []) ⊎ ((K : ℕ) × (cut_of x (J 1) ≡ Some K) × (count rules x (J p) + length (words_of x r) ≤ K))) same
+    | inl same ↦ subst (λ (x : ℕ). (words_of x r ≡ [])
+    ⊎ ((K : ℕ) × (cut_of x (J 1) ≡ Some K) × (count rules x (J p) + length (words_of x r) ≤ K))) same
         (of.frozen (subst (λ (x : ℕ). has_freeze x (J p) ≡ true) (sym same) is))
     | inr apart ↦ inl (words_of_other L r apart)
   ];
 }
 
 -- a record without inputs and without a cut
-pub quiet : (rules : Rules) (room : ℕ) (J : ℕ → List Record) (p q : ℕ) → AreSound rules room J → IsPlayer rules p → IsPlayer rules q → FitsOf rules J p q [] []
+pub quiet : (rules : Rules) (room : ℕ) (J : ℕ → List Record) (p q : ℕ) → AreSound rules room J → IsPlayer rules p → IsPlayer rules q
+    → FitsOf rules J p q [] []
 quiet rules room J p q sound plays q_plays = record {
   adds = λ other. rw (append-nil (held rules q (J p))) (sound.begins p q plays q_plays);
   cut = λ K not_one is. absurd cc;
@@ -116,15 +126,18 @@ quiet rules room J p q sound plays q_plays = record {
 self : (q : ℕ) → (q == q) ≡ true
 self q = eq-eqb q q refl
 
-pub fits_head : (rules : Rules) (room : ℕ) (J : ℕ → List Record) (p player form : ℕ) (id : List ℕ) (named : ℕ) → AreSound rules room J → IsPlayer rules p
+pub fits_head : (rules : Rules) (room : ℕ) (J : ℕ → List Record) (p player form : ℕ) (id : List ℕ) (named : ℕ) → AreSound rules room J
+    → IsPlayer rules p
     → MayAdd rules room J p (Head player form id named) → Fits rules room J p (Head player form id named)
 fits_head rules room J p player form id named sound plays may =
-    fits_by rules room J p (Head player form id named) sound plays may (quiet rules room J p player sound plays (names_player rules room p (J p) (Head player form id named) may.allowed))
+    fits_by rules room J p (Head player form id named) sound plays may
+        (quiet rules room J p player sound plays (names_player rules room p (J p) (Head player form id named) may.allowed))
 
 pub fits_epoch : (rules : Rules) (room : ℕ) (J : ℕ → List Record) (p player number form : ℕ) → AreSound rules room J → IsPlayer rules p
     → MayAdd rules room J p (Epoch player number form) → Fits rules room J p (Epoch player number form)
 fits_epoch rules room J p player number form sound plays may =
-    fits_by rules room J p (Epoch player number form) sound plays may (quiet rules room J p player sound plays (names_player rules room p (J p) (Epoch player number form) may.allowed))
+    fits_by rules room J p (Epoch player number form) sound plays may
+        (quiet rules room J p player sound plays (names_player rules room p (J p) (Epoch player number form) may.allowed))
 
 pub fits_freeze : (rules : Rules) (room : ℕ) (J : ℕ → List Record) (p L : ℕ) → AreSound rules room J → IsPlayer rules p
     → MayAdd rules room J p (Freeze L) → Fits rules room J p (Freeze L)
@@ -136,15 +149,18 @@ pub fits_leave : (rules : Rules) (room : ℕ) (J : ℕ → List Record) (p L : �
 fits_leave rules room J p L sound plays may =
     fits_by rules room J p (Leave L) sound plays may (quiet rules room J p L sound plays (names_player rules room p (J p) (Leave L) may.allowed))
 
-pub fits_state : (rules : Rules) (room : ℕ) (J : ℕ → List Record) (p player frames piece : ℕ) (bytes : List ℕ) → AreSound rules room J → IsPlayer rules p
+pub fits_state : (rules : Rules) (room : ℕ) (J : ℕ → List Record) (p player frames piece : ℕ) (bytes : List ℕ) → AreSound rules room J
+    → IsPlayer rules p
     → MayAdd rules room J p (State player frames piece bytes) → Fits rules room J p (State player frames piece bytes)
 fits_state rules room J p player frames piece bytes sound plays may =
-    fits_by rules room J p (State player frames piece bytes) sound plays may (quiet rules room J p player sound plays (names_player rules room p (J p) (State player frames piece bytes) may.allowed))
+    fits_by rules room J p (State player frames piece bytes) sound plays may
+        (quiet rules room J p player sound plays (names_player rules room p (J p) (State player frames piece bytes) may.allowed))
 
 pub fits_check : (rules : Rules) (room : ℕ) (J : ℕ → List Record) (p player frames : ℕ) (digest : List ℕ) → AreSound rules room J → IsPlayer rules p
     → MayAdd rules room J p (Check player frames digest) → Fits rules room J p (Check player frames digest)
 fits_check rules room J p player frames digest sound plays may =
-    fits_by rules room J p (Check player frames digest) sound plays may (quiet rules room J p player sound plays (names_player rules room p (J p) (Check player frames digest) may.allowed))
+    fits_by rules room J p (Check player frames digest) sound plays may
+        (quiet rules room J p player sound plays (names_player rules room p (J p) (Check player frames digest) may.allowed))
 
 -- no player freezes itself, and player 1 freezes nobody
 pub own_unfrozen : (rules : Rules) (room : ℕ) (J : ℕ → List Record) (p : ℕ) → AreSound rules room J → IsPlayer rules p → has_freeze p (J p) ≡ false
@@ -153,7 +169,8 @@ own_unfrozen rules room J p sound plays =
     let orderly : IsOrderly k = journal_orderly rules p room (J p) (sound.valid p plays) in
     sym (freeze_known_by rules p p (J p) plays) ∙ (orderly p plays.from_one).own (sym (me_is rules p (J p)))
 
-pub one_unfrozen : (rules : Rules) (room : ℕ) (J : ℕ → List Record) (p q : ℕ) → AreSound rules room J → IsPlayer rules p → IsPlayer rules q → p ≡ 1 → has_freeze q (J p) ≡ false
+pub one_unfrozen : (rules : Rules) (room : ℕ) (J : ℕ → List Record) (p q : ℕ) → AreSound rules room J → IsPlayer rules p → IsPlayer rules q
+    → p ≡ 1 → has_freeze q (J p) ≡ false
 one_unfrozen rules room J p q sound plays q_plays first =
     let k : KnownValue = known_of rules p (J p) in
     let orderly : IsOrderly k = journal_orderly rules p room (J p) (sound.valid p plays) in
@@ -170,19 +187,26 @@ fits_own rules room J p start word sound plays may =
     })
 
 -- new inputs of a player, from a run that is in what it entered
-adds_fresh : (rules : Rules) (room : ℕ) (J : ℕ → List Record) (p q start : ℕ) (words : List ℕ) → AreSound rules room J → IsPlayer rules p → IsPlayer rules q
-    → start ≤ count rules q (J p) → Stands start words (held rules q (J q)) → Begins (held rules q (J p) ++ drop (count rules q (J p) - start) words) (held rules q (J q))
-adds_fresh rules room J p q start words sound plays q_plays from stands = begins_fresh (held rules q (J p)) words (held rules q (J q)) start (sound.begins p q plays q_plays) from stands.is
+adds_fresh : (rules : Rules) (room : ℕ) (J : ℕ → List Record) (p q start : ℕ) (words : List ℕ) → AreSound rules room J → IsPlayer rules p
+    → IsPlayer rules q
+    → start ≤ count rules q (J p) → Stands start words (held rules q (J q))
+    → Begins (held rules q (J p) ++ drop (count rules q (J p) - start) words) (held rules q (J q))
+adds_fresh rules room J p q start words sound plays q_plays from stands =
+    begins_fresh (held rules q (J p)) words (held rules q (J q)) start (sound.begins p q plays q_plays) from stands.is
 
 -- a run that is in what a player holds is in what was entered
-pub stands_entered : (rules : Rules) (room : ℕ) (J : ℕ → List Record) (s q start : ℕ) (words : List ℕ) → AreSound rules room J → IsPlayer rules s → IsPlayer rules q
+pub stands_entered : (rules : Rules) (room : ℕ) (J : ℕ → List Record) (s q start : ℕ) (words : List ℕ) → AreSound rules room J
+    → IsPlayer rules s → IsPlayer rules q
     → Stands start words (held rules q (J s)) → Stands start words (held rules q (J q))
 stands_entered rules room J s q start words sound plays q_plays stands =
     stands_longer start words (held rules q (J s)) (held rules q (J q)) (sound.begins s q plays q_plays) stands
 
-pub fits_got : (rules : Rules) (room : ℕ) (J : ℕ → List Record) (p q at start : ℕ) (words : List ℕ) → AreSound rules room J → IsPlayer rules p → IsPlayer rules q
-    → MayAdd rules room J p (Got q at (drop (count rules q (J p) - start) words)) → start ≤ count rules q (J p) → Stands start words (held rules q (J q))
-    → (has_freeze q (J p) ≡ true → (K : ℕ) × (cut_of q (J 1) ≡ Some K) × (count rules q (J p) + length (drop (count rules q (J p) - start) words) ≤ K))
+pub fits_got : (rules : Rules) (room : ℕ) (J : ℕ → List Record) (p q at start : ℕ) (words : List ℕ) → AreSound rules room J
+    → IsPlayer rules p → IsPlayer rules q
+    → MayAdd rules room J p (Got q at (drop (count rules q (J p) - start) words)) → start ≤ count rules q (J p)
+    → Stands start words (held rules q (J q))
+    → (has_freeze q (J p) ≡ true → (K : ℕ) × (cut_of q (J 1) ≡ Some K)
+    × (count rules q (J p) + length (drop (count rules q (J p) - start) words) ≤ K))
     → Fits rules room J p (Got q at (drop (count rules q (J p) - start) words))
 fits_got rules room J p q at start words sound plays q_plays may from stands frozen =
     let fresh : List ℕ = drop (count rules q (J p) - start) words in
@@ -198,8 +222,10 @@ cut_here : (q K L : ℕ) → slice_get (if q == q then K ∷ [] else []) 0 ≡ S
 cut_here q K L is = let e = rw (self q) at is in cc
 
 -- a CUT in a journal of a player other than player 1; player 1's journal has the same cut
-pub fits_cut : (rules : Rules) (room : ℕ) (J : ℕ → List Record) (p q K at start : ℕ) (words : List ℕ) → AreSound rules room J → IsPlayer rules p → IsPlayer rules q → p ≢ 1
-    → MayAdd rules room J p (Cut q K at (drop (count rules q (J p) - start) words)) → start ≤ count rules q (J p) → Stands start words (held rules q (J q))
+pub fits_cut : (rules : Rules) (room : ℕ) (J : ℕ → List Record) (p q K at start : ℕ) (words : List ℕ) → AreSound rules room J
+    → IsPlayer rules p → IsPlayer rules q → p ≢ 1
+    → MayAdd rules room J p (Cut q K at (drop (count rules q (J p) - start) words)) → start ≤ count rules q (J p)
+    → Stands start words (held rules q (J q))
     → cut_of q (J 1) ≡ Some K → count rules q (J p) + length (drop (count rules q (J p) - start) words) ≤ K
     → Fits rules room J p (Cut q K at (drop (count rules q (J p) - start) words))
 fits_cut rules room J p q K at start words sound plays q_plays elsewhere may from stands cut within =
@@ -213,7 +239,8 @@ fits_cut rules room J p q K at start words sound plays q_plays elsewhere may fro
     })
 
 -- player 1's decision, after all who stay have answered
-pub fits_decision : (rules : Rules) (room : ℕ) (J : ℕ → List Record) (p q K at : ℕ) → AreSound rules room J → IsPlayer rules p → IsPlayer rules q → p ≡ 1
+pub fits_decision : (rules : Rules) (room : ℕ) (J : ℕ → List Record) (p q K at : ℕ) → AreSound rules room J → IsPlayer rules p
+    → IsPlayer rules q → p ≡ 1
     → MayAdd rules room J p (Cut q K at [])
     → ((s : ℕ) → IsPlayer rules s → s ≢ 1 → has_leave s (J 1) ≡ false → IsFrozenAt rules q K (J s))
     → Fits rules room J p (Cut q K at [])
@@ -222,6 +249,7 @@ fits_decision rules room J p q K at sound plays q_plays first may answered =
     fits_by rules room J p (Cut q K at []) sound plays may (record {
       adds = λ other. rw (here, append-nil (held rules q (J p))) (sound.begins p q plays q_plays);
       cut = λ L not_one is. absurd (not_one first);
-      decides = λ L s one is s_plays not_one stays. subst (λ (n : ℕ). IsFrozenAt rules q n (J s)) (cut_here q K L is) (answered s s_plays not_one stays);
+      decides = λ L s one is s_plays not_one stays. subst (λ (n : ℕ). IsFrozenAt rules q n (J s)) (cut_here q K L is)
+          (answered s s_plays not_one stays);
       frozen = λ is. inl here;
     })

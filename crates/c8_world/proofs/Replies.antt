@@ -1,6 +1,7 @@
 -- Answers that a call of an open peer never has.
 use Rattle.c8_known.specs.Growth.{Stands}
-use Rattle.std.proofs.Common.{◌≡◌, ◌≢◌, ℕ, ◌+◌, ◌≤◌, List, [], ◌∷◌, length, false, not, Option, Some, None, Result, Ok, Err, refl, sym, ap, subst, ◌∙◌, arith, true}
+use Rattle.std.proofs.Common.{◌≡◌, ◌≢◌, ℕ, ◌+◌, ◌≤◌, List, [], ◌∷◌, length, false, not, Option, Some, None, Result, Ok, Err, refl, sym, ap,
+  subst, ◌∙◌, arith, true}
 use Rattle.std.specs.Prelude.{◌==◌, ◌||◌, nat_lt, nat_le, is_some}
 use Rattle.std.proofs.lemmas.Bool.{both_ways, ltb-true, eq-eqb, or_parts, not-false, eqb-true, and_parts}
 use Rattle.c8_game.specs.Rules.{Rules, AreInRange}
@@ -29,9 +30,11 @@ use Rattle.c8_refusals.specs.declared.error.DecideError.{DecideError}
 use Rattle.c8_refusals.specs.declared.error.CheckError.{CheckError}
 use Rattle.c8_peer.specs.declared.check.Check.{Check}
 use Rattle.c8_peer.specs.declared.heard.Heard.{Heard}
-use Rattle.c8_peer.specs.State.{Memory, Saying, Call, Tick, Deliver, Say, Show, Leave, Decide, Checkpoint, Reply, Ticked, Delivered, Said, Left, Decided, Checked, Outcome}
+use Rattle.c8_peer.specs.State.{Memory, Saying, Call, Tick, Deliver, Say, Show, Leave, Decide, Checkpoint, Reply, Ticked, Delivered, Said,
+  Left, Decided, Checked, Outcome}
 use Rattle.c8_peer.specs.Calls.{tick, leave, decide, next_piece, checkpoint}
-use Rattle.c8_peer.specs.Hearing.{is_of_other_wire, refused, unless_misfit, got, is_desync, hear_data, hear_welcome, hear_freeze, hear_frozen, hear_end, hear_cut, hear_message, hear_seen, hear_from, seen_in, unless_hand, deliver}
+use Rattle.c8_peer.specs.Hearing.{is_of_other_wire, refused, unless_misfit, got, is_desync, hear_data, hear_welcome, hear_freeze,
+  hear_frozen, hear_end, hear_cut, hear_message, hear_seen, hear_from, seen_in, unless_hand, deliver}
 use Rattle.c8_peer.specs.Saying.{is_not_mine, lacks_record, lacks_link, say, show}
 use Rattle.c8_peer.specs.Steps.{outcome}
 use Rattle.c8_peer.specs.Truth.{IsTrueMark, IsTrueMessage}
@@ -62,18 +65,23 @@ calm_reply : (J : ℕ → List Record) (p q : ℕ) (why : Refused) → IsCalm J 
 calm_reply J p q why calm other e = let same : why ≡ other = cc in subst (λ (x : Refused). IsCalm J p q x) same calm
 
 -- a refusal that is none of the three
-pub calm_other : (J : ℕ → List Record) (p q : ℕ) (why : Refused) → why ≢ refusals.BadAck → why ≢ refusals.Known knowns.Differs → why ≢ refusals.Desync → AnswersCalmly J p q (Delivered (Err why))
+pub calm_other : (J : ℕ → List Record) (p q : ℕ) (why : Refused) → why ≢ refusals.BadAck → why ≢ refusals.Known knowns.Differs
+    → why ≢ refusals.Desync → AnswersCalmly J p q (Delivered (Err why))
 calm_other J p q why ack inputs machines = calm_reply J p q why (record { ack = ack; inputs = λ stays. inputs; machines = λ stays also. machines })
 
 -- a reason why inputs cannot be held, other than that they differ
-calm_known : (J : ℕ → List Record) (p q : ℕ) (error : KnownError) → error ≢ knowns.Differs → AnswersCalmly J p q (Delivered (Err (refusals.Known error)))
-calm_known J p q error apart = calm_other J p q (refusals.Known error) (λ e. cc e) (λ e. let same : error ≡ knowns.Differs = cc in apart same) (λ e. cc e)
+calm_known : (J : ℕ → List Record) (p q : ℕ) (error : KnownError) → error ≢ knowns.Differs
+    → AnswersCalmly J p q (Delivered (Err (refusals.Known error)))
+calm_known J p q error apart = calm_other J p q (refusals.Known error) (λ e. cc e)
+    (λ e. let same : error ≡ knowns.Differs = cc in apart same) (λ e. cc e)
 
-unless_misfit_calm : (P : Outcome → Type 0) (m : Memory) (o : Option KnownError) (x : Outcome) → ((error : KnownError) → o ≡ Some error → P (refused m (refusals.Known error))) → P x → P (unless_misfit m o x)
+unless_misfit_calm : (P : Outcome → Type 0) (m : Memory) (o : Option KnownError) (x : Outcome)
+    → ((error : KnownError) → o ≡ Some error → P (refused m (refusals.Known error))) → P x → P (unless_misfit m o x)
 unless_misfit_calm P m None x refuses fits = fits
 unless_misfit_calm P m (Some error) x refuses fits = refuses error refl
 
-unless_hand_calm : (P : Outcome → Type 0) (m : Memory) (o : Option HandError) (x : Outcome) → ((error : HandError) → P (refused m (refusals.Hand error))) → (o ≡ None → P x) → P (unless_hand m o x)
+unless_hand_calm : (P : Outcome → Type 0) (m : Memory) (o : Option HandError) (x : Outcome)
+    → ((error : HandError) → P (refused m (refusals.Hand error))) → (o ≡ None → P x) → P (unless_hand m o x)
 unless_hand_calm P m None x refuses admits = admits refl
 unless_hand_calm P m (Some error) x refuses admits = refuses error
 
@@ -87,7 +95,8 @@ calm_got : (J : ℕ → List Record) (p q : ℕ) (k : KnownValue) (m : Memory) (
 calm_got J p q k m player [] = unrefused J p q _ (λ why e. cc e)
 calm_got J p q k m player (w ∷ ws) = unrefused J p q _ (λ why e. cc e)
 
-calm_data : (rules : Rules) (room : ℕ) (J : ℕ → List Record) (p q : ℕ) (m : Memory) (d : DataMessage) → AreInRange rules → AreSound rules room J → IsPlayer rules p → IsPlayer rules q
+calm_data : (rules : Rules) (room : ℕ) (J : ℕ → List Record) (p q : ℕ) (m : Memory) (d : DataMessage) → AreInRange rules
+    → AreSound rules room J → IsPlayer rules p → IsPlayer rules q
     → d.ack ≤ count rules p (J q) → Stands d.start d.words (held rules q (J q)) → IsTrueMark rules q (J q) d.mark_frame d.mark
     → EndsCalmly J p q (hear_data (told_of rules p (J p)) (known_of rules p (J p)) m q d)
 unfolding hear_data
@@ -97,12 +106,14 @@ calm_data rules room J p q m d range sound plays q_plays few stands is_mark =
     branch P (is_from_leaver k q q) _ _ (λ is. calm_other J p q _ (λ e. cc e) (λ e. cc e) (λ e. cc e)) (λ itself.
     branch P (nat_lt (count_in k k.me) d.ack) _ _ (λ is. absurd (no_bad_ack rules room J p q d.ack sound plays q_plays few is)) (λ ack.
     unless_misfit_calm P m (misfit k q d.start d.words) _
-    (λ error e. calm_known J p q error (not_differs k q d.start d.words error (no_difference rules room J p q d.start d.words sound plays q_plays stands) e))
+    (λ error e. calm_known J p q error (not_differs k q d.start d.words error
+        (no_difference rules room J p q d.start d.words sound plays q_plays stands) e))
     (branch P (is_desync (told_of rules p (J p)) d) _ _
     (λ is. calm_reply J p q refusals.Desync (record {
       ack = λ e. cc e;
       inputs = λ stays e. cc e;
-      machines = λ stays q_stays. absurd (both_ways (is_desync (told_of rules p (J p)) d) (no_desync rules room J p q d range sound plays q_plays stays q_stays is_mark) is);
+      machines = λ stays q_stays. absurd (both_ways (is_desync (told_of rules p (J p)) d)
+          (no_desync rules room J p q d range sound plays q_plays stays q_stays is_mark) is);
     }))
     (λ same. calm_got J p q k _ q (fresh_words k q d.start d.words)))))
 
@@ -115,7 +126,8 @@ calm_freeze J p q k m f =
     branch P (f.leaver == k.me || not (is_player k f.leaver)) _ _ (λ is. calm_other J p q _ (λ e. cc e) (λ e. cc e) (λ e. cc e)) (λ who.
     branch P (player_in k f.leaver).frozen _ _ (λ is. hears _) (λ first. hears _)))
 
-calm_frozen : (rules : Rules) (room : ℕ) (J : ℕ → List Record) (p q : ℕ) (m : Memory) (f : LeaverMessage) → AreSound rules room J → IsPlayer rules p → IsPlayer rules q
+calm_frozen : (rules : Rules) (room : ℕ) (J : ℕ → List Record) (p q : ℕ) (m : Memory) (f : LeaverMessage) → AreSound rules room J
+    → IsPlayer rules p → IsPlayer rules q
     → Stands f.start f.words (held rules f.leaver (J q)) → EndsCalmly J p q (hear_frozen (known_of rules p (J p)) m q f)
 unfolding hear_frozen
 calm_frozen rules room J p q m f sound plays q_plays stands =
@@ -127,22 +139,28 @@ calm_frozen rules room J p q m f sound plays q_plays stands =
     branch P (not (player_in k f.leaver).leaving) _ _ (λ is. calm_other J p q _ (λ e. cc e) (λ e. cc e) (λ e. cc e)) (λ leaves.
     branch P (is_some (player_in k f.leaver).cut) _ _ (λ is. hears _) (λ uncut.
     branch P (nat_lt k.limit f.length) _ _ (λ is. calm_known J p q knowns.Full (λ e. cc e)) (λ room_left.
-    let leaver : IsPlayer rules f.leaver = in_game rules p f.leaver (J p) (not-false (is_player k f.leaver) (or_parts (f.leaver == q) (not (is_player k f.leaver)) who).1) in
-    let entered : Stands f.start f.words (held rules f.leaver (J f.leaver)) = stands_entered rules room J q f.leaver f.start f.words sound q_plays leaver stands in
+    let leaver : IsPlayer rules f.leaver = in_game rules p f.leaver (J p)
+        (not-false (is_player k f.leaver) (or_parts (f.leaver == q) (not (is_player k f.leaver)) who).1) in
+    let entered : Stands f.start f.words (held rules f.leaver (J f.leaver)) =
+        stands_entered rules room J q f.leaver f.start f.words sound q_plays leaver stands in
     unless_misfit_calm P m (misfit k f.leaver f.start f.words) _
-    (λ error e. calm_known J p q error (not_differs k f.leaver f.start f.words error (no_difference rules room J p f.leaver f.start f.words sound plays leaver entered) e))
+    (λ error e. calm_known J p q error (not_differs k f.leaver f.start f.words error
+        (no_difference rules room J p f.leaver f.start f.words sound plays leaver entered) e))
     (calm_got J p q k _ f.leaver (fresh_words k f.leaver f.start f.words)))))))
 
 -- at an undropped player a cut has player 1's length, and no more inputs than that are held
-calm_end : (rules : Rules) (room : ℕ) (J : ℕ → List Record) (p q : ℕ) (m : Memory) (c : LeaverMessage) (o : Option ℕ) → AreInRange rules → AreSound rules room J → IsPlayer rules p → IsPlayer rules c.leaver
-    → cut_of c.leaver (J 1) ≡ Some c.length → Stands c.start c.words (held rules c.leaver (J c.leaver)) → (player_in (known_of rules p (J p)) c.leaver).cut ≡ o
+calm_end : (rules : Rules) (room : ℕ) (J : ℕ → List Record) (p q : ℕ) (m : Memory) (c : LeaverMessage) (o : Option ℕ) → AreInRange rules
+    → AreSound rules room J → IsPlayer rules p → IsPlayer rules c.leaver
+    → cut_of c.leaver (J 1) ≡ Some c.length → Stands c.start c.words (held rules c.leaver (J c.leaver))
+    → (player_in (known_of rules p (J p)) c.leaver).cut ≡ o
     → EndsCalmly J p q (hear_end (known_of rules p (J p)) m c o)
 calm_end rules room J p q m c (Some K) range sound plays leaver cut stands e =
     let P : Outcome → Type 0 = EndsCalmly J p q in
     let here : cut_of c.leaver (J p) ≡ Some K = sym (ap (λ (v : PlayerValue). v.cut) (said_known rules p c.leaver (J p) leaver)) ∙ e in
     let at_one : cut_of c.leaver (J 1) ≡ Some K = sound.cuts p c.leaver K plays here in
     let same : K ≡ c.length = cc (at_one, cut) in
-    branch P (K == c.length) _ _ (λ is. unrefused J p q _ (λ why x. cc x)) (λ apart. absurd (both_ways (K == c.length) apart (eq-eqb K c.length same)))
+    branch P (K == c.length) _ _ (λ is. unrefused J p q _ (λ why x. cc x))
+        (λ apart. absurd (both_ways (K == c.length) apart (eq-eqb K c.length same)))
 calm_end rules room J p q m c None range sound plays leaver cut stands e =
     let P : Outcome → Type 0 = EndsCalmly J p q in
     let k : KnownValue = known_of rules p (J p) in
@@ -158,11 +176,15 @@ calm_end rules room J p q m c None range sound plays leaver cut stands e =
     }))
     (λ few.
     unless_misfit_calm P m (misfit k c.leaver c.start c.words) _
-    (λ error x. calm_known J p q error (not_differs k c.leaver c.start c.words error (no_difference rules room J p c.leaver c.start c.words sound plays leaver stands) x))
-    (branch P (count_in k c.leaver + length fresh == c.length) _ _ (λ is. unrefused J p q _ (λ why x. cc x)) (λ short. calm_got J p q k m c.leaver fresh)))
+    (λ error x. calm_known J p q error (not_differs k c.leaver c.start c.words error
+        (no_difference rules room J p c.leaver c.start c.words sound plays leaver stands) x))
+    (branch P (count_in k c.leaver + length fresh == c.length) _ _ (λ is. unrefused J p q _ (λ why x. cc x))
+        (λ short. calm_got J p q k m c.leaver fresh)))
 
-calm_cut : (rules : Rules) (room : ℕ) (J : ℕ → List Record) (p q : ℕ) (m : Memory) (c : LeaverMessage) → AreInRange rules → AreSound rules room J → IsPlayer rules p → IsPlayer rules q
-    → q ≡ 1 → cut_of c.leaver (J q) ≡ Some c.length → Stands c.start c.words (held rules c.leaver (J q)) → EndsCalmly J p q (hear_cut (known_of rules p (J p)) m q c)
+calm_cut : (rules : Rules) (room : ℕ) (J : ℕ → List Record) (p q : ℕ) (m : Memory) (c : LeaverMessage) → AreInRange rules
+    → AreSound rules room J → IsPlayer rules p → IsPlayer rules q
+    → q ≡ 1 → cut_of c.leaver (J q) ≡ Some c.length → Stands c.start c.words (held rules c.leaver (J q))
+    → EndsCalmly J p q (hear_cut (known_of rules p (J p)) m q c)
 unfolding hear_cut
 calm_cut rules room J p q m c range sound plays q_plays first cut stands =
     let P : Outcome → Type 0 = EndsCalmly J p q in
@@ -174,33 +196,46 @@ calm_cut rules room J p q m c range sound plays q_plays first cut stands =
     branch P (not (player_in k c.leaver).frozen) _ _ (λ is. calm_other J p q _ (λ e. cc e) (λ e. cc e) (λ e. cc e)) (λ frozen.
     let leaver : IsPlayer rules c.leaver = in_game rules p c.leaver (J p) (not-false (is_player k c.leaver) inside) in
     calm_end rules room J p q m c (player_in k c.leaver).cut range sound plays leaver
-    (subst (λ (x : ℕ). cut_of c.leaver (J x) ≡ Some c.length) first cut) (stands_entered rules room J q c.leaver c.start c.words sound q_plays leaver stands) refl))))
+    (subst (λ (x : ℕ). cut_of c.leaver (J x) ≡ Some c.length) first cut)
+        (stands_entered rules room J q c.leaver c.start c.words sound q_plays leaver stands) refl))))
 
-calm_welcome : (rules : Rules) (room : ℕ) (J : ℕ → List Record) (p : ℕ) (m : Memory) (head : HeadValue) (ack : ℕ) → AreSound rules room J → IsPlayer rules p → IsPlayer rules head.from
+calm_welcome : (rules : Rules) (room : ℕ) (J : ℕ → List Record) (p : ℕ) (m : Memory) (head : HeadValue) (ack : ℕ) → AreSound rules room J
+    → IsPlayer rules p → IsPlayer rules head.from
     → ack ≤ count rules p (J head.from) → EndsCalmly J p head.from (hear_welcome (known_of rules p (J p)) m head ack)
 unfolding hear_welcome
 calm_welcome rules room J p m head ack sound plays q_plays few =
     let P : Outcome → Type 0 = EndsCalmly J p head.from in
     let hears = λ (what : Heard). unrefused J p head.from (Delivered (Ok what)) (λ why e. cc e) in
     let k : KnownValue = known_of rules p (J p) in
-    branch P (nat_lt (count_in k k.me) ack) _ _ (λ is. absurd (no_bad_ack rules room J p head.from ack sound plays q_plays few is)) (λ within. hears _)
+    branch P (nat_lt (count_in k k.me) ack) _ _ (λ is. absurd (no_bad_ack rules room J p head.from ack sound plays q_plays few is))
+        (λ within. hears _)
 
-calm_message : (rules : Rules) (room : ℕ) (J : ℕ → List Record) (p : ℕ) (m : Memory) (head : HeadValue) (message : Message) → AreInRange rules → AreSound rules room J → IsPlayer rules p → IsPlayer rules head.from
-    → IsTrueMessage rules head.from p (J head.from) message → EndsCalmly J p head.from (hear_message rules (told_of rules p (J p)) (known_of rules p (J p)) m head message)
+calm_message : (rules : Rules) (room : ℕ) (J : ℕ → List Record) (p : ℕ) (m : Memory) (head : HeadValue) (message : Message)
+    → AreInRange rules → AreSound rules room J → IsPlayer rules p → IsPlayer rules head.from
+    → IsTrueMessage rules head.from p (J head.from) message
+    → EndsCalmly J p head.from (hear_message rules (told_of rules p (J p)) (known_of rules p (J p)) m head message)
 calm_message rules room J p m head packets.Hello range sound plays q_plays is_true = unrefused J p head.from _ (λ why e. cc e)
-calm_message rules room J p m head (packets.Welcome ack) range sound plays q_plays is_true = calm_welcome rules room J p m head ack sound plays q_plays is_true
-calm_message rules room J p m head (packets.Data d) range sound plays q_plays is_true = calm_data rules room J p head.from m d range sound plays q_plays is_true.0 is_true.1 is_true.2
+calm_message rules room J p m head (packets.Welcome ack) range sound plays q_plays is_true =
+    calm_welcome rules room J p m head ack sound plays q_plays is_true
+calm_message rules room J p m head (packets.Data d) range sound plays q_plays is_true =
+    calm_data rules room J p head.from m d range sound plays q_plays is_true.0 is_true.1 is_true.2
 calm_message rules room J p m head (packets.Freeze f) range sound plays q_plays is_true = calm_freeze J p head.from (known_of rules p (J p)) m f
-calm_message rules room J p m head (packets.Frozen f) range sound plays q_plays is_true = calm_frozen rules room J p head.from m f sound plays q_plays is_true.2
-calm_message rules room J p m head (packets.Cut c) range sound plays q_plays is_true = calm_cut rules room J p head.from m c range sound plays q_plays is_true.0 is_true.1 is_true.2
-calm_message rules room J p m head (packets.Show shown) range sound plays q_plays is_true = calm_other J p head.from _ (λ e. cc e) (λ e. cc e) (λ e. cc e)
-calm_message rules room J p m head (packets.Seen ack) range sound plays q_plays is_true = calm_other J p head.from _ (λ e. cc e) (λ e. cc e) (λ e. cc e)
+calm_message rules room J p m head (packets.Frozen f) range sound plays q_plays is_true =
+    calm_frozen rules room J p head.from m f sound plays q_plays is_true.2
+calm_message rules room J p m head (packets.Cut c) range sound plays q_plays is_true =
+    calm_cut rules room J p head.from m c range sound plays q_plays is_true.0 is_true.1 is_true.2
+calm_message rules room J p m head (packets.Show shown) range sound plays q_plays is_true =
+    calm_other J p head.from _ (λ e. cc e) (λ e. cc e) (λ e. cc e)
+calm_message rules room J p m head (packets.Seen ack) range sound plays q_plays is_true =
+    calm_other J p head.from _ (λ e. cc e) (λ e. cc e) (λ e. cc e)
 
 -- the rows that a watcher acknowledges are confirmed at player 1
-calm_seen : (J : ℕ → List Record) (p q : ℕ) (rules : Rules) (m : Memory) (head : HeadValue) (ack : ℕ) → ack ≤ confirmed (known_of rules p (J p)) → EndsCalmly J p q (hear_seen (known_of rules p (J p)) m head ack)
+calm_seen : (J : ℕ → List Record) (p q : ℕ) (rules : Rules) (m : Memory) (head : HeadValue) (ack : ℕ)
+    → ack ≤ confirmed (known_of rules p (J p)) → EndsCalmly J p q (hear_seen (known_of rules p (J p)) m head ack)
 unfolding hear_seen
 calm_seen J p q rules m head ack few =
-    branch (EndsCalmly J p q) (nat_lt (confirmed (known_of rules p (J p))) ack) _ _ (λ is. absurd (let past = ltb-true (confirmed (known_of rules p (J p))) ack is in omega (arith, past, few)))
+    branch (EndsCalmly J p q) (nat_lt (confirmed (known_of rules p (J p))) ack) _ _
+        (λ is. absurd (let past = ltb-true (confirmed (known_of rules p (J p))) ack is in omega (arith, past, few)))
     (λ within. unrefused J p q _ (λ why e. cc e))
 
 seen_kind : (message : Message) (ack : ℕ) → seen_in message ≡ Some ack → kind_of message ≡ kinds.Seen
@@ -214,32 +249,40 @@ seen_kind (packets.Show m) ack seen = absurd cc
 seen_kind (packets.Seen n) ack seen = refl
 
 -- a SEEN is from a watcher to player 1
-pub seen_seats : (packet : Packet) (ack : ℕ) → IsPacket packet → seen_in packet.message ≡ Some ack → (is_watcher packet.head.from ≡ true) × ((packet.head.to == 1) ≡ true)
+pub seen_seats : (packet : Packet) (ack : ℕ) → IsPacket packet → seen_in packet.message ≡ Some ack
+    → (is_watcher packet.head.from ≡ true) × ((packet.head.to == 1) ≡ true)
 seen_seats packet ack spelled seen =
     let kind : packet.head.kind ≡ kinds.Seen = spelled.kind ∙ seen_kind packet.message ack seen in
-    let seats : are_seats kinds.Seen packet.head.from packet.head.to ≡ true = ap (λ (k : DatagramKind). are_seats k packet.head.from packet.head.to) (sym kind) ∙ spelled.head.seats in
+    let seats : are_seats kinds.Seen packet.head.from packet.head.to ≡ true =
+        ap (λ (k : DatagramKind). are_seats k packet.head.from packet.head.to) (sym kind) ∙ spelled.head.seats in
     and_parts (is_watcher packet.head.from) (packet.head.to == 1) seats
 
-to_one : (l : LinksValue) (packet : Packet) (ack : ℕ) → IsPacket packet → seen_in packet.message ≡ Some ack → links.refusal_of_seen l packet.head ≡ None → l.me ≡ 1
+to_one : (l : LinksValue) (packet : Packet) (ack : ℕ) → IsPacket packet → seen_in packet.message ≡ Some ack
+    → links.refusal_of_seen l packet.head ≡ None → l.me ≡ 1
 to_one l packet ack spelled seen admitted =
     let to = eqb-true packet.head.to 1 (seen_seats packet ack spelled seen).1 in
     sym (admitted_seen l packet.head admitted) ∙ to
 
-calm_from : (rules : Rules) (room : ℕ) (J : ℕ → List Record) (said : List Packet) (p : ℕ) (m : Memory) (packet : Packet) (heard_rows : Option ℕ) → AreInRange rules → AreSound rules room J → IsPlayer rules p → IsAwake rules room J said p m
-    → IsTold rules J packet heard_rows → IsPacket packet → seen_in packet.message ≡ heard_rows → EndsCalmly J p packet.head.from (hear_from rules (told_of rules p (J p)) (known_of rules p (J p)) m packet heard_rows)
+calm_from : (rules : Rules) (room : ℕ) (J : ℕ → List Record) (said : List Packet) (p : ℕ) (m : Memory) (packet : Packet)
+    (heard_rows : Option ℕ) → AreInRange rules → AreSound rules room J → IsPlayer rules p → IsAwake rules room J said p m
+    → IsTold rules J packet heard_rows → IsPacket packet → seen_in packet.message ≡ heard_rows
+    → EndsCalmly J p packet.head.from (hear_from rules (told_of rules p (J p)) (known_of rules p (J p)) m packet heard_rows)
 calm_from rules room J said p m packet (Some ack) range sound plays awake told spelled seen =
     let q : ℕ = packet.head.from in
-    unless_hand_calm (EndsCalmly J p q) m (links.refusal_of_seen m.links packet.head) _ (λ error. calm_other J p q _ (λ e. cc e) (λ e. cc e) (λ e. cc e)) (λ admitted.
+    unless_hand_calm (EndsCalmly J p q) m (links.refusal_of_seen m.links packet.head) _
+        (λ error. calm_other J p q _ (λ e. cc e) (λ e. cc e) (λ e. cc e)) (λ admitted.
     let one : p ≡ 1 = sym awake.lawful.player ∙ to_one m.links packet ack spelled seen admitted in
     calm_seen J p q rules m packet.head ack (subst (λ (x : ℕ). ack ≤ confirmed (known_of rules x (J x))) (sym one) told))
 calm_from rules room J said p m packet None range sound plays awake told spelled seen =
     let q : ℕ = packet.head.from in
-    unless_hand_calm (EndsCalmly J p q) m (links.refusal m.links packet.head) _ (λ error. calm_other J p q _ (λ e. cc e) (λ e. cc e) (λ e. cc e)) (λ admitted.
+    unless_hand_calm (EndsCalmly J p q) m (links.refusal m.links packet.head) _
+        (λ error. calm_other J p q _ (λ e. cc e) (λ e. cc e) (λ e. cc e)) (λ admitted.
     let mine : packet.head.to ≡ p = (is_for_me m.links packet.head admitted).to ∙ awake.lawful.player in
     calm_message rules room J p m packet.head packet.message range sound plays told.0
     (subst (λ (to : ℕ). IsTrueMessage rules q to (J q) packet.message) mine told.1.message))
 
-calm_delivery : (rules : Rules) (room : ℕ) (J : ℕ → List Record) (said : List Packet) (p : ℕ) (m : Memory) (packet : Packet) → AreInRange rules → AreSound rules room J → IsPlayer rules p → IsAwake rules room J said p m → IsSaid rules J packet
+calm_delivery : (rules : Rules) (room : ℕ) (J : ℕ → List Record) (said : List Packet) (p : ℕ) (m : Memory) (packet : Packet)
+    → AreInRange rules → AreSound rules room J → IsPlayer rules p → IsAwake rules room J said p m → IsSaid rules J packet
     → EndsCalmly J p packet.head.from (deliver rules (told_of rules p (J p)) (known_of rules p (J p)) m (Ok packet))
 calm_delivery rules room J said p m packet range sound plays awake is_said =
     let q : ℕ = packet.head.from in
@@ -279,7 +322,8 @@ calm_decide J p q k m leaver =
     branch P (is_some (player_in k leaver).cut) _ _ (λ is. told _) (λ uncut.
     branch P (not (is_ready m.chair k leaver)) _ _ (λ is. told _) (λ all. told _)))
 
-calm_say : (J : ℕ → List Record) (p q : ℕ) (rules : Rules) (t : Told) (k : KnownValue) (m : Memory) (to : ℕ) (what : Saying) → EndsCalmly J p q (say rules t k m to what)
+calm_say : (J : ℕ → List Record) (p q : ℕ) (rules : Rules) (t : Told) (k : KnownValue) (m : Memory) (to : ℕ) (what : Saying)
+    → EndsCalmly J p q (say rules t k m to what)
 unfolding say
 calm_say J p q rules t k m to what =
     let P : Outcome → Type 0 = EndsCalmly J p q in
@@ -323,12 +367,15 @@ teller_of (Leave leaver) = 0
 teller_of (Decide leaver) = 0
 teller_of Checkpoint = 0
 
-pub calm_call : (rules : Rules) (room : ℕ) (J : ℕ → List Record) (said : List Packet) (p : ℕ) (m : Memory) (call : Call) → AreInRange rules → AreSound rules room J → IsPlayer rules p → IsAwake rules room J said p m → IsWorldly rules J said call
+pub calm_call : (rules : Rules) (room : ℕ) (J : ℕ → List Record) (said : List Packet) (p : ℕ) (m : Memory) (call : Call) → AreInRange rules
+    → AreSound rules room J → IsPlayer rules p → IsAwake rules room J said p m → IsWorldly rules J said call
     → EndsCalmly J p (teller_of call) (outcome rules (told_of rules p (J p)) (known_of rules p (J p)) m call)
 calm_call rules room J said p m (Tick keys) range sound plays awake worldly = calm_tick J p 0 rules (known_of rules p (J p)) m keys
-calm_call rules room J said p m (Deliver (Ok packet)) range sound plays awake worldly = calm_delivery rules room J said p m packet range sound plays awake worldly.1
+calm_call rules room J said p m (Deliver (Ok packet)) range sound plays awake worldly =
+    calm_delivery rules room J said p m packet range sound plays awake worldly.1
 calm_call rules room J said p m (Deliver (Err error)) range sound plays awake worldly = absurd worldly
-calm_call rules room J said p m (Say to what) range sound plays awake worldly = calm_say J p 0 rules (told_of rules p (J p)) (known_of rules p (J p)) m to what
+calm_call rules room J said p m (Say to what) range sound plays awake worldly =
+    calm_say J p 0 rules (told_of rules p (J p)) (known_of rules p (J p)) m to what
 calm_call rules room J said p m (Show watcher) range sound plays awake worldly = calm_show J p 0 (known_of rules p (J p)) m watcher
 calm_call rules room J said p m (Leave leaver) range sound plays awake worldly = calm_leave J p 0 (known_of rules p (J p)) m leaver
 calm_call rules room J said p m (Decide leaver) range sound plays awake worldly = calm_decide J p 0 (known_of rules p (J p)) m leaver

@@ -23,10 +23,13 @@ use Rattle.c8_peer.specs.Told.{Told, told_of}
 use Rattle.c8_peer.specs.State as states
 use Rattle.c8_peer.specs.State.{Memory, Mode, Down, Away, State, Call, Outcome}
 use Rattle.c8_peer.specs.Steps.{outcome, DiskOutcome, done, at_mode}
-use Rattle.c8_peer.specs.Hearing.{is_of_other_wire, refused, unless_misfit, got, differs_from, is_desync, hear_data, hear_message, unless_hand, deliver, hear_from, seen_in}
+use Rattle.c8_peer.specs.Hearing.{is_of_other_wire, refused, unless_misfit, got, differs_from, is_desync, hear_data, hear_message,
+  unless_hand, deliver, hear_from, seen_in}
 use Rattle.c8_peer.specs.Opening.{Opening, NoPlayer, Stands, NotWritten, NoMemory, NotRead, Unfit, Spent, found, MayBecome, last_epoch}
 use Rattle.c8_world.specs.checked.Below.{ArePeersLawful}
-use Rattle.c8_world.specs.World.{World, is_player, peer_of, journal_of, Act, Open, Tick, Say, Give, Leave, Decide, Event, Do, Stop, player_of, Happening, Answer, IsDown, NoSuch, Stopped, After, stepped, call_at_mode, give_to, acted, crashed, after, MayAct, act_inside, Chain, Check, Show, Hear, Seen, Fresh}
+use Rattle.c8_world.specs.World.{World, is_player, peer_of, journal_of, Act, Open, Tick, Say, Give, Leave, Decide, Event, Do, Stop,
+  player_of, Happening, Answer, IsDown, NoSuch, Stopped, After, stepped, call_at_mode, give_to, acted, crashed, after, MayAct, act_inside,
+  Chain, Check, Show, Hear, Seen, Fresh}
 use Rattle.c8_world.specs.Agreement.{IsPlayer}
 use Rattle.c8_world.specs.Matches.{Line, events_of, answers_of, Leads}
 use Rattle.c8_world.proofs.Worlds.{IsSound, plays_if, after_sound}
@@ -107,7 +110,8 @@ abbrev pub own_for : Told → Memory → Packet → Marks
 own_for t m packet = record { session = m.links.session; mark = mark_for t packet.message }
 
 same_mark : (own : Option (List ℕ)) (mark : List ℕ) → Some mark ≡ own → differs_from own mark ≡ false
-same_mark own mark is = subst (λ (x : Option (List ℕ)). differs_from x mark ≡ false) is (begin_one mark mark mark (begins_same mark) (begins_same mark))
+same_mark own mark is = subst (λ (x : Option (List ℕ)). differs_from x mark ≡ false) is
+    (begin_one mark mark mark (begins_same mark) (begins_same mark))
 
 alike : (t : Told) (d : DataMessage) → Some d.mark ≡ mark_at d.mark_frame t.marks → is_desync t d ≡ false
 unfolding is_desync
@@ -128,7 +132,8 @@ choose : (b : Bool) (x y z : Outcome) → y ≡ z → (if b then x else y) ≡ (
 choose true x y z same = refl
 choose false x y z same = same
 
-from_is : (rules : Rules) (t : Told) (k : KnownValue) (m : Memory) (packet : Packet) (heard : Option ℕ) → packet.head.session ≡ m.links.session → mark_in packet.message ≡ mark_for t packet.message
+from_is : (rules : Rules) (t : Told) (k : KnownValue) (m : Memory) (packet : Packet) (heard : Option ℕ)
+    → packet.head.session ≡ m.links.session → mark_in packet.message ≡ mark_for t packet.message
     → hear_from rules t k m packet heard ≡ from_here rules t k m packet heard
 from_is rules t k m packet (Some ack) session mark = refl
 from_is rules t k m packet None session mark =
@@ -140,20 +145,23 @@ deliver_is : (rules : Rules) (t : Told) (k : KnownValue) (m : Memory) (packet : 
 deliver_is rules t k m packet same =
     let session = ap (λ (t : Marks). t.session) same in
     let mark = ap (λ (t : Marks). t.mark) same in
-    choose (player_in k k.me).leaving _ _ _ (choose (is_of_other_wire rules packet.head) _ _ _ (from_is rules t k m packet (seen_in packet.message) session mark))
+    choose (player_in k k.me).leaving _ _ _ (choose (is_of_other_wire rules packet.head) _ _ _
+        (from_is rules t k m packet (seen_in packet.message) session mark))
 
 -- ---- an event
 
 abbrev pub given_at : Rules → World → ℕ → DiskOutcome → Packet → Mode → After
 given_at rules w p on_disk packet states.Open =
-    stepped w p (done (peer_of w p) (states.Deliver (Ok packet)) (deliver_here rules (told_of rules p (journal_of w p)) (known_of rules p (journal_of w p)) (peer_of w p).memory packet)
+    stepped w p (done (peer_of w p) (states.Deliver (Ok packet))
+        (deliver_here rules (told_of rules p (journal_of w p)) (known_of rules p (journal_of w p)) (peer_of w p).memory packet)
     (deliver_here rules (told_of rules p (journal_of w p)) (known_of rules p (journal_of w p)) (peer_of w p).memory packet).keeps on_disk)
 given_at rules w p on_disk packet Down = record { answer = IsDown; world = w }
 given_at rules w p on_disk packet Away = record { answer = IsDown; world = w }
 
 abbrev pub give_here : Rules → World → ℕ → DiskOutcome → Option Packet → After
 give_here rules w p on_disk None = record { answer = NoSuch; world = w }
-give_here rules w p on_disk (Some packet) = if is_player rules p then given_at rules w p on_disk packet (peer_of w p).mode else record { answer = IsDown; world = w }
+give_here rules w p on_disk (Some packet) =
+    if is_player rules p then given_at rules w p on_disk packet (peer_of w p).mode else record { answer = IsDown; world = w }
 
 abbrev pub acted_here : Rules → ℕ → World → Act → Happening → After
 acted_here rules room w (Open p) h = acted rules room w (Open p) h
@@ -216,7 +224,8 @@ given_is rules w p on_disk packet states.Open up same =
     let call : Call = states.Deliver (Ok packet) in
     let o : Outcome = outcome rules (told_of rules p s.journal) (known_of rules p s.journal) s.memory call in
     ap (λ (mode : Mode). stepped w p (at_mode s call o mode on_disk)) up
-    ∙ ap (λ (o : Outcome). stepped w p (done s call o o.keeps on_disk)) (deliver_is rules (told_of rules p s.journal) (known_of rules p s.journal) s.memory packet same)
+    ∙ ap (λ (o : Outcome). stepped w p (done s call o o.keeps on_disk))
+    (deliver_is rules (told_of rules p s.journal) (known_of rules p s.journal) s.memory packet same)
 given_is rules w p on_disk packet Down up same = refl
 given_is rules w p on_disk packet Away up same = refl
 
@@ -224,12 +233,14 @@ choose_after : (b : Bool) (x y z : After) → x ≡ y → (if b then x else z) �
 choose_after true x y z same = same
 choose_after false x y z same = refl
 
-give_is : (rules : Rules) (w : World) (p : ℕ) (on_disk : DiskOutcome) (o : Option Packet) → named_of o ≡ own_of rules w p o → give_to rules w p on_disk o ≡ give_here rules w p on_disk o
+give_is : (rules : Rules) (w : World) (p : ℕ) (on_disk : DiskOutcome) (o : Option Packet) → named_of o ≡ own_of rules w p o
+    → give_to rules w p on_disk o ≡ give_here rules w p on_disk o
 give_is rules w p on_disk None same = refl
 give_is rules w p on_disk (Some packet) same =
     choose_after (is_player rules p) _ _ _ (given_is rules w p on_disk packet (peer_of w p).mode refl cc)
 
-acted_is : (rules : Rules) (room : ℕ) (w : World) (act : Act) (h : Happening) → named_by w act ≡ own_by rules w act → acted rules room w act h ≡ acted_here rules room w act h
+acted_is : (rules : Rules) (room : ℕ) (w : World) (act : Act) (h : Happening) → named_by w act ≡ own_by rules w act
+    → acted rules room w act h ≡ acted_here rules room w act h
 unfolding acted
 acted_is rules room w (Open p) h same = refl
 acted_is rules room w (Tick p keys) h same = refl
@@ -278,7 +289,8 @@ both_hold : (a b : Bool) → (not a && b) ≡ true → (a ≡ false) × (b ≡ t
 both_hold false b is = (refl, is)
 both_hold true b is = absurd cc
 
-stands_is : (rules : Rules) (room : ℕ) (w : World) (p : ℕ) (h : Happening) (opening : Opening) → IsSound rules room w → IsPlayer rules p → stands_here w p h opening ≡ true
+stands_is : (rules : Rules) (room : ℕ) (w : World) (p : ℕ) (h : Happening) (opening : Opening) → IsSound rules room w → IsPlayer rules p
+    → stands_here w p h opening ≡ true
     → MayBecome rules room p (found (peer_of w p) h.finds) opening
 stands_is rules room w p h Stands sound plays is =
     let tests = both_hold h.finds (nat_lt (epoch (journal_of w p)) last_epoch) is in
@@ -291,7 +303,8 @@ stands_is rules room w p h (NotRead why) sound plays is = absurd cc
 stands_is rules room w p h (Unfit error) sound plays is = absurd cc
 stands_is rules room w p h Spent sound plays is = absurd cc
 
-may_is : (rules : Rules) (room : ℕ) (w : World) (act : Act) (h : Happening) → IsSound rules room w → may_here w act h ≡ true → MayAct rules room w act h
+may_is : (rules : Rules) (room : ℕ) (w : World) (act : Act) (h : Happening) → IsSound rules room w → may_here w act h ≡ true
+    → MayAct rules room w act h
 may_is rules room w (Open p) h sound is = λ plays. stands_is rules room w p h h.opening sound (plays_if rules p plays) is
 may_is rules room w (Tick p keys) h sound is = ltb-true keys (2 ^ 16) is
 may_is rules room w (Say p to what) h sound is = tt
@@ -336,7 +349,8 @@ pub record IsCourse (rules : Rules) (room : ℕ) (w : World) (lines : List Line)
   pub chain : Chain rules room w (events_of lines) answers v
   pub sound : IsSound rules room v
 
-pub course_is : (laws : ArePeersLawful) (rules : Rules) (room : ℕ) (w : World) (lines : List Line) → AreInRange rules → room < 2 ^ 64 → IsSound rules room w
+pub course_is : (laws : ArePeersLawful) (rules : Rules) (room : ℕ) (w : World) (lines : List Line) → AreInRange rules → room < 2 ^ 64
+    → IsSound rules room w
     → (course rules room w lines).named ≡ (course rules room w lines).own → (course rules room w lines).may ≡ all_true lines
     → IsCourse rules room w lines (course rules room w lines).answers (course rules room w lines).world
 course_is laws rules room w [] range few sound same may = record { chain = refl; sound = sound }
@@ -362,8 +376,10 @@ pub record IsWorked (rules : Rules) (w : World) (lines : List Line) (v : World) 
   pub sound : IsSound rules 0 v
 
 pub worked : (laws : ArePeersLawful) (rules : Rules) (w : World) (lines : List Line) → AreInRange rules → IsSound rules 0 w
-    → (course rules 0 w lines).named ≡ (course rules 0 w lines).own → (course rules 0 w lines).may ≡ all_true lines → (course rules 0 w lines).answers ≡ answers_of lines
+    → (course rules 0 w lines).named ≡ (course rules 0 w lines).own → (course rules 0 w lines).may ≡ all_true lines
+    → (course rules 0 w lines).answers ≡ answers_of lines
     → IsWorked rules w lines (course rules 0 w lines).world
 worked laws rules w lines range sound same may is =
     let c = course_is laws rules 0 w lines range (omega arith) sound same may in
-    record { leads = subst (λ (answers : List Answer). Chain rules 0 w (events_of lines) answers (course rules 0 w lines).world) is c.chain; sound = c.sound }
+    record { leads = subst (λ (answers : List Answer). Chain rules 0 w (events_of lines) answers (course rules 0 w lines).world) is c.chain;
+        sound = c.sound }

@@ -1,5 +1,6 @@
 -- Datagrams that are sent and delivered at a table.
-use Rattle.std.proofs.Common.{◌≡◌, ◌≢◌, ℕ, zero, suc, ◌+◌, ◌-◌, ◌<◌, ◌≤◌, List, [], ◌∷◌, ◌++◌, length, map, take, Option, Some, None, Result, Ok, Err, refl, sym, ap, subst, ◌∙◌, arith, slice_index_or}
+use Rattle.std.proofs.Common.{◌≡◌, ◌≢◌, ℕ, zero, suc, ◌+◌, ◌-◌, ◌<◌, ◌≤◌, List, [], ◌∷◌, ◌++◌, length, map, take, Option, Some, None,
+  Result, Ok, Err, refl, sym, ap, subst, ◌∙◌, arith, slice_index_or}
 use Rattle.std.specs.Prelude.{IfOk}
 use Rattle.std.specs.List.{slice_get}
 use Rattle.std.proofs.lemmas.List.{append-nil, map-append, length-map, length-append, length-take-le}
@@ -19,12 +20,14 @@ use Rattle.c8_world.specs.World.{World, peer_of, Say, Give, Do, Told, NoSuch, gi
 use Rattle.c8_world.specs.Agreement.{IsPlayer}
 use Rattle.c8_world.specs.Nodes.{IsNode, IsSaying, IsAsked}
 use Rattle.c8_world.specs.Table.{TableValue, Holds, HasHappened}
-use Rattle.c8_world.proofs.TableLemmas.{CanDo, stands_is_memory, IsCallOf, same_renodeed, placed_happens, replied_can, down_can, same_happens, node_held, held_at, asked_as, absent_can, no_player, with_outcome, with_node}
+use Rattle.c8_world.proofs.TableLemmas.{CanDo, stands_is_memory, IsCallOf, same_renodeed, placed_happens, replied_can, down_can,
+  same_happens, node_held, held_at, asked_as, absent_can, no_player, with_outcome, with_node}
 
 -- ---- the pool
 
 -- the pool has the bytes of the datagram with that number
-pub said_at : (said : List Packet) (n : ℕ) (bytes : List ℕ) → slice_get (map spelling said) n ≡ Some bytes → (packet : Packet) × (slice_get said n ≡ Some packet) × (bytes ≡ spelling packet)
+pub said_at : (said : List Packet) (n : ℕ) (bytes : List ℕ) → slice_get (map spelling said) n ≡ Some bytes
+    → (packet : Packet) × (slice_get said n ≡ Some packet) × (bytes ≡ spelling packet)
 said_at [] n bytes is = absurd cc
 said_at (packet ∷ said) zero bytes is = (packet, refl, cc)
 said_at (packet ∷ said) (suc n) bytes is = said_at said n bytes is
@@ -47,42 +50,50 @@ with_said t bytes = record t { pool = t.pool ++ bytes ∷ [] }
 abbrev pub IsSayingOf : Act → ℕ → Call → Type 0
 IsSayingOf act p call = (rules : Rules) (room : ℕ) (w : World) → IsCallOf rules room w act p call
 
-module _ (t : TableValue) (p : ℕ) (act : Act) (call : Call) (is_call : IsSayingOf act p call) (node : Node) (plays : IsPlayer t.rules p) (w : World) (holds : Holds t w)
+module _ (t : TableValue) (p : ℕ) (act : Act) (call : Call) (is_call : IsSayingOf act p call) (node : Node) (plays : IsPlayer t.rules p)
+    (w : World) (holds : Holds t w)
     (at : slice_index_or t.nodes (p - 1) None ≡ Some node) (is_node : IsNode t.rules t.room p node (peer_of w p)) where
   -- the step of sending keeps the state
   said_state : (reply : Reply) → step t.rules p (peer_of w p) call Works ≡ record { reply = reply; state = peer_of w p }
       → IsNode t.rules t.room p node (step t.rules p (peer_of w p) call Works).state
   said_state reply is = subst (λ (x : State). IsNode t.rules t.room p node x) (sym (ap (λ (x : Stepped). x.state) is)) is_node
 
-  unsaid_happens : (error : Unsayable) → (peer_of w p).mode ≡ states.Open → step t.rules p (peer_of w p) call Works ≡ record { reply = Said (Err error); state = peer_of w p }
+  unsaid_happens : (error : Unsayable) → (peer_of w p).mode ≡ states.Open
+      → step t.rules p (peer_of w p) call Works ≡ record { reply = Said (Err error); state = peer_of w p }
       → HasHappened t w (Do act) (answers.Said (Err error)) t
   unsaid_happens error up is =
       let does = is_call t.rules t.room w in
-      placed_happens t t w p (step t.rules p (peer_of w p) call Works).state [] node act (Told (Said (Err error))) (answers.Said (Err error)) refl refl plays does.by holds
+      placed_happens t t w p (step t.rules p (peer_of w p) call Works).state [] node act (Told (Said (Err error)))
+          (answers.Said (Err error)) refl refl plays does.by holds
       (replied_can t.rules t.room w p act call (Said (Err error)) plays does up (ap (λ (x : Stepped). x.reply) is))
       (same_renodeed t.nodes p node at) (said_state (Said (Err error)) is)
       (holds.said ∙ ap (λ (xs : List Packet). map spelling xs) (sym (append-nil w.said))) (refl, refl)
       (λ v here said. refl)
 
-  said_happens : (packet : Packet) (size : ℕ) (bytes : List ℕ) → (peer_of w p).mode ≡ states.Open → Spells (take size bytes) packet → size ≤ length bytes
+  said_happens : (packet : Packet) (size : ℕ) (bytes : List ℕ) → (peer_of w p).mode ≡ states.Open → Spells (take size bytes) packet
+      → size ≤ length bytes
       → step t.rules p (peer_of w p) call Works ≡ record { reply = Said (Ok packet); state = peer_of w p }
       → HasHappened t w (Do act) (answers.Said (Ok (record { number = length t.pool; length = size }))) (with_said t (take size bytes))
   said_happens packet size bytes up spells fits is =
       let does = is_call t.rules t.room w in
       let same : length t.pool ≡ length w.said = ap (λ (xs : List (List ℕ)). length xs) holds.said ∙ length-map w.said spelling in
       let long : size ≡ length (spelling packet) = sym (length-take-le size bytes fits) ∙ ap (λ (xs : List ℕ). length xs) spells.spelled in
-      placed_happens t (with_said t (take size bytes)) w p (step t.rules p (peer_of w p) call Works).state (packet ∷ []) node act (Told (Said (Ok packet)))
+      placed_happens t (with_said t (take size bytes)) w p (step t.rules p (peer_of w p) call Works).state (packet ∷ []) node act
+          (Told (Said (Ok packet)))
       (answers.Said (Ok (record { number = length t.pool; length = size }))) refl refl plays does.by holds
       (replied_can t.rules t.room w p act call (Said (Ok packet)) plays does up (ap (λ (x : Stepped). x.reply) is))
       (same_renodeed t.nodes p node at) (said_state (Said (Ok packet)) is)
-      (ap (λ (xs : List (List ℕ)). xs ++ take size bytes ∷ []) holds.said ∙ ap (λ (x : List ℕ). map spelling w.said ++ x ∷ []) spells.spelled ∙ sym (map-append spelling w.said (packet ∷ []))) (refl, refl)
+      (ap (λ (xs : List (List ℕ)). xs ++ take size bytes ∷ []) holds.said
+          ∙ ap (λ (x : List ℕ). map spelling w.said ++ x ∷ []) spells.spelled ∙ sym (map-append spelling w.said (packet ∷ []))) (refl, refl)
       (λ v here said.
-      let count : length t.pool ≡ length v.said - 1 = omega (arith, same, ap (λ (xs : List Packet). length xs) said, length-append w.said (packet ∷ [])) in
+      let count : length t.pool ≡ length v.said - 1 =
+          omega (arith, same, ap (λ (xs : List Packet). length xs) said, length-append w.said (packet ∷ [])) in
       ap (λ (x : Posted). answers.Said (Ok x)) (rw (count, long) refl))
 
 -- ---- a datagram that is delivered
 
-pub none_happens : (t self : TableValue) (number p : ℕ) → t ≡ self → length t.pool ≤ number → (w : World) → Holds self w → HasHappened self w (Do (Give number p)) answers.NoSuch self
+pub none_happens : (t self : TableValue) (number p : ℕ) → t ≡ self → length t.pool ≤ number → (w : World) → Holds self w
+    → HasHappened self w (Do (Give number p)) answers.NoSuch self
 unfolding acted
 none_happens t self number p view past =
     subst (λ (u : TableValue). (w : World) → Holds u w → HasHappened u w (Do (Give number p)) answers.NoSuch u) view
@@ -98,7 +109,8 @@ none_happens t self number p view past =
     ) in
     same_happens t w (Give number p) NoSuch answers.NoSuch holds can refl)
 
-given_call : (rules : Rules) (room : ℕ) (w : World) (number p : ℕ) (packet : Packet) → slice_get w.said number ≡ Some packet → IsCallOf rules room w (Give number p) p (states.Deliver (Ok packet))
+given_call : (rules : Rules) (room : ℕ) (w : World) (number p : ℕ) (packet : Packet) → slice_get w.said number ≡ Some packet
+    → IsCallOf rules room w (Give number p) p (states.Deliver (Ok packet))
 unfolding acted
 given_call rules room w number p packet at = record {
   by = refl;
@@ -117,9 +129,11 @@ given_absent t self number p bytes view at absent =
     (λ w holds.
     let told = said_at w.said number bytes (subst (λ (xs : List (List ℕ)). slice_get xs number ≡ Some bytes) holds.said at) in
     same_happens t w (Give number p) _ answers.Down holds
-    (absent_can t.rules t.room w p (Give number p) (states.Deliver (Ok told.0)) (no_player t.rules p absent) (given_call t.rules t.room w number p told.0 told.1)) refl)
+    (absent_can t.rules t.room w p (Give number p) (states.Deliver (Ok told.0)) (no_player t.rules p absent)
+        (given_call t.rules t.room w number p told.0 told.1)) refl)
 
-pub given_happens : (t self : TableValue) (number place p : ℕ) (bytes : List ℕ) (old new : Node) (x : Option Node) (answer : codes.Answer) → t ≡ self → slice_get t.pool number ≡ Some bytes
+pub given_happens : (t self : TableValue) (number place p : ℕ) (bytes : List ℕ) (old new : Node) (x : Option Node) (answer : codes.Answer)
+    → t ≡ self → slice_get t.pool number ≡ Some bytes
     → ((w : World) → Holds t w → AreRead t w)
     → place + 1 ≡ p → place < length t.nodes → IsPlayer t.rules p → x ≡ slice_index_or t.nodes place x → x ≡ Some old
     → ((rules : Rules) (room q : ℕ) (s : State) → IsNode rules room q old s → IsAsked rules room q s (states.Deliver (read bytes)) answer new)
@@ -129,24 +143,31 @@ given_happens t self number place p bytes old new x answer view at reads places 
     (λ w holds.
     let told = said_at w.said number bytes (subst (λ (xs : List (List ℕ)). slice_get xs number ≡ Some bytes) holds.said at) in
     let is_read : read bytes ≡ Ok told.0 = ap read told.2 ∙ reads w holds told.0 number told.1 in
-    asked_as t place p new (Give number p) (states.Deliver (Ok told.0)) places within plays w (given_call t.rules t.room w number p told.0 told.1) holds answer
-    (subst (λ (r : _). IsAsked t.rules t.room p (peer_of w p) (states.Deliver r) answer new) is_read (asked t.rules t.room p (peer_of w p) (node_held t place p old w places within plays x here old_is holds))))
+    asked_as t place p new (Give number p) (states.Deliver (Ok told.0)) places within plays w
+        (given_call t.rules t.room w number p told.0 told.1) holds answer
+    (subst (λ (r : _). IsAsked t.rules t.room p (peer_of w p) (states.Deliver r) answer new) is_read
+        (asked t.rules t.room p (peer_of w p) (node_held t place p old w places within plays x here old_is holds))))
 
 -- ---- what a player sends
 
-pub say_absent : (t self : TableValue) (p : ℕ) (act : Act) (call : Call) → IsSayingOf act p call → t ≡ self → t.rules.players < p → (w : World) → Holds self w → HasHappened self w (Do act) answers.Down self
+pub say_absent : (t self : TableValue) (p : ℕ) (act : Act) (call : Call) → IsSayingOf act p call → t ≡ self → t.rules.players < p
+    → (w : World) → Holds self w → HasHappened self w (Do act) answers.Down self
 say_absent t self p act call is_call view absent =
     subst (λ (u : TableValue). (w : World) → Holds u w → HasHappened u w (Do act) answers.Down u) view
-    (λ w holds. same_happens t w act _ answers.Down holds (absent_can t.rules t.room w p act call (no_player t.rules p absent) (is_call t.rules t.room w)) refl)
+    (λ w holds. same_happens t w act _ answers.Down holds
+        (absent_can t.rules t.room w p act call (no_player t.rules p absent) (is_call t.rules t.room w)) refl)
 
 -- a call at a node that is only read
-module _ (t self : TableValue) (place p : ℕ) (act : Act) (call : Call) (is_call : IsSayingOf act p call) (node : Node) (x : Option Node) (view : t ≡ self) (places : place + 1 ≡ p) (within : place < length t.nodes)
+module _ (t self : TableValue) (place p : ℕ) (act : Act) (call : Call) (is_call : IsSayingOf act p call) (node : Node) (x : Option Node)
+    (view : t ≡ self) (places : place + 1 ≡ p) (within : place < length t.nodes)
     (plays : IsPlayer t.rules p) (here : x ≡ slice_index_or t.nodes place x) (is : x ≡ Some node) where
-  pub silent_happens : ((rules : Rules) (room q : ℕ) (s : State) → IsNode rules room q node s → s.mode ≢ states.Open) → (w : World) → Holds self w → HasHappened self w (Do act) answers.Down self
+  pub silent_happens : ((rules : Rules) (room q : ℕ) (s : State) → IsNode rules room q node s → s.mode ≢ states.Open) → (w : World)
+      → Holds self w → HasHappened self w (Do act) answers.Down self
   silent_happens down =
       subst (λ (u : TableValue). (w : World) → Holds u w → HasHappened u w (Do act) answers.Down u) view
       (λ w holds. same_happens t w act _ answers.Down holds
-      (down_can t.rules t.room w p act call plays (is_call t.rules t.room w) (down t.rules t.room p (peer_of w p) (node_held t place p node w places within plays x here is holds))) refl)
+      (down_can t.rules t.room w p act call plays (is_call t.rules t.room w)
+          (down t.rules t.room p (peer_of w p) (node_held t place p node w places within plays x here is holds))) refl)
 
   pub refused_happens : (result : Result ℕ Unsayable) (error : Unsayable) (bytes : List ℕ) → result ≡ Err error
       → ((rules : Rules) (room q : ℕ) (s : State) → IsNode rules room q node s → (s.mode ≡ states.Open) × IsSaying rules q s call result bytes)
@@ -159,15 +180,20 @@ module _ (t self : TableValue) (place p : ℕ) (act : Act) (call : Call) (is_cal
       unsaid_happens t p act call is_call node plays w holds (held_at t place p node places within x here is) nodeed error told.0
       (subst (λ (r : Result ℕ Unsayable). IsSaying t.rules p (peer_of w p) call r bytes) errs told.1))
 
-  pub spoken_happens : (result : Result ℕ Unsayable) (number size most : ℕ) (bytes : List ℕ) (pool : List (List ℕ)) → result ≡ Ok size → number ≡ length t.pool → pool ≡ t.pool ++ take size bytes ∷ []
+  pub spoken_happens : (result : Result ℕ Unsayable) (number size most : ℕ) (bytes : List ℕ) (pool : List (List ℕ)) → result ≡ Ok size
+      → number ≡ length t.pool → pool ≡ t.pool ++ take size bytes ∷ []
       → IfOk result (λ n. n ≤ most) → most ≤ length bytes
       → ((rules : Rules) (room q : ℕ) (s : State) → IsNode rules room q node s → (s.mode ≡ states.Open) × IsSaying rules q s call result bytes)
-      → (w : World) → Holds self w → HasHappened self w (Do act) (answers.Said (Ok (record { number = number; length = size }))) (record t { pool = pool })
+      → (w : World) → Holds self w → HasHappened self w (Do act) (answers.Said (Ok (record { number = number; length = size })))
+      (record t { pool = pool })
   spoken_happens result number size most bytes pool oks numbered grown few long asked =
-      subst (λ (u : TableValue). (w : World) → Holds u w → HasHappened u w (Do act) (answers.Said (Ok (record { number = number; length = size }))) (record t { pool = pool })) view
+      subst (λ (u : TableValue). (w : World) → Holds u w
+          → HasHappened u w (Do act) (answers.Said (Ok (record { number = number; length = size }))) (record t { pool = pool })) view
       (λ w holds.
       let nodeed = node_held t place p node w places within plays x here is holds in
       let told = asked t.rules t.room p (peer_of w p) nodeed in
-      let saying : IsSaying t.rules p (peer_of w p) call (Ok size) bytes = subst (λ (r : Result ℕ Unsayable). IsSaying t.rules p (peer_of w p) call r bytes) oks told.1 in
+      let saying : IsSaying t.rules p (peer_of w p) call (Ok size) bytes =
+          subst (λ (r : Result ℕ Unsayable). IsSaying t.rules p (peer_of w p) call r bytes) oks told.1 in
       let at_most : size ≤ most = subst (λ (r : Result ℕ Unsayable). IfOk r (λ n. n ≤ most)) oks few in
-      rw (numbered, grown) (said_happens t p act call is_call node plays w holds (held_at t place p node places within x here is) nodeed saying.0 size bytes told.0 saying.1 (omega (arith, at_most, long)) saying.2))
+      rw (numbered, grown) (said_happens t p act call is_call node plays w holds (held_at t place p node places within x here is) nodeed
+          saying.0 size bytes told.0 saying.1 (omega (arith, at_most, long)) saying.2))

@@ -1,5 +1,6 @@
 -- What a stop does to a table.
-use Rattle.std.proofs.Common.{◌≡◌, ◌≢◌, ℕ, ◌+◌, ◌-◌, ◌<◌, length, map, Bool, true, false, cond, Option, Some, None, Result, Ok, Err, refl, sym, ap, subst, ◌∙◌, arith, slice_set, slice_index_or}
+use Rattle.std.proofs.Common.{◌≡◌, ◌≢◌, ℕ, ◌+◌, ◌-◌, ◌<◌, length, map, Bool, true, false, cond, Option, Some, None, Result, Ok, Err, refl,
+  sym, ap, subst, ◌∙◌, arith, slice_set, slice_index_or}
 use Rattle.std.specs.Prelude.{IfOk, IfErr}
 use Rattle.std.proofs.lemmas.List.{length-set, get_or-set_same, get_or-set_other}
 use Rattle.c8_game.specs.Rules.{Rules}
@@ -10,7 +11,8 @@ use Rattle.c8_peer.specs.Runs as runs
 use Rattle.c8_world.specs.declared.answer.Answer as codes
 use Rattle.c8_world.specs.declared.answer.Answer.TheVariants as answers
 use Rattle.c8_world.specs.declared.node.Node.{Node}
-use Rattle.c8_world.specs.World.{World, never_opened, is_player, peer_of, with_peer, Act, Open, Tick, Say, Give, Leave, Decide, player_of, Event, Do, Stop, Stopped, Happening, After, acted, crashed, MayAct, CanHappen, Check, Show, Hear, Seen, Fresh}
+use Rattle.c8_world.specs.World.{World, never_opened, is_player, peer_of, with_peer, Act, Open, Tick, Say, Give, Leave, Decide, player_of,
+  Event, Do, Stop, Stopped, Happening, After, acted, crashed, MayAct, CanHappen, Check, Show, Hear, Seen, Fresh}
 use Rattle.c8_world.specs.Agreement.{IsPlayer}
 use Rattle.c8_world.specs.Table.{TableValue, IsTaken, node_of, IsSameMatch, Holds, HasHappened, HasNotHappened, HasCrashed}
 use Rattle.c8_world.proofs.Openings.{plays_so}
@@ -29,20 +31,24 @@ with_peer_here rules w p s count plays =
     let to = plays.in_game in
     get_or-set_same w.peers (p - 1) s never_opened (omega (arith, from, to, count))
 
-with_peer_there : (rules : Rules) (w : World) (p : ℕ) (s : State) (q : ℕ) → IsPlayer rules p → IsPlayer rules q → q ≢ p → peer_of (with_peer w p s) q ≡ peer_of w q
+with_peer_there : (rules : Rules) (w : World) (p : ℕ) (s : State) (q : ℕ) → IsPlayer rules p → IsPlayer rules q → q ≢ p
+    → peer_of (with_peer w p s) q ≡ peer_of w q
 with_peer_there rules w p s q plays q_plays apart =
     let from = plays.from_one in
     let also = q_plays.from_one in
     get_or-set_other w.peers (p - 1) (q - 1) s never_opened (λ e. apart (omega (arith, e, from, also)))
 
-nodeed_as : (t : TableValue) (place p : ℕ) (y : Option Node) (w v : World) → place + 1 ≡ p → place < length t.nodes → Holds t w → IsTaken t.rules t.room p y (peer_of v p)
+nodeed_as : (t : TableValue) (place p : ℕ) (y : Option Node) (w v : World) → place + 1 ≡ p → place < length t.nodes → Holds t w
+    → IsTaken t.rules t.room p y (peer_of v p)
     → ((q : ℕ) → IsPlayer t.rules q → q ≢ p → peer_of v q ≡ peer_of w q)
     → (q : ℕ) → IsPlayer t.rules q → IsTaken t.rules t.room q (node_of (with_taken t place y) q) (peer_of v q)
 nodeed_as t place p None w v at within holds here there = absurd here
 nodeed_as t place p (Some node) w v at within holds here there =
-    nodeed t.rules t.room p t.nodes (slice_set t.nodes place (Some node)) node w v (set_renodeed t.nodes place p node at within) holds.peers here there
+    nodeed t.rules t.room p t.nodes (slice_set t.nodes place (Some node)) node w v (set_renodeed t.nodes place p node at within) holds.peers
+        here there
 
-pub crash_happens : (t self : TableValue) (place p : ℕ) (x y : Option Node) → t ≡ self → place + 1 ≡ p → place < length t.nodes → IsPlayer t.rules p → x ≡ slice_index_or t.nodes place x
+pub crash_happens : (t self : TableValue) (place p : ℕ) (x y : Option Node) → t ≡ self → place + 1 ≡ p → place < length t.nodes
+    → IsPlayer t.rules p → x ≡ slice_index_or t.nodes place x
     → ((rules : Rules) (room q : ℕ) (s : State) → IsTaken rules room q x s → (leaves : Bool) × IsTaken rules room q y (runs.crashed s leaves))
     → (w : World) → Holds self w → HasCrashed self w p (with_taken t place y)
 crash_happens t self place p x y view at within plays here crashes =
@@ -67,7 +73,8 @@ stranger_crashes t self p view absent =
     subst (λ (u : TableValue). (w : World) → Holds u w → HasCrashed u w p u) view
     (λ w holds. record {
       leaves = false;
-      peers = subst (λ (v : World). (q : ℕ) → IsPlayer t.rules q → IsTaken t.rules t.room q (node_of t q) (peer_of v q)) (sym (crashed_is t.rules w p false false (no_player t.rules p absent))) holds.peers;
+      peers = subst (λ (v : World). (q : ℕ) → IsPlayer t.rules q → IsTaken t.rules t.room q (node_of t q) (peer_of v q))
+          (sym (crashed_is t.rules w p false false (no_player t.rules p absent))) holds.peers;
       pool = refl;
       five = refl;
       six = refl;
@@ -76,7 +83,8 @@ stranger_crashes t self p view absent =
 -- ---- an act and then a crash
 
 -- what a later crash leaves does not matter to the act
-acted_same : (rules : Rules) (room : ℕ) (w : World) (act : Act) (h : Happening) (leaves : Bool) → acted rules room w act (record h { leaves = leaves }) ≡ acted rules room w act h
+acted_same : (rules : Rules) (room : ℕ) (w : World) (act : Act) (h : Happening) (leaves : Bool)
+    → acted rules room w act (record h { leaves = leaves }) ≡ acted rules room w act h
 unfolding acted
 acted_same rules room w (Open p) h leaves = refl
 acted_same rules room w (Tick p keys) h leaves = refl
@@ -90,7 +98,8 @@ acted_same rules room w (Hear number watcher) h leaves = refl
 acted_same rules room w (Seen watcher) h leaves = refl
 acted_same rules room w (Fresh watcher) h leaves = refl
 
-may_same : (rules : Rules) (room : ℕ) (w : World) (act : Act) (h : Happening) (leaves : Bool) → MayAct rules room w act h → MayAct rules room w act (record h { leaves = leaves })
+may_same : (rules : Rules) (room : ℕ) (w : World) (act : Act) (h : Happening) (leaves : Bool) → MayAct rules room w act h
+    → MayAct rules room w act (record h { leaves = leaves })
 may_same rules room w (Open p) h leaves may = may
 may_same rules room w (Tick p keys) h leaves may = may
 may_same rules room w (Say p to what) h leaves may = may
@@ -107,7 +116,8 @@ crashed_if : (P : World → Type 0) (b : Bool) (x w : World) → P x → P w →
 crashed_if P true x w is was = is
 crashed_if P false x w is was = was
 
-pub stop_happens : (old mid new : TableValue) (w : World) (act : Act) (calls pick : ℕ) (answer : codes.Answer) → Holds old w → IsSameMatch old mid → IsSameMatch mid new → HasHappened old w (Do act) answer mid
+pub stop_happens : (old mid new : TableValue) (w : World) (act : Act) (calls pick : ℕ) (answer : codes.Answer) → Holds old w
+    → IsSameMatch old mid → IsSameMatch mid new → HasHappened old w (Do act) answer mid
     → ((v : World) → Holds mid v → HasCrashed mid v (player_of act) new) → HasHappened old w (Stop act calls pick) answers.Stopped new
 stop_happens old mid new w act calls pick answer holds first last one crashes =
     let p : ℕ = player_of act in
@@ -117,7 +127,8 @@ stop_happens old mid new w act calls pick answer holds first last one crashes =
     let can : CanHappen old.rules old.room w (Stop act calls pick) Stopped v = record {
       happening = record h { leaves = crash.leaves };
       may = may_same old.rules old.room w act h crash.leaves one.can.may;
-      is = ap (λ (a : After). record { answer = Stopped; world = crashed old.rules a.world p crash.leaves }) (acted_same old.rules old.room w act h crash.leaves ∙ one.can.is);
+      is = ap (λ (a : After). record { answer = Stopped; world = crashed old.rules a.world p crash.leaves })
+          (acted_same old.rules old.room w act h crash.leaves ∙ one.can.is);
     } in
     let rules_same : new.rules ≡ old.rules = last.rules ∙ first.rules in
     let room_same : new.room ≡ old.room = last.room ∙ first.room in
@@ -130,20 +141,25 @@ stop_happens old mid new w act calls pick answer holds first last one crashes =
       reports = refl;
       holds = record {
         reached = rw (rules_same, room_same) reached;
-        count = crashed_if (λ (x : World). length x.peers ≡ new.rules.players) (is_player old.rules p) (with_peer one.world p (away (peer_of one.world p) (found (peer_of one.world p) crash.leaves) None)) one.world
-            (length-set one.world.peers (p - 1) (away (peer_of one.world p) (found (peer_of one.world p) crash.leaves) None) ∙ one.holds.count ∙ ap (λ (r : Rules). r.players) (sym last.rules))
+        count = crashed_if (λ (x : World). length x.peers ≡ new.rules.players) (is_player old.rules p)
+            (with_peer one.world p (away (peer_of one.world p) (found (peer_of one.world p) crash.leaves) None)) one.world
+            (length-set one.world.peers (p - 1) (away (peer_of one.world p) (found (peer_of one.world p) crash.leaves) None)
+                ∙ one.holds.count ∙ ap (λ (r : Rules). r.players) (sym last.rules))
             (one.holds.count ∙ ap (λ (r : Rules). r.players) (sym last.rules));
         peers = rw (last.rules, last.room) (rw (sym first.rules) crash.peers);
-        said = crash.pool ∙ one.holds.said ∙ crashed_if (λ (x : World). map spelling one.world.said ≡ map spelling x.said) (is_player old.rules p) _ one.world refl refl;
+        said = crash.pool ∙ one.holds.said ∙ crashed_if (λ (x : World). map spelling one.world.said ≡ map spelling x.said)
+            (is_player old.rules p) _ one.world refl refl;
         five = crash.five ∙ one.holds.five ∙ crashed_if (λ (x : World). one.world.five ≡ x.five) (is_player old.rules p) _ one.world refl refl;
         six = crash.six ∙ one.holds.six ∙ crashed_if (λ (x : World). one.world.six ≡ x.six) (is_player old.rules p) _ one.world refl refl;
       };
     }
 
-moved_can : {first old new : TableValue} {w : World} {event : Event} {answer : codes.Answer} → IsSameMatch first old → (is : HasHappened old w event answer new) → CanDo first.rules first.room w event is.told is.world
+moved_can : {first old new : TableValue} {w : World} {event : Event} {answer : codes.Answer} → IsSameMatch first old
+    → (is : HasHappened old w event answer new) → CanDo first.rules first.room w event is.told is.world
 moved_can same is = rw (sym same.rules, sym same.room) (is.can, is.had_memory)
 
-pub happened_from : (first old new : TableValue) (w : World) (event : Event) (answer : codes.Answer) → IsSameMatch first old → HasHappened old w event answer new → HasHappened first w event answer new
+pub happened_from : (first old new : TableValue) (w : World) (event : Event) (answer : codes.Answer) → IsSameMatch first old
+    → HasHappened old w event answer new → HasHappened first w event answer new
 happened_from first old new w event answer same is = record {
   told = is.told;
   world = is.world;
@@ -153,7 +169,8 @@ happened_from first old new w event answer same is = record {
   holds = is.holds;
 }
 
-pub unhappened_from : (first old mid new : TableValue) (w : World) (act : Act) → IsSameMatch first old → HasNotHappened old w act mid → ((v : World) → Holds mid v → Holds new v)
+pub unhappened_from : (first old mid new : TableValue) (w : World) (act : Act) → IsSameMatch first old → HasNotHappened old w act mid
+    → ((v : World) → Holds mid v → Holds new v)
     → HasNotHappened first w act new
 unhappened_from first old mid new w act same is later = record {
   world = is.world;
@@ -174,7 +191,8 @@ with_err P Q (Ok x) goes is = tt
 with_err P Q (Err error) goes is = goes error is
 
 -- an event has happened even if the table, which holds the same world, was changed after it
-pub happened_till : (old mid new : TableValue) (w : World) (event : Event) (answer : codes.Answer) → HasHappened old w event answer mid → ((v : World) → Holds mid v → Holds new v) → HasHappened old w event answer new
+pub happened_till : (old mid new : TableValue) (w : World) (event : Event) (answer : codes.Answer) → HasHappened old w event answer mid
+    → ((v : World) → Holds mid v → Holds new v) → HasHappened old w event answer new
 happened_till old mid new w event answer is later = record {
   told = is.told;
   world = is.world;

@@ -4,7 +4,8 @@ use Rattle.c8_wire.specs.declared.error.WireError.{WireError}
 use Rattle.c8_spectator.specs.declared.error.NotTaken.{NotTaken}
 use Rattle.c8_spectator.specs.declared.taken.Taken.{Taken}
 use Rattle.std.proofs.lemmas.Bool.{eq-eqb, ne_eqb, le-leb}
-use Rattle.std.proofs.Common.{◌≡◌, ℕ, ◌-◌, ◌≤◌, List, [], ◌∷◌, ◌++◌, length, map, take, true, Option, Some, Ok, refl, sym, ap, subst, ◌∙◌, arith, Result}
+use Rattle.std.proofs.Common.{◌≡◌, ℕ, ◌-◌, ◌≤◌, List, [], ◌∷◌, ◌++◌, length, map, take, true, Option, Some, Ok, refl, sym, ap, subst, ◌∙◌,
+  arith, Result}
 use Rattle.std.specs.Prelude.{◌==◌, if◌then◌else◌}
 use Rattle.std.specs.List.{slice_get}
 use Rattle.std.proofs.lemmas.List.{map-append, length-map, length-append, length-take-le}
@@ -20,12 +21,14 @@ use Rattle.c8_peer.specs.State as states
 use Rattle.c8_peer.specs.Steps.{Works}
 use Rattle.c8_world.specs.declared.answer.Answer as codes
 use Rattle.c8_world.specs.declared.answer.Answer.TheVariants as answers
-use Rattle.c8_world.specs.World.{World, Act, Answer, player_of, Show, Hear, Seen, Fresh, Do, Watched, Spoken, Anew, NoSuch, rows_of, watch_of, with_rows, hear_at, seen_by_watcher, acted}
+use Rattle.c8_world.specs.World.{World, Act, Answer, player_of, Show, Hear, Seen, Fresh, Do, Watched, Spoken, Anew, NoSuch, rows_of,
+  watch_of, with_rows, hear_at, seen_by_watcher, acted}
 use Rattle.c8_world.specs.Table.{TableValue, Holds, HasHappened, reported, rows_in, watch_in, IsWatch}
 use Rattle.c8_world.proofs.TableLemmas.{CanDo, stands_is_memory, IsCallOf, same_happens, with_outcome, reached_more}
 use Rattle.c8_world.proofs.SpokenLemmas.{AreRead, said_at, not_said}
 
-pub show_call : (watcher : ℕ) → is_watcher watcher ≡ true → (rules : Rules) (room : ℕ) (w : World) → IsCallOf rules room w (Show watcher) 1 (states.Show watcher)
+pub show_call : (watcher : ℕ) → is_watcher watcher ≡ true → (rules : Rules) (room : ℕ) (w : World)
+    → IsCallOf rules room w (Show watcher) 1 (states.Show watcher)
 unfolding acted
 show_call watcher watches rules room w = record { by = refl; is = λ h. refl; may = λ h. watches }
 
@@ -42,7 +45,8 @@ watch_is t w watcher holds = λ i. record { rules = t.rules; room = t.room; seat
 
 -- ---- a watcher takes a datagram
 
-pub unheard_happens : (t self : TableValue) (number watcher : ℕ) → is_watcher watcher ≡ true → t ≡ self → length t.pool ≤ number → (w : World) → Holds self w → HasHappened self w (Do (Hear number watcher)) answers.NoSuch self
+pub unheard_happens : (t self : TableValue) (number watcher : ℕ) → is_watcher watcher ≡ true → t ≡ self → length t.pool ≤ number
+    → (w : World) → Holds self w → HasHappened self w (Do (Hear number watcher)) answers.NoSuch self
 unfolding acted
 unheard_happens t self number watcher watches view past =
     subst (λ (u : TableValue). (w : World) → Holds u w → HasHappened u w (Do (Hear number watcher)) answers.NoSuch u) view
@@ -59,7 +63,8 @@ unheard_happens t self number watcher watches view past =
     same_happens t w (Hear number watcher) NoSuch answers.NoSuch holds can refl)
 
 -- an act after which one watcher has other rows, and nothing else changed
-watched_happens : (t : TableValue) (w : World) (act : Act) (watcher : ℕ) (rows : List Row) (told : Answer) (answer : codes.Answer) → Holds t w → CanDo t.rules t.room w (Do act) told (with_rows w watcher rows)
+watched_happens : (t : TableValue) (w : World) (act : Act) (watcher : ℕ) (rows : List Row) (told : Answer) (answer : codes.Answer)
+    → Holds t w → CanDo t.rules t.room w (Do act) told (with_rows w watcher rows)
     → answer ≡ reported t.rules (player_of act) (with_rows w watcher rows) told → HasHappened t w (Do act) answer (with_watch t watcher rows)
 watched_happens t w act watcher rows told answer holds can reports = record {
   told = told;
@@ -77,13 +82,16 @@ watched_happens t w act watcher rows told answer holds can reports = record {
   };
 }
 
-pub heard_happens : (t self : TableValue) (number watcher : ℕ) (bytes : List ℕ) → is_watcher watcher ≡ true → t ≡ self → slice_get t.pool number ≡ Some bytes → ((w : World) → Holds t w → AreRead t w)
+pub heard_happens : (t self : TableValue) (number watcher : ℕ) (bytes : List ℕ) → is_watcher watcher ≡ true → t ≡ self
+    → slice_get t.pool number ≡ Some bytes → ((w : World) → Holds t w → AreRead t w)
     → (w : World) → Holds self w
-    → HasHappened self w (Do (Hear number watcher)) (answers.Watched (hear (watch_in t watcher) (read bytes)).answer) (with_watch t watcher (hear (watch_in t watcher) (read bytes)).watch.rows)
+    → HasHappened self w (Do (Hear number watcher)) (answers.Watched (hear (watch_in t watcher) (read bytes)).answer)
+    (with_watch t watcher (hear (watch_in t watcher) (read bytes)).watch.rows)
 unfolding acted
 heard_happens t self number watcher bytes watches view at reads =
     let after : watching.Watched = hear (watch_in t watcher) (read bytes) in
-    subst (λ (u : TableValue). (w : World) → Holds u w → HasHappened u w (Do (Hear number watcher)) (answers.Watched after.answer) (with_watch t watcher after.watch.rows)) view
+    subst (λ (u : TableValue). (w : World) → Holds u w
+        → HasHappened u w (Do (Hear number watcher)) (answers.Watched after.answer) (with_watch t watcher after.watch.rows)) view
     (λ w holds.
     let told = said_at w.said number bytes (subst (λ (xs : List (List ℕ)). slice_get xs number ≡ Some bytes) holds.said at) in
     let is_read : read bytes ≡ Ok told.0 = ap read told.2 ∙ reads w holds told.0 number told.1 in
@@ -100,22 +108,27 @@ heard_happens t self number watcher bytes watches view at reads =
     subst (λ (x : watching.Watched). HasHappened t w (Do (Hear number watcher)) (answers.Watched x.answer) (with_watch t watcher x.watch.rows)) same
     (watched_happens t w (Hear number watcher) watcher heard.watch.rows (Watched heard.answer) (answers.Watched heard.answer) holds can refl))
 
-pub fresh_happens : (t self : TableValue) (watcher : ℕ) → is_watcher watcher ≡ true → t ≡ self → (w : World) → Holds self w → HasHappened self w (Do (Fresh watcher)) answers.Anew (with_watch t watcher [])
+pub fresh_happens : (t self : TableValue) (watcher : ℕ) → is_watcher watcher ≡ true → t ≡ self → (w : World) → Holds self w
+    → HasHappened self w (Do (Fresh watcher)) answers.Anew (with_watch t watcher [])
 unfolding acted
 fresh_happens t self watcher watches view =
     subst (λ (u : TableValue). (w : World) → Holds u w → HasHappened u w (Do (Fresh watcher)) answers.Anew (with_watch t watcher [])) view
     (λ w holds.
-    let can : CanDo t.rules t.room w (Do (Fresh watcher)) Anew (with_rows w watcher []) = (record { happening = with_outcome Works; may = watches; is = refl }, stands_is_memory) in
+    let can : CanDo t.rules t.room w (Do (Fresh watcher)) Anew (with_rows w watcher []) =
+        (record { happening = with_outcome Works; may = watches; is = refl }, stands_is_memory) in
     watched_happens t w (Fresh watcher) watcher [] Anew answers.Anew holds can refl)
 
 -- ---- a watcher acknowledges its rows
 
-pub seen_happens : (t self : TableValue) (watcher number size : ℕ) (bytes : List ℕ) (pool : List (List ℕ)) → is_watcher watcher ≡ true → t ≡ self → number ≡ length t.pool → pool ≡ t.pool ++ take size bytes ∷ []
+pub seen_happens : (t self : TableValue) (watcher number size : ℕ) (bytes : List ℕ) (pool : List (List ℕ)) → is_watcher watcher ≡ true
+    → t ≡ self → number ≡ length t.pool → pool ≡ t.pool ++ take size bytes ∷ []
     → Spells (take size bytes) (seen (watch_in t watcher)) → size ≤ length bytes
-    → (w : World) → Holds self w → HasHappened self w (Do (Seen watcher)) (answers.Spoken (record { number = number; length = size })) (record t { pool = pool })
+    → (w : World) → Holds self w → HasHappened self w (Do (Seen watcher)) (answers.Spoken (record { number = number; length = size }))
+    (record t { pool = pool })
 unfolding acted
 seen_happens t self watcher number size bytes pool watches view numbered grown spells fits =
-    subst (λ (u : TableValue). (w : World) → Holds u w → HasHappened u w (Do (Seen watcher)) (answers.Spoken (record { number = number; length = size })) (record t { pool = pool })) view
+    subst (λ (u : TableValue). (w : World) → Holds u w
+        → HasHappened u w (Do (Seen watcher)) (answers.Spoken (record { number = number; length = size })) (record t { pool = pool })) view
     (λ w holds.
     let packet : Packet = seen_by_watcher t.rules t.room w watcher in
     let v : World = record w { said = w.said ++ packet ∷ [] } in
@@ -124,7 +137,8 @@ seen_happens t self watcher number size bytes pool watches view numbered grown s
     let count : length t.pool ≡ length w.said = ap (λ (xs : List (List ℕ)). length xs) holds.said ∙ length-map w.said spelling in
     let long : size ≡ length (spelling packet) = sym (length-take-le size bytes fits) ∙ ap (λ (xs : List ℕ). length xs) spelled in
     let last : number ≡ length v.said - 1 = omega (arith, numbered, count, length-append w.said (packet ∷ [])) in
-    let can : CanDo t.rules t.room w (Do (Seen watcher)) (Spoken packet) v = (record { happening = with_outcome Works; may = watches; is = refl }, stands_is_memory) in
+    let can : CanDo t.rules t.room w (Do (Seen watcher)) (Spoken packet) v =
+        (record { happening = with_outcome Works; may = watches; is = refl }, stands_is_memory) in
     record {
       told = Spoken packet;
       world = v;
@@ -135,7 +149,8 @@ seen_happens t self watcher number size bytes pool watches view numbered grown s
         reached = reached_more t.rules t.room w v (Do (Seen watcher)) (Spoken packet) holds.reached can.0;
         count = holds.count;
         peers = holds.peers;
-        said = grown ∙ ap (λ (xs : List (List ℕ)). xs ++ take size bytes ∷ []) holds.said ∙ ap (λ (x : List ℕ). map spelling w.said ++ x ∷ []) spelled ∙ sym (map-append spelling w.said (packet ∷ []));
+        said = grown ∙ ap (λ (xs : List (List ℕ)). xs ++ take size bytes ∷ []) holds.said
+            ∙ ap (λ (x : List ℕ). map spelling w.said ++ x ∷ []) spelled ∙ sym (map-append spelling w.said (packet ∷ []));
         five = holds.five;
         six = holds.six;
       };
@@ -153,18 +168,21 @@ six_now : (t : TableValue) (watcher : ℕ) (rows : List Row) → watcher ≡ 6 �
 six_now t watcher rows is = rw (ne_eqb watcher 5 (λ e. omega (arith, is, e)), eq-eqb watcher 6 is) refl
 
 -- the watcher in a seat is the table's
-pub watch_of_five : (t : TableValue) (watcher : ℕ) (v : WatchValue) → watcher ≡ 5 → IsWatch t.rules t.room 5 v → v.rows ≡ t.five → v ≡ watch_in t watcher
+pub watch_of_five : (t : TableValue) (watcher : ℕ) (v : WatchValue) → watcher ≡ 5 → IsWatch t.rules t.room 5 v → v.rows ≡ t.five
+    → v ≡ watch_in t watcher
 watch_of_five t watcher v is watch rows =
     let here : rows_in t watcher ≡ t.five = rw (eq-eqb watcher 5 is) refl in
     λ i. record { rules = watch.rules_are i; room = watch.room_is i; seat = (watch.seat_is ∙ sym is) i; rows = (rows ∙ sym here) i }
 
-pub watch_of_six : (t : TableValue) (watcher : ℕ) (v : WatchValue) → watcher ≡ 6 → IsWatch t.rules t.room 6 v → v.rows ≡ t.six → v ≡ watch_in t watcher
+pub watch_of_six : (t : TableValue) (watcher : ℕ) (v : WatchValue) → watcher ≡ 6 → IsWatch t.rules t.room 6 v → v.rows ≡ t.six
+    → v ≡ watch_in t watcher
 watch_of_six t watcher v is watch rows =
     let here : rows_in t watcher ≡ t.six = rw (ne_eqb watcher 5 (λ e. omega (arith, is, e)), eq-eqb watcher 6 is) refl in
     λ i. record { rules = watch.rules_are i; room = watch.room_is i; seat = (watch.seat_is ∙ sym is) i; rows = (rows ∙ sym here) i }
 
 -- it goes on watching from the same seat
-pub hears_on : (rules : Rules) (room seat : ℕ) (old new : WatchValue) (told : Result Packet WireError) → IsWatch rules room seat old → new ≡ (hear old told).watch → IsWatch rules room seat new
+pub hears_on : (rules : Rules) (room seat : ℕ) (old new : WatchValue) (told : Result Packet WireError) → IsWatch rules room seat old
+    → new ≡ (hear old told).watch → IsWatch rules room seat new
 hears_on rules room seat old new told is after =
     let kept = still_heard old told in
     record {
@@ -185,26 +203,38 @@ fresh_six t self watcher v watches is view none =
     subst (λ (u : TableValue). (w : World) → Holds self w → HasHappened self w (Do (Fresh watcher)) answers.Anew u)
     (six_now t watcher [] is ∙ (λ i. record t { six = sym none i })) (fresh_happens t self watcher watches view)
 
-pub heard_five : (t self : TableValue) (number watcher : ℕ) (bytes : List ℕ) (old new : WatchValue) (answer : Result Taken NotTaken) → is_watcher watcher ≡ true → watcher ≡ 5 → t ≡ self → slice_get t.pool number ≡ Some bytes
-    → ((w : World) → Holds t w → AreRead t w) → IsWatch t.rules t.room 5 old → old.rows ≡ t.five → answer ≡ (hear old (read bytes)).answer → new ≡ (hear old (read bytes)).watch
+pub heard_five : (t self : TableValue) (number watcher : ℕ) (bytes : List ℕ) (old new : WatchValue) (answer : Result Taken NotTaken)
+    → is_watcher watcher ≡ true → watcher ≡ 5 → t ≡ self → slice_get t.pool number ≡ Some bytes
+    → ((w : World) → Holds t w → AreRead t w) → IsWatch t.rules t.room 5 old → old.rows ≡ t.five → answer ≡ (hear old (read bytes)).answer
+    → new ≡ (hear old (read bytes)).watch
     → (w : World) → Holds self w → HasHappened self w (Do (Hear number watcher)) (answers.Watched answer) (record t { five = new.rows })
 heard_five t self number watcher bytes old new answer watches is view at reads watch rows told after =
-    let same : hear (watch_in t watcher) (read bytes) ≡ hear old (read bytes) = ap (λ v. hear v (read bytes)) (sym (watch_of_five t watcher old is watch rows)) in
+    let same : hear (watch_in t watcher) (read bytes) ≡ hear old (read bytes) =
+        ap (λ v. hear v (read bytes)) (sym (watch_of_five t watcher old is watch rows)) in
     let answered : (hear (watch_in t watcher) (read bytes)).answer ≡ answer = ap (λ (x : watching.Watched). x.answer) same ∙ sym told in
-    let kept : (hear (watch_in t watcher) (read bytes)).watch.rows ≡ new.rows = ap (λ (x : watching.Watched). x.watch.rows) same ∙ ap (λ (v : WatchValue). v.rows) (sym after) in
+    let kept : (hear (watch_in t watcher) (read bytes)).watch.rows ≡ new.rows =
+        ap (λ (x : watching.Watched). x.watch.rows) same ∙ ap (λ (v : WatchValue). v.rows) (sym after) in
     subst (λ (u : TableValue). (w : World) → Holds self w → HasHappened self w (Do (Hear number watcher)) (answers.Watched answer) u)
     (five_now t watcher (hear (watch_in t watcher) (read bytes)).watch.rows is ∙ (λ i. record t { five = kept i }))
-    (subst (λ (x : Result Taken NotTaken). (w : World) → Holds self w → HasHappened self w (Do (Hear number watcher)) (answers.Watched x) (with_watch t watcher (hear (watch_in t watcher) (read bytes)).watch.rows)) answered
+    (subst (λ (x : Result Taken NotTaken). (w : World) → Holds self w
+        → HasHappened self w (Do (Hear number watcher)) (answers.Watched x)
+        (with_watch t watcher (hear (watch_in t watcher) (read bytes)).watch.rows)) answered
     (heard_happens t self number watcher bytes watches view at reads))
 
-pub heard_six : (t self : TableValue) (number watcher : ℕ) (bytes : List ℕ) (old new : WatchValue) (answer : Result Taken NotTaken) → is_watcher watcher ≡ true → watcher ≡ 6 → t ≡ self → slice_get t.pool number ≡ Some bytes
-    → ((w : World) → Holds t w → AreRead t w) → IsWatch t.rules t.room 6 old → old.rows ≡ t.six → answer ≡ (hear old (read bytes)).answer → new ≡ (hear old (read bytes)).watch
+pub heard_six : (t self : TableValue) (number watcher : ℕ) (bytes : List ℕ) (old new : WatchValue) (answer : Result Taken NotTaken)
+    → is_watcher watcher ≡ true → watcher ≡ 6 → t ≡ self → slice_get t.pool number ≡ Some bytes
+    → ((w : World) → Holds t w → AreRead t w) → IsWatch t.rules t.room 6 old → old.rows ≡ t.six → answer ≡ (hear old (read bytes)).answer
+    → new ≡ (hear old (read bytes)).watch
     → (w : World) → Holds self w → HasHappened self w (Do (Hear number watcher)) (answers.Watched answer) (record t { six = new.rows })
 heard_six t self number watcher bytes old new answer watches is view at reads watch rows told after =
-    let same : hear (watch_in t watcher) (read bytes) ≡ hear old (read bytes) = ap (λ v. hear v (read bytes)) (sym (watch_of_six t watcher old is watch rows)) in
+    let same : hear (watch_in t watcher) (read bytes) ≡ hear old (read bytes) =
+        ap (λ v. hear v (read bytes)) (sym (watch_of_six t watcher old is watch rows)) in
     let answered : (hear (watch_in t watcher) (read bytes)).answer ≡ answer = ap (λ (x : watching.Watched). x.answer) same ∙ sym told in
-    let kept : (hear (watch_in t watcher) (read bytes)).watch.rows ≡ new.rows = ap (λ (x : watching.Watched). x.watch.rows) same ∙ ap (λ (v : WatchValue). v.rows) (sym after) in
+    let kept : (hear (watch_in t watcher) (read bytes)).watch.rows ≡ new.rows =
+        ap (λ (x : watching.Watched). x.watch.rows) same ∙ ap (λ (v : WatchValue). v.rows) (sym after) in
     subst (λ (u : TableValue). (w : World) → Holds self w → HasHappened self w (Do (Hear number watcher)) (answers.Watched answer) u)
     (six_now t watcher (hear (watch_in t watcher) (read bytes)).watch.rows is ∙ (λ i. record t { six = kept i }))
-    (subst (λ (x : Result Taken NotTaken). (w : World) → Holds self w → HasHappened self w (Do (Hear number watcher)) (answers.Watched x) (with_watch t watcher (hear (watch_in t watcher) (read bytes)).watch.rows)) answered
+    (subst (λ (x : Result Taken NotTaken). (w : World) → Holds self w
+        → HasHappened self w (Do (Hear number watcher)) (answers.Watched x)
+        (with_watch t watcher (hear (watch_in t watcher) (read bytes)).watch.rows)) answered
     (heard_happens t self number watcher bytes watches view at reads))

@@ -1,10 +1,12 @@
 -- A world is sound at its start, and each event keeps it sound.
 use Rattle.c8_spectator.specs.Growth.{ShowsRowsOf}
-use Rattle.std.proofs.Common.{◌≡◌, ◌≢◌, ℕ, zero, suc, ◌-◌, ◌<◌, ◌^◌, ◌⊎◌, inl, inr, ⊎_elim, List, [], ◌∷◌, ◌++◌, length, Bool, true, false, cond, Option, Some, None, Ok, Err, refl, sym, ap, subst, ◌∙◌, arith, slice_set, slice_index_or, replicate}
+use Rattle.std.proofs.Common.{◌≡◌, ◌≢◌, ℕ, zero, suc, ◌-◌, ◌<◌, ◌^◌, ◌⊎◌, inl, inr, ⊎_elim, List, [], ◌∷◌, ◌++◌, length, Bool, true, false,
+  cond, Option, Some, None, Ok, Err, refl, sym, ap, subst, ◌∙◌, arith, slice_set, slice_index_or, replicate}
 use Rattle.std.specs.Prelude.{◌==◌, nat_le, if◌then◌else◌, option_to_list}
 use Rattle.std.specs.List.{slice_get}
 use Rattle.std.proofs.lemmas.Bool.{cases_eq, cases_lt, leb-true, both_ways, and_parts}
-use Rattle.std.proofs.lemmas.List.{append-nil, length-set, length-replicate, get_or-set_same, get_or-set_other, get_or-replicate, get_or_past, set-set}
+use Rattle.std.proofs.lemmas.List.{append-nil, length-set, length-replicate, get_or-set_same, get_or-set_other, get_or-replicate,
+  get_or_past, set-set}
 use Rattle.c8_game.specs.Rules.{Rules, AreInRange}
 use Rattle.c8_disk.specs.declared.error.DiskError.{DiskError}
 use Rattle.c8_wire.specs.Packet.{Packet, Message, ShowMessage}
@@ -18,9 +20,11 @@ use Rattle.c8_round.specs.Round.{report_of, no_reports}
 use Rattle.c8_record.specs.Allowed.{IsAllowed, IsJournal}
 use Rattle.c8_record.specs.checked.JournalLaws.{journal_none, journal_grows}
 use Rattle.c8_peer.specs.State as states
-use Rattle.c8_peer.specs.State.{Memory, Mode, Down, Away, State, Call, Reply, Opened, Ticked, Delivered, Said, Left, Decided, Outcome, fresh_memory, Checked}
+use Rattle.c8_peer.specs.State.{Memory, Mode, Down, Away, State, Call, Reply, Opened, Ticked, Delivered, Said, Left, Decided, Outcome,
+  fresh_memory, Checked}
 use Rattle.c8_peer.specs.Steps.{outcome, DiskOutcome, Works, Refuses, refused_by_disk, Stepped, done, at_mode, step}
-use Rattle.c8_peer.specs.Opening.{last_epoch, Opening, NoPlayer, Stands, NotWritten, NoMemory, NotRead, Unfit, Spent, found, opening_record, away, opened, MayBecome}
+use Rattle.c8_peer.specs.Opening.{last_epoch, Opening, NoPlayer, Stands, NotWritten, NoMemory, NotRead, Unfit, Spent, found, opening_record,
+  away, opened, MayBecome}
 use Rattle.c8_peer.specs.Lawful.{IsMemory, IsCall}
 use Rattle.c8_peer.specs.Truth.{IsTrue, IsTrueMessage}
 use Rattle.c8_peer.specs.TrueChecks.{HasTrueChecks}
@@ -28,7 +32,10 @@ use Rattle.c8_peer.specs.checked.TrueCheckLaws.{none_true}
 use Rattle.c8_peer.specs.Told.{told_of}
 use Rattle.c8_peer.specs.checked.TruthLaws.{truth_stays}
 use Rattle.c8_world.specs.checked.Below.{ArePeersLawful}
-use Rattle.c8_world.specs.World.{World, never_opened, start, is_player, peer_of, journal_of, with_peer, Act, Open, Tick, Say, Give, Leave, Decide, Event, Do, Stop, player_of, Happening, Answer, After, said_by, stepped, call_at_mode, call_at, open_at_mode, give_to, acted, crashed, after, MayAct, act_inside, CanHappen, Chain, Check, known_by, rows_of, with_rows, hear_at, seen_by_watcher, Show, Hear, Seen, Fresh, watch_of}
+use Rattle.c8_world.specs.World.{World, never_opened, start, is_player, peer_of, journal_of, with_peer, Act, Open, Tick, Say, Give, Leave,
+  Decide, Event, Do, Stop, player_of, Happening, Answer, After, said_by, stepped, call_at_mode, call_at, open_at_mode, give_to, acted,
+  crashed, after, MayAct, act_inside, CanHappen, Chain, Check, known_by, rows_of, with_rows, hear_at, seen_by_watcher, Show, Hear, Seen,
+  Fresh, watch_of}
 use Rattle.c8_world.specs.Agreement.{IsPlayer, IsAmong}
 use Rattle.c8_world.proofs.Journals.{AreSound, MayAdd, Fits, Grown, HasMore, player_one, more_grown, frozen_grown, sound_more, fits_later}
 use Rattle.c8_world.proofs.Records.{fits_head, fits_epoch}
@@ -66,14 +73,16 @@ pub record Reaches (rules : Rules) (room : ℕ) (w v : World) : Type 0 where
 same_grown : (rules : Rules) (J J' : ℕ → List Record) → ((q : ℕ) → IsPlayer rules q → J' q ≡ J q) → Grown rules J J'
 same_grown rules J J' same q plays = rw (same q plays) (begins_same (J q))
 
-sound_same : (rules : Rules) (room : ℕ) (J J' : ℕ → List Record) → AreInRange rules → AreSound rules room J → ((q : ℕ) → IsPlayer rules q → J' q ≡ J q) → AreSound rules room J'
+sound_same : (rules : Rules) (room : ℕ) (J J' : ℕ → List Record) → AreInRange rules → AreSound rules room J
+    → ((q : ℕ) → IsPlayer rules q → J' q ≡ J q) → AreSound rules room J'
 sound_same rules room J J' range sound same =
     let one = same 1 (player_one rules range) in
     record {
       valid = λ p plays. rw (same p plays) (sound.valid p plays);
       begins = λ p q plays q_plays. rw (same p plays, same q q_plays) (sound.begins p q plays q_plays);
       cuts = λ p L K plays. rw (same p plays, one) (sound.cuts p L K plays);
-      decided = λ L K s is plays. rw (one, same s plays) (sound.decided L K s (subst (λ (journal : List Record). cut_of L journal ≡ Some K) one is) plays);
+      decided = λ L K s is plays. rw (one, same s plays)
+          (sound.decided L K s (subst (λ (journal : List Record). cut_of L journal ≡ Some K) one is) plays);
       frozen = λ s L before rest plays. rw (same s plays, one) (sound.frozen s L before rest plays);
       checks = λ p plays. rw (same p plays) (sound.checks p plays);
     }
@@ -86,9 +95,11 @@ among_more said new packet among = (among.0, begins_get said (said ++ new) among
 named_more : (said new : List Packet) (p : ℕ) (m : Memory) → AreNamed said p m.links → AreNamed (said ++ new) p m.links
 named_more said new p m named q is =
     let n = named q is in
-    record { packet = n.packet; among = among_more said new n.packet n.among; from = n.from; to = n.to; sender_epoch = n.sender_epoch; addressee_epoch = n.addressee_epoch }
+    record { packet = n.packet; among = among_more said new n.packet n.among; from = n.from; to = n.to; sender_epoch = n.sender_epoch;
+        addressee_epoch = n.addressee_epoch }
 
-awake_later : (rules : Rules) (room : ℕ) (J J' : ℕ → List Record) (said new : List Packet) (p : ℕ) (m : Memory) → Grown rules J J' → IsMemory rules room p (J' p) m → IsAwake rules room J said p m → IsAwake rules room J' (said ++ new) p m
+awake_later : (rules : Rules) (room : ℕ) (J J' : ℕ → List Record) (said new : List Packet) (p : ℕ) (m : Memory) → Grown rules J J'
+    → IsMemory rules room p (J' p) m → IsAwake rules room J said p m → IsAwake rules room J' (said ++ new) p m
 awake_later rules room J J' said new p m grown lawful awake = record {
   lawful = lawful;
   chair = λ first L s n s_plays told. frozen_grown rules L n (J s) (J' s) (grown s s_plays) (awake.chair first L s n s_plays told);
@@ -96,40 +107,53 @@ awake_later rules room J J' said new p m grown lawful awake = record {
 }
 
 -- what player 1 counts as confirmed stays confirmed
-still_known : (rules : Rules) (room : ℕ) (J J' : ℕ → List Record) → AreInRange rules → AreSound rules room J' → Grown rules J J' → IsStillKnown (known_of rules 1 (J 1)) (known_of rules 1 (J' 1))
+still_known : (rules : Rules) (room : ℕ) (J J' : ℕ → List Record) → AreInRange rules → AreSound rules room J' → Grown rules J J'
+    → IsStillKnown (known_of rules 1 (J 1)) (known_of rules 1 (J' 1))
 still_known rules room J J' range sound grown =
     let one = player_one rules range in
     let begins : Begins (J 1) (J' 1) = grown 1 one in
-    let valid : IsJournal rules 1 room (J 1 ++ begins.rest) = subst (λ (journal : List Record). IsJournal rules 1 room journal) begins.is (sound.valid 1 one) in
-    subst (λ (journal : List Record). IsStillKnown (known_of rules 1 (J 1)) (known_of rules 1 journal)) (sym begins.is) (journal_grows rules 1 room (J 1) begins.rest range one.from_one one.in_game valid)
+    let valid : IsJournal rules 1 room (J 1 ++ begins.rest) =
+        subst (λ (journal : List Record). IsJournal rules 1 room journal) begins.is (sound.valid 1 one) in
+    subst (λ (journal : List Record). IsStillKnown (known_of rules 1 (J 1)) (known_of rules 1 journal)) (sym begins.is)
+        (journal_grows rules 1 room (J 1) begins.rest range one.from_one one.in_game valid)
 
-told_later : (rules : Rules) (room : ℕ) (J J' : ℕ → List Record) (packet : Packet) (heard : Option ℕ) → AreInRange rules → AreSound rules room J' → Grown rules J J' → IsTold rules J packet heard → IsTold rules J' packet heard
+told_later : (rules : Rules) (room : ℕ) (J J' : ℕ → List Record) (packet : Packet) (heard : Option ℕ) → AreInRange rules
+    → AreSound rules room J' → Grown rules J J' → IsTold rules J packet heard → IsTold rules J' packet heard
 told_later rules room J J' packet None range sound grown is =
     let q : ℕ = packet.head.from in
     let begins : Begins (J q) (J' q) = grown q is.0 in
-    let valid : IsJournal rules q room (J q ++ begins.rest) = subst (λ (journal : List Record). IsJournal rules q room journal) begins.is (sound.valid q is.0) in
-    (is.0, subst (λ (journal : List Record). IsTrue rules q journal packet) (sym begins.is) (truth_stays rules q room (J q) begins.rest packet range is.0.from_one is.0.in_game valid is.1))
-told_later rules room J J' packet (Some rows) range sound grown is = omega (arith, is, confirmed_rises (known_of rules 1 (J 1)) (known_of rules 1 (J' 1)) (still_known rules room J J' range sound grown))
+    let valid : IsJournal rules q room (J q ++ begins.rest) =
+        subst (λ (journal : List Record). IsJournal rules q room journal) begins.is (sound.valid q is.0) in
+    (is.0, subst (λ (journal : List Record). IsTrue rules q journal packet) (sym begins.is)
+        (truth_stays rules q room (J q) begins.rest packet range is.0.from_one is.0.in_game valid is.1))
+told_later rules room J J' packet (Some rows) range sound grown is =
+    omega (arith, is, confirmed_rises (known_of rules 1 (J 1)) (known_of rules 1 (J' 1)) (still_known rules room J J' range sound grown))
 
-rows_later : (rules : Rules) (room : ℕ) (J J' : ℕ → List Record) (rows : List Row) → AreInRange rules → AreSound rules room J' → Grown rules J J' → Begins rows (confirmed_rows (known_of rules 1 (J 1))) → Begins rows (confirmed_rows (known_of rules 1 (J' 1)))
+rows_later : (rules : Rules) (room : ℕ) (J J' : ℕ → List Record) (rows : List Row) → AreInRange rules → AreSound rules room J'
+    → Grown rules J J' → Begins rows (confirmed_rows (known_of rules 1 (J 1))) → Begins rows (confirmed_rows (known_of rules 1 (J' 1)))
 rows_later rules room J J' rows range sound grown begins =
-    begins_more rows (confirmed_rows (known_of rules 1 (J 1))) (confirmed_rows (known_of rules 1 (J' 1))) begins (rows_stay (known_of rules 1 (J 1)) (known_of rules 1 (J' 1)) (still_known rules room J J' range sound grown))
+    begins_more rows (confirmed_rows (known_of rules 1 (J 1))) (confirmed_rows (known_of rules 1 (J' 1))) begins
+        (rows_stay (known_of rules 1 (J 1)) (known_of rules 1 (J' 1)) (still_known rules room J J' range sound grown))
 
-said_later : (rules : Rules) (room : ℕ) (J J' : ℕ → List Record) (packet : Packet) → AreInRange rules → AreSound rules room J' → Grown rules J J' → IsSaid rules J packet → IsSaid rules J' packet
-said_later rules room J J' packet range sound grown is = record { told = told_later rules room J J' packet (seen_in packet.message) range sound grown is.told; spelled = is.spelled }
+said_later : (rules : Rules) (room : ℕ) (J J' : ℕ → List Record) (packet : Packet) → AreInRange rules → AreSound rules room J'
+    → Grown rules J J' → IsSaid rules J packet → IsSaid rules J' packet
+said_later rules room J J' packet range sound grown is =
+    record { told = told_later rules room J J' packet (seen_in packet.message) range sound grown is.told; spelled = is.spelled }
 
 -- ---- one peer changes, and more datagrams are sent
 
 abbrev pub placed : World → ℕ → State → List Packet → World
 placed w p s new = record w { peers = slice_set w.peers (p - 1) s; said = w.said ++ new }
 
-pub peer_here : (rules : Rules) (w : World) (p : ℕ) (s : State) (new : List Packet) → length w.peers ≡ rules.players → IsPlayer rules p → peer_of (placed w p s new) p ≡ s
+pub peer_here : (rules : Rules) (w : World) (p : ℕ) (s : State) (new : List Packet) → length w.peers ≡ rules.players → IsPlayer rules p
+    → peer_of (placed w p s new) p ≡ s
 peer_here rules w p s new nodes plays =
     let from = plays.from_one in
     let to = plays.in_game in
     get_or-set_same w.peers (p - 1) s never_opened (omega (arith, from, to, nodes))
 
-pub peer_there : (rules : Rules) (w : World) (p : ℕ) (s : State) (new : List Packet) (q : ℕ) → IsPlayer rules p → IsPlayer rules q → q ≢ p → peer_of (placed w p s new) q ≡ peer_of w q
+pub peer_there : (rules : Rules) (w : World) (p : ℕ) (s : State) (new : List Packet) (q : ℕ) → IsPlayer rules p → IsPlayer rules q → q ≢ p
+    → peer_of (placed w p s new) q ≡ peer_of w q
 peer_there rules w p s new q plays q_plays apart =
     let from = plays.from_one in
     let also = q_plays.from_one in
@@ -142,7 +166,8 @@ among_split (x ∷ said) new packet (zero, e) = inl (zero, e)
 among_split (x ∷ said) new packet (suc n, e) = ⊎_elim (λ early. inl (suc early.0, early.1)) (λ late. inr late) (among_split said new packet (n, e))
 
 -- A change of one peer keeps all sound, if its journal stays or grows and the others' do not change.
-placed_by : (rules : Rules) (room : ℕ) (w : World) (p : ℕ) (s : State) (new : List Packet) → AreInRange rules → IsSound rules room w → IsPlayer rules p
+placed_by : (rules : Rules) (room : ℕ) (w : World) (p : ℕ) (s : State) (new : List Packet) → AreInRange rules → IsSound rules room w
+    → IsPlayer rules p
     → AreSound rules room (journal_of (placed w p s new)) → Grown rules (journal_of w) (journal_of (placed w p s new))
     → IsSoundPeer rules room (journal_of (placed w p s new)) (w.said ++ new) p s
     → ((packet : Packet) → IsAmong new packet → IsSaid rules (journal_of (placed w p s new)) packet)
@@ -177,15 +202,19 @@ placed_by rules room w p s new range sound plays journals grown peer news =
     }
 
 -- the journals of a world after one peer changed
-journal_there : (rules : Rules) (w : World) (p : ℕ) (s : State) (new : List Packet) (q : ℕ) → IsPlayer rules p → IsPlayer rules q → q ≢ p → journal_of (placed w p s new) q ≡ journal_of w q
+journal_there : (rules : Rules) (w : World) (p : ℕ) (s : State) (new : List Packet) (q : ℕ) → IsPlayer rules p → IsPlayer rules q → q ≢ p
+    → journal_of (placed w p s new) q ≡ journal_of w q
 journal_there rules w p s new q plays q_plays apart = ap (λ (t : State). t.journal) (peer_there rules w p s new q plays q_plays apart)
 
-journal_here : (rules : Rules) (w : World) (p : ℕ) (s : State) (new : List Packet) → length w.peers ≡ rules.players → IsPlayer rules p → journal_of (placed w p s new) p ≡ s.journal
+journal_here : (rules : Rules) (w : World) (p : ℕ) (s : State) (new : List Packet) → length w.peers ≡ rules.players → IsPlayer rules p
+    → journal_of (placed w p s new) p ≡ s.journal
 journal_here rules w p s new nodes plays = ap (λ (t : State). t.journal) (peer_here rules w p s new nodes plays)
 
 -- the journal does not change
-placed_same : (rules : Rules) (room : ℕ) (w : World) (p : ℕ) (s : State) (new : List Packet) → AreInRange rules → IsSound rules room w → IsPlayer rules p → s.journal ≡ journal_of w p
-    → IsSoundPeer rules room (journal_of w) w.said p s → ((packet : Packet) → IsAmong new packet → IsSaid rules (journal_of w) packet) → Reaches rules room w (placed w p s new)
+placed_same : (rules : Rules) (room : ℕ) (w : World) (p : ℕ) (s : State) (new : List Packet) → AreInRange rules → IsSound rules room w
+    → IsPlayer rules p → s.journal ≡ journal_of w p
+    → IsSoundPeer rules room (journal_of w) w.said p s → ((packet : Packet) → IsAmong new packet → IsSaid rules (journal_of w) packet)
+    → Reaches rules room w (placed w p s new)
 placed_same rules room w p s new range sound plays stays peer news =
     let v : World = placed w p s new in
     let same : (q : ℕ) → IsPlayer rules q → journal_of v q ≡ journal_of w q = λ q q_plays. elim (cases_eq q p) [
@@ -196,7 +225,8 @@ placed_same rules room w p s new range sound plays stays peer news =
     let grown = same_grown rules (journal_of w) (journal_of v) same in
     placed_by rules room w p s new range sound plays journals grown
     (record {
-      pending = λ r e. let fits = peer.pending r e in (fits.0, fits_later rules room (journal_of w) (journal_of v) p r range fits.1 (same p plays) grown);
+      pending = λ r e. let fits = peer.pending r e in
+          (fits.0, fits_later rules room (journal_of w) (journal_of v) p r range fits.1 (same p plays) grown);
       awake = λ up.
           let lawful = subst (λ (journal : List Record). IsMemory rules room p journal s.memory) (sym (same p plays)) (peer.awake up).lawful in
           awake_later rules room (journal_of w) (journal_of v) w.said new p s.memory grown lawful (peer.awake up);
@@ -204,9 +234,11 @@ placed_same rules room w p s new range sound plays stays peer news =
     (λ packet among. said_later rules room (journal_of w) (journal_of v) packet range journals grown (news packet among))
 
 -- the journal has one more record, which fits
-placed_more : (rules : Rules) (room : ℕ) (w : World) (p : ℕ) (s : State) (new : List Packet) (r : Record) → AreInRange rules → IsSound rules room w → IsPlayer rules p → s.journal ≡ journal_of w p ++ r ∷ []
+placed_more : (rules : Rules) (room : ℕ) (w : World) (p : ℕ) (s : State) (new : List Packet) (r : Record) → AreInRange rules
+    → IsSound rules room w → IsPlayer rules p → s.journal ≡ journal_of w p ++ r ∷ []
     → Fits rules room (journal_of w) p r → s.pending ≡ None
-    → (AreSound rules room (journal_of (placed w p s new)) → Grown rules (journal_of w) (journal_of (placed w p s new)) → s.mode ≢ Away → IsAwake rules room (journal_of (placed w p s new)) (w.said ++ new) p s.memory)
+    → (AreSound rules room (journal_of (placed w p s new)) → Grown rules (journal_of w) (journal_of (placed w p s new)) → s.mode ≢ Away
+    → IsAwake rules room (journal_of (placed w p s new)) (w.said ++ new) p s.memory)
     → ((packet : Packet) → IsAmong new packet → IsSaid rules (journal_of w) packet) → Reaches rules room w (placed w p s new)
 placed_more rules room w p s new r range sound plays longer fits settled awake news =
     let v : World = placed w p s new in
@@ -264,12 +296,14 @@ no_seen rules me to journal (packets.Cut c) is = refl
 no_seen rules me to journal (packets.Show m) is = refl
 no_seen rules me to journal (packets.Seen ack) is = absurd is
 
-told_by_player : (rules : Rules) (J : ℕ → List Record) (packet : Packet) (p : ℕ) → IsPlayer rules p → p ≡ packet.head.from → IsTrue rules p (J p) packet → IsTold rules J packet (seen_in packet.message)
+told_by_player : (rules : Rules) (J : ℕ → List Record) (packet : Packet) (p : ℕ) → IsPlayer rules p → p ≡ packet.head.from
+    → IsTrue rules p (J p) packet → IsTold rules J packet (seen_in packet.message)
 told_by_player rules J packet p plays whose is_true =
     subst (λ (heard : Option ℕ). IsTold rules J packet heard) (sym (no_seen rules p packet.head.to (J p) packet.message is_true.message))
     (subst (λ (q : ℕ). IsPlayer rules q) whose plays, subst (λ (q : ℕ). IsTrue rules q (J q) packet) whose is_true)
 
-call_owes : (laws : ArePeersLawful) (rules : Rules) (room : ℕ) (w : World) (p : ℕ) (call : Call) → AreInRange rules → IsSound rules room w → IsPlayer rules p → (peer_of w p).mode ≡ states.Open → IsCall call → IsWorldly rules (journal_of w) w.said call
+call_owes : (laws : ArePeersLawful) (rules : Rules) (room : ℕ) (w : World) (p : ℕ) (call : Call) → AreInRange rules → IsSound rules room w
+    → IsPlayer rules p → (peer_of w p).mode ≡ states.Open → IsCall call → IsWorldly rules (journal_of w) w.said call
     → Owes rules room w p (outcome rules (told_of rules p (journal_of w p)) (known_of rules p (journal_of w p)) (peer_of w p).memory call)
 call_owes laws rules room w p call range sound plays up is_call worldly =
     let m : Memory = (peer_of w p).memory in
@@ -284,11 +318,13 @@ call_owes laws rules room w p call range sound plays up is_call worldly =
         allowed = laws.keeps_allowed rules p room (J p) m call r range from to valid awake.lawful is_call e;
         checks = laws.keeps_true rules p room (J p) m call r range from to valid awake.lawful is_call (sound.journals.checks p plays) e;
       });
-      awake = record { lawful = laws.memory_kept rules p room (J p) m call range from to valid awake.lawful is_call; chair = good.chair; links = good.links };
+      awake = record { lawful = laws.memory_kept rules p room (J p) m call range from to valid awake.lawful is_call; chair = good.chair;
+          links = good.links };
       grows = λ r e. laws.memory_grows rules p room (J p) m call r range from to valid awake.lawful is_call e;
       says = λ packet among.
           let e = said_is (outcome rules (told_of rules p (J p)) (known_of rules p (J p)) m call).reply packet among in
-          let is_true = laws.said_true rules p room (J p) m call packet range from to valid awake.lawful is_call (λ carries. sound.journals.checks p plays) e in
+          let is_true = laws.said_true rules p room (J p) m call packet range from to valid awake.lawful is_call
+              (λ carries. sound.journals.checks p plays) e in
           let whose : p ≡ packet.head.from = sym is_true.from in
           record {
             told = told_by_player rules J packet p plays whose is_true;
@@ -301,13 +337,15 @@ none_or_not : (o : Option Record) → ((r : Record) → o ≡ Some r → ⊥) �
 none_or_not None never = refl
 none_or_not (Some r) never = absurd (never r refl)
 
-settled_up : (rules : Rules) (room : ℕ) (w : World) (p : ℕ) → IsSound rules room w → IsPlayer rules p → (peer_of w p).mode ≡ states.Open → (peer_of w p).pending ≡ None
+settled_up : (rules : Rules) (room : ℕ) (w : World) (p : ℕ) → IsSound rules room w → IsPlayer rules p → (peer_of w p).mode ≡ states.Open
+    → (peer_of w p).pending ≡ None
 settled_up rules room w p sound plays up = none_or_not (peer_of w p).pending (λ r e. ((sound.peers p plays).pending r e).0 up)
 
 no_item : (packet : Packet) → IsAmong [] packet → ⊥
 no_item packet (n, e) = cc e
 
-done_sound : (rules : Rules) (room : ℕ) (w : World) (p : ℕ) (call : Call) (o : Outcome) (kept : Option Record) (on_disk : DiskOutcome) → AreInRange rules → IsSound rules room w → IsPlayer rules p → (peer_of w p).mode ≡ states.Open
+done_sound : (rules : Rules) (room : ℕ) (w : World) (p : ℕ) (call : Call) (o : Outcome) (kept : Option Record) (on_disk : DiskOutcome)
+    → AreInRange rules → IsSound rules room w → IsPlayer rules p → (peer_of w p).mode ≡ states.Open
     → Owes rules room w p o → o.keeps ≡ kept → Reaches rules room w (stepped w p (done (peer_of w p) call o kept on_disk)).world
 done_sound rules room w p call o None on_disk range sound plays up owes e =
     placed_same rules room w p (record (peer_of w p) { memory = o.memory }) (said_by o.reply) range sound plays refl
@@ -334,13 +372,17 @@ done_sound rules room w p call o (Some r) (Refuses why) range sound plays up owe
 pub stays_as : (rules : Rules) (room : ℕ) (w : World) → IsSound rules room w → Reaches rules room w w
 stays_as rules room w sound = record { sound = sound; grown = λ q plays. begins_same (journal_of w q) }
 
-mode_sound : (laws : ArePeersLawful) (rules : Rules) (room : ℕ) (w : World) (p : ℕ) (call : Call) (on_disk : DiskOutcome) (mode : Mode) → AreInRange rules → IsSound rules room w → IsPlayer rules p → (peer_of w p).mode ≡ mode → IsCall call → IsWorldly rules (journal_of w) w.said call
+mode_sound : (laws : ArePeersLawful) (rules : Rules) (room : ℕ) (w : World) (p : ℕ) (call : Call) (on_disk : DiskOutcome) (mode : Mode)
+    → AreInRange rules → IsSound rules room w → IsPlayer rules p → (peer_of w p).mode ≡ mode → IsCall call
+    → IsWorldly rules (journal_of w) w.said call
     → Reaches rules room w (call_at_mode rules w p call on_disk mode).world
 mode_sound laws rules room w p call on_disk states.Open range sound plays up is_call worldly =
     let o : Outcome = outcome rules (told_of rules p (journal_of w p)) (known_of rules p (journal_of w p)) (peer_of w p).memory call in
-    let at : step rules p (peer_of w p) call on_disk ≡ done (peer_of w p) call o o.keeps on_disk = ap (λ (mode : Mode). at_mode (peer_of w p) call o mode on_disk) up in
+    let at : step rules p (peer_of w p) call on_disk ≡ done (peer_of w p) call o o.keeps on_disk =
+        ap (λ (mode : Mode). at_mode (peer_of w p) call o mode on_disk) up in
     subst (λ (t : Stepped). Reaches rules room w (stepped w p t).world) (sym at)
-    (done_sound rules room w p call o o.keeps on_disk range sound plays up (call_owes laws rules room w p call range sound plays up is_call worldly) refl)
+    (done_sound rules room w p call o o.keeps on_disk range sound plays up
+        (call_owes laws rules room w p call range sound plays up is_call worldly) refl)
 mode_sound laws rules room w p call on_disk Down range sound plays up is_call worldly = stays_as rules room w sound
 mode_sound laws rules room w p call on_disk Away range sound plays up is_call worldly = stays_as rules room w sound
 
@@ -362,7 +404,8 @@ if_player : (P : After → Type 0) (b : Bool) (x y : After) → (b ≡ true → 
 if_player P true x y when unless = when refl
 if_player P false x y when unless = unless
 
-call_sound : (laws : ArePeersLawful) (rules : Rules) (room : ℕ) (w : World) (p : ℕ) (call : Call) (on_disk : DiskOutcome) → AreInRange rules → IsSound rules room w → IsCall call → IsWorldly rules (journal_of w) w.said call
+call_sound : (laws : ArePeersLawful) (rules : Rules) (room : ℕ) (w : World) (p : ℕ) (call : Call) (on_disk : DiskOutcome) → AreInRange rules
+    → IsSound rules room w → IsCall call → IsWorldly rules (journal_of w) w.said call
     → Reaches rules room w (call_at rules w p call on_disk).world
 call_sound laws rules room w p call on_disk range sound is_call worldly =
     if_player (λ (a : After). Reaches rules room w a.world) (is_player rules p) _ _
@@ -372,7 +415,8 @@ call_sound laws rules room w p call on_disk range sound is_call worldly =
 -- ---- what a read finds
 
 -- the journal that was found is the peer's from now on
-found_sound : (rules : Rules) (room : ℕ) (w : World) (p : ℕ) (finds : Bool) (o : Option Record) → AreInRange rules → IsSound rules room w → IsPlayer rules p → (peer_of w p).pending ≡ o
+found_sound : (rules : Rules) (room : ℕ) (w : World) (p : ℕ) (finds : Bool) (o : Option Record) → AreInRange rules → IsSound rules room w
+    → IsPlayer rules p → (peer_of w p).pending ≡ o
     → Reaches rules room w (placed w p (away (peer_of w p) (if finds then journal_of w p ++ option_to_list o else journal_of w p) None) [])
 found_sound rules room w p false o range sound plays e =
     placed_same rules room w p (away (peer_of w p) (journal_of w p) None) [] range sound plays refl
@@ -381,7 +425,8 @@ found_sound rules room w p true None range sound plays e =
     placed_same rules room w p (away (peer_of w p) (journal_of w p ++ []) None) [] range sound plays (append-nil (journal_of w p))
     (record { pending = λ r is. absurd cc; awake = λ mode. absurd (mode refl) }) (λ packet among. absurd (no_item packet among))
 found_sound rules room w p true (Some r) range sound plays e =
-    placed_more rules room w p (away (peer_of w p) (journal_of w p ++ r ∷ []) None) [] r range sound plays refl ((sound.peers p plays).pending r e).1 refl
+    placed_more rules room w p (away (peer_of w p) (journal_of w p ++ r ∷ []) None) [] r range sound plays refl
+        ((sound.peers p plays).pending r e).1 refl
     (λ journals grown mode. absurd (mode refl)) (λ packet among. absurd (no_item packet among))
 
 -- it sends nothing
@@ -394,9 +439,11 @@ crash_sound rules room w p leaves range sound plays =
     subst (λ (v : World). Reaches rules room w v) (said_none w p (away (peer_of w p) (found (peer_of w p) leaves) None))
     (found_sound rules room w p leaves (peer_of w p).pending range sound plays refl)
 
-crashed_sound : (rules : Rules) (room : ℕ) (w : World) (p : ℕ) (leaves : Bool) → AreInRange rules → IsSound rules room w → Reaches rules room w (crashed rules w p leaves)
+crashed_sound : (rules : Rules) (room : ℕ) (w : World) (p : ℕ) (leaves : Bool) → AreInRange rules → IsSound rules room w
+    → Reaches rules room w (crashed rules w p leaves)
 crashed_sound rules room w p leaves range sound =
-    world_if (Reaches rules room w) (is_player rules p) _ _ (λ is. crash_sound rules room w p leaves range sound (plays_if rules p is)) (stays_as rules room w sound)
+    world_if (Reaches rules room w) (is_player rules p) _ _ (λ is. crash_sound rules room w p leaves range sound (plays_if rules p is))
+        (stays_as rules room w sound)
 
 -- one event after another
 pub reaches_more : (rules : Rules) (room : ℕ) (w u v : World) → Reaches rules room w u → Reaches rules room u v → Reaches rules room w v
@@ -407,7 +454,8 @@ reaches_more rules room w u v one two = record {
 
 -- ---- openings
 
-fits_opening : (rules : Rules) (room p : ℕ) (J : ℕ → List Record) (journal : List Record) → AreSound rules room J → IsPlayer rules p → MayAdd rules room J p (opening_record rules room p journal) → Fits rules room J p (opening_record rules room p journal)
+fits_opening : (rules : Rules) (room p : ℕ) (J : ℕ → List Record) (journal : List Record) → AreSound rules room J → IsPlayer rules p
+    → MayAdd rules room J p (opening_record rules room p journal) → Fits rules room J p (opening_record rules room p journal)
 fits_opening rules room p J [] sound plays allowed = fits_head rules room J p p _ _ room sound plays allowed
 fits_opening rules room p J (r ∷ rest) sound plays allowed = fits_epoch rules room J p p _ _ sound plays allowed
 
@@ -421,14 +469,17 @@ no_report L s n told =
           let row : slice_index_or table (L - 1) [] ≡ empty = get_or-replicate 4 (L - 1) empty [] within in
           elim (cases_lt (s - 1) 4) [
             | inl inside ↦
-                let none : report_of no_reports L s ≡ None = ap (λ (xs : List (Option ℕ)). slice_index_or xs (s - 1) None) row ∙ get_or-replicate 4 (s - 1) None None inside in
+                let none : report_of no_reports L s ≡ None =
+                    ap (λ (xs : List (Option ℕ)). slice_index_or xs (s - 1) None) row ∙ get_or-replicate 4 (s - 1) None None inside in
                 cc (none, told)
             | inr past ↦
-                let none : report_of no_reports L s ≡ None = ap (λ (xs : List (Option ℕ)). slice_index_or xs (s - 1) None) row ∙ get_or_past empty (s - 1) None (omega (arith, past)) in
+                let none : report_of no_reports L s ≡ None =
+                    ap (λ (xs : List (Option ℕ)). slice_index_or xs (s - 1) None) row ∙ get_or_past empty (s - 1) None (omega (arith, past)) in
                 cc (none, told)
           ]
       | inr past ↦
-          let none : report_of no_reports L s ≡ None = ap (λ (xs : List (Option ℕ)). slice_index_or xs (s - 1) None) (get_or_past table (L - 1) [] (omega (arith, past))) in
+          let none : report_of no_reports L s ≡ None =
+              ap (λ (xs : List (Option ℕ)). slice_index_or xs (s - 1) None) (get_or_past table (L - 1) [] (omega (arith, past))) in
           cc (none, told)
     ]
 
@@ -437,7 +488,8 @@ no_link_open rules room me epoch q =
     let P : LinkValue → Type 0 = λ link. link.is_open ≡ false in
     link_if P (q == 1) _ _ refl (link_if P (q == 2) _ _ refl (link_if P (q == 3) _ _ refl (link_if P (q == 4) _ _ refl refl)))
 
-fresh_awake : (rules : Rules) (room p : ℕ) (J : ℕ → List Record) (said : List Packet) (n : ℕ) → IsMemory rules room p (J p) (fresh_memory rules room p n) → IsAwake rules room J said p (fresh_memory rules room p n)
+fresh_awake : (rules : Rules) (room p : ℕ) (J : ℕ → List Record) (said : List Packet) (n : ℕ)
+    → IsMemory rules room p (J p) (fresh_memory rules room p n) → IsAwake rules room J said p (fresh_memory rules room p n)
 fresh_awake rules room p J said n lawful = record {
   lawful = lawful;
   chair = λ first L s m s_plays told. absurd (no_report L s m told);
@@ -449,18 +501,22 @@ placed_twice : (w : World) (p : ℕ) (s t : State) (new : List Packet) → place
 placed_twice w p s t new = λ i. record w { peers = set-set w.peers (p - 1) s t i; said = append-nil w.said i ++ new }
 
 -- an opening's record may be added
-may_open : (laws : ArePeersLawful) (rules : Rules) (room : ℕ) (w : World) (p : ℕ) (journal : List Record) → AreInRange rules → room < 2 ^ 64 → IsSound rules room w → IsPlayer rules p → journal_of w p ≡ journal
+may_open : (laws : ArePeersLawful) (rules : Rules) (room : ℕ) (w : World) (p : ℕ) (journal : List Record) → AreInRange rules → room < 2 ^ 64
+    → IsSound rules room w → IsPlayer rules p → journal_of w p ≡ journal
     → IsJournal rules p room journal → epoch journal < last_epoch → MayAdd rules room (journal_of w) p (opening_record rules room p journal)
 may_open laws rules room w p journal range few sound plays is valid low =
     let r : Record = opening_record rules room p journal in
     let checks = subst (HasTrueChecks rules p) is (sound.journals.checks p plays) in
     record {
-      allowed = subst (λ (j : List Record). IsAllowed rules p room j r) (sym is) (laws.opening_allowed rules p room journal range plays.from_one plays.in_game few valid low);
-      checks = subst (λ (j : List Record). HasTrueChecks rules p (j ++ r ∷ [])) (sym is) (laws.opening_true rules p room journal range plays.from_one plays.in_game few valid low checks.last);
+      allowed = subst (λ (j : List Record). IsAllowed rules p room j r) (sym is)
+          (laws.opening_allowed rules p room journal range plays.from_one plays.in_game few valid low);
+      checks = subst (λ (j : List Record). HasTrueChecks rules p (j ++ r ∷ [])) (sym is)
+          (laws.opening_true rules p room journal range plays.from_one plays.in_game few valid low checks.last);
     }
 
 -- an opening that finds a journal, from the world in which the peer has that journal
-opened_sound : (laws : ArePeersLawful) (rules : Rules) (room : ℕ) (w : World) (p : ℕ) (s : State) (journal : List Record) (outcome : Opening) → AreInRange rules → room < 2 ^ 64 → IsSound rules room w → IsPlayer rules p
+opened_sound : (laws : ArePeersLawful) (rules : Rules) (room : ℕ) (w : World) (p : ℕ) (s : State) (journal : List Record)
+    (outcome : Opening) → AreInRange rules → room < 2 ^ 64 → IsSound rules room w → IsPlayer rules p
     → journal_of w p ≡ journal → (peer_of w p).pending ≡ None → (peer_of w p).mode ≡ Away → MayBecome rules room p journal outcome
     → (outcome ≢ NoMemory) → ((why : DiskError) → outcome ≢ NotRead why)
     → Reaches rules room w (stepped w p (opened rules room p s journal outcome)).world
@@ -471,37 +527,47 @@ opened_sound laws rules room w p s journal Stands range few sound plays is settl
     let n : ℕ = epoch (journal ++ r ∷ []) in
     let t : State = record { journal = journal ++ r ∷ []; pending = None; mode = states.Open; memory = fresh_memory rules room p n } in
     let allowed = may_open laws rules room w p journal range few sound plays is may.0 may.1 in
-    placed_more rules room w p t [] r range sound plays (ap (λ (j : List Record). j ++ r ∷ []) (sym is)) (fits_opening rules room p (journal_of w) journal sound.journals plays allowed) refl
+    placed_more rules room w p t [] r range sound plays (ap (λ (j : List Record). j ++ r ∷ []) (sym is))
+        (fits_opening rules room p (journal_of w) journal sound.journals plays allowed) refl
     (λ journals grown mode.
     let here : journal_of (placed w p t []) p ≡ journal ++ r ∷ [] = journal_here rules w p t [] sound.nodes plays in
     fresh_awake rules room p (journal_of (placed w p t [])) (w.said ++ []) n
-    (subst (λ (j : List Record). IsMemory rules room p j (fresh_memory rules room p n)) (sym here) (laws.opening_memory rules p room journal range from to may.0 may.1)))
+    (subst (λ (j : List Record). IsMemory rules room p j (fresh_memory rules room p n)) (sym here)
+        (laws.opening_memory rules p room journal range from to may.0 may.1)))
     (λ packet among. absurd (no_item packet among))
 opened_sound laws rules room w p s journal (NotWritten why) range few sound plays is settled gone may memory read =
     let r : Record = opening_record rules room p journal in
     let allowed = may_open laws rules room w p journal range few sound plays is may.0 may.1 in
     placed_same rules room w p (away s journal (Some r)) [] range sound plays (sym is)
     (record {
-      pending = λ t e. (λ mode. absurd cc, let same : r ≡ t = cc in subst (λ (x : Record). Fits rules room (journal_of w) p x) same (fits_opening rules room p (journal_of w) journal sound.journals plays allowed));
+      pending = λ t e. (λ mode. absurd cc, let same : r ≡ t = cc in
+          subst (λ (x : Record). Fits rules room (journal_of w) p x) same
+          (fits_opening rules room p (journal_of w) journal sound.journals plays allowed));
       awake = λ mode. absurd (mode refl);
     })
     (λ packet among. absurd (no_item packet among))
-opened_sound laws rules room w p s journal NoPlayer range few sound plays is settled gone may memory read = let in_game = plays.in_game in absurd (omega (arith, may, in_game))
+opened_sound laws rules room w p s journal NoPlayer range few sound plays is settled gone may memory read = let in_game = plays.in_game in
+    absurd (omega (arith, may, in_game))
 opened_sound laws rules room w p s journal NoMemory range few sound plays is settled gone may memory read = absurd (memory refl)
 opened_sound laws rules room w p s journal (NotRead why) range few sound plays is settled gone may memory read = absurd (read why refl)
 opened_sound laws rules room w p s journal (Unfit error) range few sound plays is settled gone may memory read =
-    placed_same rules room w p (away s journal None) [] range sound plays (sym is) (record { pending = λ t e. absurd cc; awake = λ mode. absurd (mode refl) }) (λ packet among. absurd (no_item packet among))
+    placed_same rules room w p (away s journal None) [] range sound plays (sym is)
+        (record { pending = λ t e. absurd cc; awake = λ mode. absurd (mode refl) }) (λ packet among. absurd (no_item packet among))
 opened_sound laws rules room w p s journal Spent range few sound plays is settled gone may memory read =
-    placed_same rules room w p (away s journal None) [] range sound plays (sym is) (record { pending = λ t e. absurd cc; awake = λ mode. absurd (mode refl) }) (λ packet among. absurd (no_item packet among))
+    placed_same rules room w p (away s journal None) [] range sound plays (sym is)
+        (record { pending = λ t e. absurd cc; awake = λ mode. absurd (mode refl) }) (λ packet among. absurd (no_item packet among))
 
 -- an opening that read nothing
-unread_sound : (rules : Rules) (room : ℕ) (w : World) (p : ℕ) → AreInRange rules → IsSound rules room w → IsPlayer rules p → Reaches rules room w (placed w p (away (peer_of w p) (journal_of w p) (peer_of w p).pending) [])
+unread_sound : (rules : Rules) (room : ℕ) (w : World) (p : ℕ) → AreInRange rules → IsSound rules room w → IsPlayer rules p
+    → Reaches rules room w (placed w p (away (peer_of w p) (journal_of w p) (peer_of w p).pending) [])
 unread_sound rules room w p range sound plays =
     placed_same rules room w p (away (peer_of w p) (journal_of w p) (peer_of w p).pending) [] range sound plays refl
-    (record { pending = λ r e. (λ mode. absurd cc, ((sound.peers p plays).pending r e).1); awake = λ mode. absurd (mode refl) }) (λ packet among. absurd (no_item packet among))
+    (record { pending = λ r e. (λ mode. absurd cc, ((sound.peers p plays).pending r e).1); awake = λ mode. absurd (mode refl) })
+        (λ packet among. absurd (no_item packet among))
 
 -- an opening that settles what it found, in two steps: the peer gets the found journal, then it is opened
-settle_open : (laws : ArePeersLawful) (rules : Rules) (room : ℕ) (w : World) (p : ℕ) (finds : Bool) (outcome : Opening) → AreInRange rules → room < 2 ^ 64 → IsSound rules room w → IsPlayer rules p
+settle_open : (laws : ArePeersLawful) (rules : Rules) (room : ℕ) (w : World) (p : ℕ) (finds : Bool) (outcome : Opening) → AreInRange rules
+    → room < 2 ^ 64 → IsSound rules room w → IsPlayer rules p
     → MayBecome rules room p (found (peer_of w p) finds) outcome → outcome ≢ NoMemory → ((why : DiskError) → outcome ≢ NotRead why)
     → Reaches rules room w (stepped w p (opened rules room p (peer_of w p) (found (peer_of w p) finds) outcome)).world
 settle_open laws rules room w p finds outcome range few sound plays may memory read =
@@ -512,21 +578,29 @@ settle_open laws rules room w p finds outcome range few sound plays may memory r
     let one = found_sound rules room w p finds s.pending range sound plays refl in
     let here : peer_of u p ≡ t = peer_here rules w p t [] sound.nodes plays in
     let step : Stepped = opened rules room p s journal outcome in
-    let two = opened_sound laws rules room u p s journal outcome range few one.sound plays (ap (λ (x : State). x.journal) here) (ap (λ (x : State). x.pending) here) (ap (λ (x : State). x.mode) here) may memory read in
+    let two = opened_sound laws rules room u p s journal outcome range few one.sound plays (ap (λ (x : State). x.journal) here)
+        (ap (λ (x : State). x.pending) here) (ap (λ (x : State). x.mode) here) may memory read in
     subst (λ (v : World). Reaches rules room w v) (placed_twice w p t step.state (said_by step.reply))
     (reaches_more rules room w u (stepped u p step).world one two)
 
-open_sound : (laws : ArePeersLawful) (rules : Rules) (room : ℕ) (w : World) (p : ℕ) (finds : Bool) (outcome : Opening) → AreInRange rules → room < 2 ^ 64 → IsSound rules room w → IsPlayer rules p
-    → MayBecome rules room p (found (peer_of w p) finds) outcome → Reaches rules room w (stepped w p (opened rules room p (peer_of w p) (found (peer_of w p) finds) outcome)).world
+open_sound : (laws : ArePeersLawful) (rules : Rules) (room : ℕ) (w : World) (p : ℕ) (finds : Bool) (outcome : Opening) → AreInRange rules
+    → room < 2 ^ 64 → IsSound rules room w → IsPlayer rules p
+    → MayBecome rules room p (found (peer_of w p) finds) outcome
+    → Reaches rules room w (stepped w p (opened rules room p (peer_of w p) (found (peer_of w p) finds) outcome)).world
 open_sound laws rules room w p finds NoPlayer range few sound plays may = unread_sound rules room w p range sound plays
 open_sound laws rules room w p finds NoMemory range few sound plays may = unread_sound rules room w p range sound plays
 open_sound laws rules room w p finds (NotRead why) range few sound plays may = unread_sound rules room w p range sound plays
-open_sound laws rules room w p finds Stands range few sound plays may = settle_open laws rules room w p finds Stands range few sound plays may (λ e. cc e) (λ why e. cc e)
-open_sound laws rules room w p finds (NotWritten why) range few sound plays may = settle_open laws rules room w p finds (NotWritten why) range few sound plays may (λ e. cc e) (λ other e. cc e)
-open_sound laws rules room w p finds (Unfit error) range few sound plays may = settle_open laws rules room w p finds (Unfit error) range few sound plays may (λ e. cc e) (λ other e. cc e)
-open_sound laws rules room w p finds Spent range few sound plays may = settle_open laws rules room w p finds Spent range few sound plays may (λ e. cc e) (λ why e. cc e)
+open_sound laws rules room w p finds Stands range few sound plays may =
+    settle_open laws rules room w p finds Stands range few sound plays may (λ e. cc e) (λ why e. cc e)
+open_sound laws rules room w p finds (NotWritten why) range few sound plays may =
+    settle_open laws rules room w p finds (NotWritten why) range few sound plays may (λ e. cc e) (λ other e. cc e)
+open_sound laws rules room w p finds (Unfit error) range few sound plays may =
+    settle_open laws rules room w p finds (Unfit error) range few sound plays may (λ e. cc e) (λ other e. cc e)
+open_sound laws rules room w p finds Spent range few sound plays may =
+    settle_open laws rules room w p finds Spent range few sound plays may (λ e. cc e) (λ why e. cc e)
 
-mode_opens : (laws : ArePeersLawful) (rules : Rules) (room : ℕ) (w : World) (p : ℕ) (h : Happening) (mode : Mode) → AreInRange rules → room < 2 ^ 64 → IsSound rules room w → IsPlayer rules p
+mode_opens : (laws : ArePeersLawful) (rules : Rules) (room : ℕ) (w : World) (p : ℕ) (h : Happening) (mode : Mode) → AreInRange rules
+    → room < 2 ^ 64 → IsSound rules room w → IsPlayer rules p
     → MayBecome rules room p (found (peer_of w p) h.finds) h.opening → Reaches rules room w (open_at_mode rules room w p h mode).world
 mode_opens laws rules room w p h states.Open range few sound plays may = stays_as rules room w sound
 mode_opens laws rules room w p h Down range few sound plays may = open_sound laws rules room w p h.finds h.opening range few sound plays may
@@ -534,7 +608,8 @@ mode_opens laws rules room w p h Away range few sound plays may = open_sound law
 
 -- ---- any event
 
-given_sound : (laws : ArePeersLawful) (rules : Rules) (room : ℕ) (w : World) (p number : ℕ) (on_disk : DiskOutcome) (o : Option Packet) → AreInRange rules → IsSound rules room w → slice_get w.said number ≡ o → Reaches rules room w (give_to rules w p on_disk o).world
+given_sound : (laws : ArePeersLawful) (rules : Rules) (room : ℕ) (w : World) (p number : ℕ) (on_disk : DiskOutcome) (o : Option Packet)
+    → AreInRange rules → IsSound rules room w → slice_get w.said number ≡ o → Reaches rules room w (give_to rules w p on_disk o).world
 given_sound laws rules room w p number on_disk None range sound e = stays_as rules room w sound
 given_sound laws rules room w p number on_disk (Some packet) range sound e =
     let is_said = sound.said packet (number, e) in
@@ -547,12 +622,15 @@ rows_if : (P : List Row → Type 0) (b : Bool) (x y : List Row) → P x → P y 
 rows_if P true x y one other = one
 rows_if P false x y one other = other
 
-rows_with : (P : List Row → Type 0) (w : World) (watcher other : ℕ) (rows : List Row) → P rows → ((seat : ℕ) → P (rows_of w seat)) → P (rows_of (with_rows w watcher rows) other)
+rows_with : (P : List Row → Type 0) (w : World) (watcher other : ℕ) (rows : List Row) → P rows → ((seat : ℕ) → P (rows_of w seat))
+    → P (rows_of (with_rows w watcher rows) other)
 rows_with P w watcher other rows new old =
-    rows_if P (other == 5) _ _ (rows_if P (watcher == 5) _ _ new (old 5)) (rows_if P (other == 6) _ _ (rows_if P (watcher == 6) _ _ new (old 6)) (old 7))
+    rows_if P (other == 5) _ _ (rows_if P (watcher == 5) _ _ new (old 5))
+        (rows_if P (other == 6) _ _ (rows_if P (watcher == 6) _ _ new (old 6)) (old 7))
 
 -- no datagram is sent and no peer changes, but one watcher has other rows, the beginning of the confirmed ones
-watched_sound : (rules : Rules) (room : ℕ) (w : World) (watcher : ℕ) (rows : List Row) → IsSound rules room w → Begins rows (confirmed_rows (known_by rules w 1)) → Reaches rules room w (with_rows w watcher rows)
+watched_sound : (rules : Rules) (room : ℕ) (w : World) (watcher : ℕ) (rows : List Row) → IsSound rules room w
+    → Begins rows (confirmed_rows (known_by rules w 1)) → Reaches rules room w (with_rows w watcher rows)
 watched_sound rules room w watcher rows sound begins = record {
   sound = record {
     nodes = sound.nodes;
@@ -565,42 +643,51 @@ watched_sound rules room w watcher rows sound begins = record {
 }
 
 -- the rows of a SHOW are in player 1's confirmed rows
-pub shown_stands : (rules : Rules) (J : ℕ → List Record) (packet : Packet) (m : ShowMessage) → packet.message ≡ packets.Show m → IsTold rules J packet (seen_in packet.message) → StandsIn m.start m.rows (confirmed_rows (known_of rules 1 (J 1)))
+pub shown_stands : (rules : Rules) (J : ℕ → List Record) (packet : Packet) (m : ShowMessage) → packet.message ≡ packets.Show m
+    → IsTold rules J packet (seen_in packet.message) → StandsIn m.start m.rows (confirmed_rows (known_of rules 1 (J 1)))
 shown_stands rules J packet m is told =
     let q : ℕ = packet.head.from in
     let by = subst (λ (heard : Option ℕ). IsTold rules J packet heard) (ap seen_in is) told in
-    let shown : IsTrueMessage rules q packet.head.to (J q) (packets.Show m) = subst (λ (message : Message). IsTrueMessage rules q packet.head.to (J q) message) is by.1.message in
+    let shown : IsTrueMessage rules q packet.head.to (J q) (packets.Show m) =
+        subst (λ (message : Message). IsTrueMessage rules q packet.head.to (J q) message) is by.1.message in
     subst (λ (p : ℕ). StandsIn m.start m.rows (confirmed_rows (known_of rules p (J p)))) shown.0 shown.1
 
-heard_sound : (rules : Rules) (room : ℕ) (w : World) (watcher number : ℕ) (o : Option Packet) → IsSound rules room w → slice_get w.said number ≡ o → Reaches rules room w (hear_at rules room w watcher o).world
+heard_sound : (rules : Rules) (room : ℕ) (w : World) (watcher number : ℕ) (o : Option Packet) → IsSound rules room w
+    → slice_get w.said number ≡ o → Reaches rules room w (hear_at rules room w watcher o).world
 heard_sound rules room w watcher number None sound e = stays_as rules room w sound
 heard_sound rules room w watcher number (Some packet) sound e =
-    let shown : ShowsRowsOf (confirmed_rows (known_by rules w 1)) packet = record { stand = λ m is. shown_stands rules (journal_of w) packet m is (sound.said packet (number, e)).told } in
-    watched_sound rules room w watcher _ sound (truth_heard (confirmed_rows (known_by rules w 1)) (watch_of rules room w watcher) packet (sound.watched watcher) shown)
+    let shown : ShowsRowsOf (confirmed_rows (known_by rules w 1)) packet =
+        record { stand = λ m is. shown_stands rules (journal_of w) packet m is (sound.said packet (number, e)).told } in
+    watched_sound rules room w watcher _ sound
+        (truth_heard (confirmed_rows (known_by rules w 1)) (watch_of rules room w watcher) packet (sound.watched watcher) shown)
 
 only_said : (rules : Rules) (J : ℕ → List Record) (packet one : Packet) → IsSaid rules J packet → IsAmong (packet ∷ []) one → IsSaid rules J one
 only_said rules J packet one is (zero, e) = let same : packet ≡ one = cc in subst (λ (x : Packet). IsSaid rules J x) same is
 only_said rules J packet one is (suc n, e) = absurd cc
 
 -- a watcher acknowledges its rows
-told_sound : (rules : Rules) (room : ℕ) (w : World) (packet : Packet) → AreInRange rules → IsSound rules room w → IsSaid rules (journal_of w) packet → Reaches rules room w (record w { said = w.said ++ packet ∷ [] })
+told_sound : (rules : Rules) (room : ℕ) (w : World) (packet : Packet) → AreInRange rules → IsSound rules room w
+    → IsSaid rules (journal_of w) packet → Reaches rules room w (record w { said = w.said ++ packet ∷ [] })
 told_sound rules room w packet range sound is =
     let grown : Grown rules (journal_of w) (journal_of w) = λ q plays. begins_same (journal_of w q) in
     record {
       sound = record {
         nodes = sound.nodes;
         journals = sound.journals;
-        said = λ one among. ⊎_elim (λ old. sound.said one old) (λ now. only_said rules (journal_of w) packet one is now) (among_split w.said (packet ∷ []) one among);
+        said = λ one among. ⊎_elim (λ old. sound.said one old) (λ now. only_said rules (journal_of w) packet one is now)
+            (among_split w.said (packet ∷ []) one among);
         peers = λ p plays. let was = sound.peers p plays in record {
           pending = was.pending;
-          awake = λ up. let awake = was.awake up in awake_later rules room (journal_of w) (journal_of w) w.said (packet ∷ []) p (peer_of w p).memory grown awake.lawful awake;
+          awake = λ up. let awake = was.awake up in
+              awake_later rules room (journal_of w) (journal_of w) w.said (packet ∷ []) p (peer_of w p).memory grown awake.lawful awake;
         };
         watched = sound.watched;
       };
       grown = grown;
     }
 
-seen_said : (rules : Rules) (room : ℕ) (w : World) (watcher : ℕ) → AreInRange rules → room < 2 ^ 64 → IsSound rules room w → is_watcher watcher ≡ true → IsSaid rules (journal_of w) (seen_by_watcher rules room w watcher)
+seen_said : (rules : Rules) (room : ℕ) (w : World) (watcher : ℕ) → AreInRange rules → room < 2 ^ 64 → IsSound rules room w
+    → is_watcher watcher ≡ true → IsSaid rules (journal_of w) (seen_by_watcher rules room w watcher)
 seen_said rules room w watcher range few sound watches =
     let one = player_one rules range in
     let k : KnownValue = known_by rules w 1 in
@@ -618,35 +705,45 @@ seen_said rules room w watcher range few sound watches =
       };
     }
 
-pub acted_sound : (laws : ArePeersLawful) (rules : Rules) (room : ℕ) (w : World) (act : Act) (h : Happening) → AreInRange rules → room < 2 ^ 64 → IsSound rules room w → MayAct rules room w act h → Reaches rules room w (acted rules room w act h).world
+pub acted_sound : (laws : ArePeersLawful) (rules : Rules) (room : ℕ) (w : World) (act : Act) (h : Happening) → AreInRange rules
+    → room < 2 ^ 64 → IsSound rules room w → MayAct rules room w act h → Reaches rules room w (acted rules room w act h).world
 unfolding acted
 acted_sound laws rules room w (Open p) h range few sound may =
-    if_player (λ (a : After). Reaches rules room w a.world) (is_player rules p) _ _ (λ is. mode_opens laws rules room w p h (peer_of w p).mode range few sound (plays_if rules p is) (may is)) (stays_as rules room w sound)
+    if_player (λ (a : After). Reaches rules room w a.world) (is_player rules p) _ _
+        (λ is. mode_opens laws rules room w p h (peer_of w p).mode range few sound (plays_if rules p is) (may is)) (stays_as rules room w sound)
 acted_sound laws rules room w (Tick p keys) h range few sound may = call_sound laws rules room w p (states.Tick keys) h.on_disk range sound may tt
 acted_sound laws rules room w (Say p to what) h range few sound may = call_sound laws rules room w p (states.Say to what) h.on_disk range sound tt tt
-acted_sound laws rules room w (Give number p) h range few sound may = given_sound laws rules room w p number h.on_disk (slice_get w.said number) range sound refl
+acted_sound laws rules room w (Give number p) h range few sound may =
+    given_sound laws rules room w p number h.on_disk (slice_get w.said number) range sound refl
 acted_sound laws rules room w (Leave leaver) h range few sound may = call_sound laws rules room w 1 (states.Leave leaver) h.on_disk range sound tt tt
-acted_sound laws rules room w (Decide leaver) h range few sound may = call_sound laws rules room w 1 (states.Decide leaver) h.on_disk range sound tt tt
+acted_sound laws rules room w (Decide leaver) h range few sound may =
+    call_sound laws rules room w 1 (states.Decide leaver) h.on_disk range sound tt tt
 acted_sound laws rules room w (Check p) h range few sound may = call_sound laws rules room w p states.Checkpoint h.on_disk range sound tt tt
 acted_sound laws rules room w (Show watcher) h range few sound may = call_sound laws rules room w 1 (states.Show watcher) h.on_disk range sound may tt
-acted_sound laws rules room w (Hear number watcher) h range few sound may = heard_sound rules room w watcher number (slice_get w.said number) sound refl
-acted_sound laws rules room w (Seen watcher) h range few sound may = told_sound rules room w (seen_by_watcher rules room w watcher) range sound (seen_said rules room w watcher range few sound may)
-acted_sound laws rules room w (Fresh watcher) h range few sound may = watched_sound rules room w watcher [] sound (record { rest = confirmed_rows (known_by rules w 1); is = refl })
+acted_sound laws rules room w (Hear number watcher) h range few sound may =
+    heard_sound rules room w watcher number (slice_get w.said number) sound refl
+acted_sound laws rules room w (Seen watcher) h range few sound may =
+    told_sound rules room w (seen_by_watcher rules room w watcher) range sound (seen_said rules room w watcher range few sound may)
+acted_sound laws rules room w (Fresh watcher) h range few sound may =
+    watched_sound rules room w watcher [] sound (record { rest = confirmed_rows (known_by rules w 1); is = refl })
 
-pub after_sound : (laws : ArePeersLawful) (rules : Rules) (room : ℕ) (w : World) (event : Event) (h : Happening) → AreInRange rules → room < 2 ^ 64 → IsSound rules room w → MayAct rules room w (act_inside event) h → Reaches rules room w (after rules room w event h).world
+pub after_sound : (laws : ArePeersLawful) (rules : Rules) (room : ℕ) (w : World) (event : Event) (h : Happening) → AreInRange rules
+    → room < 2 ^ 64 → IsSound rules room w → MayAct rules room w (act_inside event) h → Reaches rules room w (after rules room w event h).world
 after_sound laws rules room w (Do act) h range few sound may = acted_sound laws rules room w act h range few sound may
 after_sound laws rules room w (Stop act calls pick) h range few sound may =
     let u : World = (acted rules room w act h).world in
     let one = acted_sound laws rules room w act h range few sound may in
     reaches_more rules room w u (crashed rules u (player_of act) h.leaves) one (crashed_sound rules room u (player_of act) h.leaves range one.sound)
 
-pub event_sound : (laws : ArePeersLawful) (rules : Rules) (room : ℕ) (w v : World) (event : Event) (answer : Answer) → AreInRange rules → room < 2 ^ 64 → IsSound rules room w → CanHappen rules room w event answer v → Reaches rules room w v
+pub event_sound : (laws : ArePeersLawful) (rules : Rules) (room : ℕ) (w v : World) (event : Event) (answer : Answer) → AreInRange rules
+    → room < 2 ^ 64 → IsSound rules room w → CanHappen rules room w event answer v → Reaches rules room w v
 event_sound laws rules room w v event answer range few sound can =
     subst (λ (a : After). Reaches rules room w a.world) can.is (after_sound laws rules room w event can.happening range few sound can.may)
 
 -- ---- any list of events
 
-pub chain_sound : (laws : ArePeersLawful) (rules : Rules) (room : ℕ) (w v : World) (events : List Event) (answers : List Answer) → AreInRange rules → room < 2 ^ 64 → IsSound rules room w → Chain rules room w events answers v → Reaches rules room w v
+pub chain_sound : (laws : ArePeersLawful) (rules : Rules) (room : ℕ) (w v : World) (events : List Event) (answers : List Answer)
+    → AreInRange rules → room < 2 ^ 64 → IsSound rules room w → Chain rules room w events answers v → Reaches rules room w v
 chain_sound laws rules room w v [] [] range few sound chain = subst (λ (x : World). Reaches rules room w x) (sym chain) (stays_as rules room w sound)
 chain_sound laws rules room w v [] (answer ∷ answers) range few sound chain = absurd chain
 chain_sound laws rules room w v (event ∷ events) [] range few sound chain = absurd chain
@@ -660,7 +757,8 @@ pub peer_at_start : (rules : Rules) (p : ℕ) → peer_of (start rules) p ≡ ne
 peer_at_start rules p =
     elim (cases_lt (p - 1) rules.players) [
       | inl within ↦ get_or-replicate rules.players (p - 1) never_opened never_opened within
-      | inr past ↦ get_or_past (replicate rules.players never_opened) (p - 1) never_opened (omega (arith, past, length-replicate rules.players never_opened))
+      | inr past ↦ get_or_past (replicate rules.players never_opened) (p - 1) never_opened
+      (omega (arith, past, length-replicate rules.players never_opened))
     ]
 
 journal_at_start : (rules : Rules) (p : ℕ) → journal_of (start rules) p ≡ []
@@ -687,7 +785,8 @@ start_sound rules room range = record {
     valid = λ p plays. rw (journal_at_start rules p) (journal_none rules p room);
     begins = λ p q plays q_plays. rw (journal_at_start rules p, journal_at_start rules q) (begins_same (held rules q []));
     cuts = λ p L K plays is. absurd (uncut_at_start L K (subst (λ (journal : List Record). cut_of L journal ≡ Some K) (journal_at_start rules p) is));
-    decided = λ L K s is s_plays not_one stays. absurd (uncut_at_start L K (subst (λ (journal : List Record). cut_of L journal ≡ Some K) (journal_at_start rules 1) is));
+    decided = λ L K s is s_plays not_one stays. absurd
+        (uncut_at_start L K (subst (λ (journal : List Record). cut_of L journal ≡ Some K) (journal_at_start rules 1) is));
     frozen = λ s L before rest s_plays e. absurd (no_middle before rest (Freeze L) (sym (journal_at_start rules s) ∙ e));
     checks = λ p plays. subst (HasTrueChecks rules p) (sym (journal_at_start rules p)) (none_true rules p);
   };

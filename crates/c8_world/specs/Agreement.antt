@@ -67,11 +67,13 @@ AreEntered rules earlier later p = (frame q : ℕ) → IsPlayer rules q → fram
 
 -- an undropped player holds no more of a leaver's inputs than player 1's cut
 abbrev pub IsBounded : Rules → World → ℕ → Type 0
-IsBounded rules w p = IsUndropped w p → (leaver K : ℕ) → IsPlayer rules leaver → cut_of leaver (journal_of w 1) ≡ Some K → count rules leaver (journal_of w p) ≤ K
+IsBounded rules w p = IsUndropped w p → (leaver K : ℕ) → IsPlayer rules leaver → cut_of leaver (journal_of w 1) ≡ Some K
+    → count rules leaver (journal_of w p) ≤ K
 
 -- Before player 1 has cut a leaver's list, a player's answer is at least what that player holds of the leaver.
 abbrev pub AreReports : Rules → World → ℕ → Type 0
-AreReports rules w p = ((peer_of w 1).mode ≡ Away → ⊥) → (leaver n : ℕ) → report_of (peer_of w 1).memory.chair leaver p ≡ Some n → cut_of leaver (journal_of w 1) ≡ None
+AreReports rules w p = ((peer_of w 1).mode ≡ Away → ⊥) → (leaver n : ℕ) → report_of (peer_of w 1).memory.chair leaver p ≡ Some n
+    → cut_of leaver (journal_of w 1) ≡ None
     → count rules leaver (journal_of w p) ≤ n
 
 -- if player 1 has cut a leaver's list, each other undropped player has frozen the leaver

@@ -68,7 +68,9 @@ pub record AreArmedOut (events : List asked.Event) (old new : TableValue) : Type
   pub before : List asked.Event
   pub after : List asked.Event
   pub at : events ≡ before ++ after
-  pub armed : AreArmed (arms_in before) old new ⊎ ((event : asked.Event) × (rest : List asked.Event) × (after ≡ event ∷ rest) × AreArmed (λ p. arms_in before p ++ arms_taken_back event p) old new)
+  pub armed : AreArmed (arms_in before) old new
+      ⊎ ((event : asked.Event) × (rest : List asked.Event) × (after ≡ event ∷ rest)
+      × AreArmed (λ p. arms_in before p ++ arms_taken_back event p) old new)
 
 -- the disk of a peer that was never opened: empty, with this capacity and this many calls to serve
 abbrev pub IsNewDisk : ℕ → ℕ → Option Node → Type 0

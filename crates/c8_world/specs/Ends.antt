@@ -60,12 +60,14 @@ HasStayedAt standings place = (first : Standing) → slice_get standings 0 ≡ S
 -- all of them, player 1's first
 pub record AreStandings (t : TableValue) (w : World) (standings : List Standing) : Type 0 where
   pub size : length standings ≡ t.rules.players
-  pub each : (p : ℕ) (other : Standing) → IsPlayer t.rules p → IsStanding t.rules p (peer_of w p) (node_of t p) (slice_index_or standings (p - 1) other)
+  pub each : (p : ℕ) (other : Standing) → IsPlayer t.rules p
+      → IsStanding t.rules p (peer_of w p) (node_of t p) (slice_index_or standings (p - 1) other)
 
 -- two of them have the same rows, unless player 1 has dropped one of them
 abbrev pub AgreesWith : List Standing → ℕ → ℕ → Type 0
 AgreesWith standings i j =
-    HasStayedAt standings i → HasStayedAt standings j → (one other : Standing) → slice_get standings i ≡ Some one → slice_get standings j ≡ Some other → AreSameRows (known_at one) (known_at other)
+    HasStayedAt standings i → HasStayedAt standings j → (one other : Standing) → slice_get standings i ≡ Some one
+        → slice_get standings j ≡ Some other → AreSameRows (known_at one) (known_at other)
 
 abbrev pub AgreesWithAll : List Standing → ℕ → Type 0
 AgreesWithAll standings i = (j : ℕ) → j < length standings → AgreesWith standings i j

@@ -12,7 +12,8 @@ use Rattle.c8_spectator.specs.declared.error.WatchError.TheVariants as watches
 use Rattle.c8_refusals.specs.declared.error.Refused.TheVariants.{BadAck, Desync, Known}
 use Rattle.c8_peer.specs.TrueChecks.{HasTrueChecks}
 use Rattle.c8_world.specs.World.{World, journal_of, Open, Give, Hear, Do, Answer, Watched, CanHappen}
-use Rattle.c8_world.specs.Agreement.{IsPlayer, IsUndropped, Agree, AreEntered, IsBounded, AreReports, HasFrozen, IsAmong, IsTrueSaid, HasTrueRows, AreLinked, refused_for, IsFit}
+use Rattle.c8_world.specs.Agreement.{IsPlayer, IsUndropped, Agree, AreEntered, IsBounded, AreReports, HasFrozen, IsAmong, IsTrueSaid,
+  HasTrueRows, AreLinked, refused_for, IsFit}
 
 -- What holds for two moments.
 --
@@ -43,11 +44,14 @@ pub record IsHeadline (rules : Rules) (room : ℕ) (earlier later : World) : Typ
   pub bounded : (p : ℕ) → IsPlayer rules p → IsBounded rules later p
   pub reports : (p : ℕ) → IsPlayer rules p → AreReports rules later p
   pub frozen : (p : ℕ) → IsPlayer rules p → HasFrozen later p
-  pub known : (p number : ℕ) (answer : Answer) (v : World) → IsUndropped later p → CanHappen rules room later (Do (Give number p)) answer v → answer ≢ refused_for (Known Differs)
-  pub marks : (p number : ℕ) (packet : Packet) (answer : Answer) (v : World) → IsUndropped later p → slice_get later.said number ≡ Some packet → IsUndropped later packet.head.from
+  pub known : (p number : ℕ) (answer : Answer) (v : World) → IsUndropped later p → CanHappen rules room later (Do (Give number p)) answer v
+      → answer ≢ refused_for (Known Differs)
+  pub marks : (p number : ℕ) (packet : Packet) (answer : Answer) (v : World) → IsUndropped later p
+      → slice_get later.said number ≡ Some packet → IsUndropped later packet.head.from
       → CanHappen rules room later (Do (Give number p)) answer v → answer ≢ refused_for Desync
   pub acks : (p number : ℕ) (answer : Answer) (v : World) → CanHappen rules room later (Do (Give number p)) answer v → answer ≢ refused_for BadAck
   pub checks : (p : ℕ) → IsPlayer rules p → HasTrueChecks rules p (journal_of later p)
   pub watched : (watcher : ℕ) → HasTrueRows rules later watcher
-  pub differs : (watcher number : ℕ) (answer : Answer) (v : World) → CanHappen rules room later (Do (Hear number watcher)) answer v → answer ≢ Watched (Err (Watch watches.Differs))
+  pub differs : (watcher number : ℕ) (answer : Answer) (v : World) → CanHappen rules room later (Do (Hear number watcher)) answer v
+      → answer ≢ Watched (Err (Watch watches.Differs))
   pub fit : (p : ℕ) (answer : Answer) (v : World) → IsPlayer rules p → CanHappen rules room later (Do (Open p)) answer v → IsFit answer

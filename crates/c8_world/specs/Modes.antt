@@ -55,4 +55,5 @@ abbrev pub reported_by : ℕ → Mode → List asked.Event → List codes.Answer
 reported_by p mode [] [] = mode
 reported_by p mode [] (answer ∷ told) = mode
 reported_by p mode (event ∷ events) [] = mode
-reported_by p mode (event ∷ events) (answer ∷ told) = reported_by p (if player_of (act_inside (event_of event)) == p then mode_reported mode answer else mode) events told
+reported_by p mode (event ∷ events) (answer ∷ told) =
+    reported_by p (if player_of (act_inside (event_of event)) == p then mode_reported mode answer else mode) events told

@@ -20,7 +20,8 @@ RunsBy P rules room w [] [] v = v ≡ w
 RunsBy P rules room w [] (answer ∷ answers) v = ⊥
 RunsBy P rules room w (event ∷ events) [] v = ⊥
 RunsBy P rules room w (event ∷ events) (answer ∷ answers) v =
-    (told : Answer) × (u : World) × (can : CanHappen rules room w (event_of event) told u) × P can.happening × (answer ≡ reported rules (player_of (act_inside (event_of event))) u told)
+    (told : Answer) × (u : World) × (can : CanHappen rules room w (event_of event) told u) × P can.happening
+        × (answer ≡ reported rules (player_of (act_inside (event_of event))) u told)
     × RunsBy P rules room u events answers v
 
 -- the same without a property
@@ -71,7 +72,8 @@ pub record HasRunOut (old : TableValue) (w : World) (events : List asked.Event) 
 abbrev pub IsAdded : asked.Event → List asked.Event → List codes.Answer → Type 0
 IsAdded event more told =
     (((p : ℕ) → act_inside (event_of event) ≢ Open p) × (more ≡ []) × (told ≡ []))
-    ⊎ ((player : Player) × (act_inside (event_of event) ≡ Open player.number) × (more ≡ happenings.Do (acts.Open player) ∷ []) × (told ≡ answers.Opened (Err opens.Memory) ∷ []))
+    ⊎ ((player : Player) × (act_inside (event_of event) ≡ Open player.number) × (more ≡ happenings.Do (acts.Open player) ∷ [])
+    × (told ≡ answers.Opened (Err opens.Memory) ∷ []))
 
 -- Memory was refused at an event of a life.
 pub record IsRefusedMemory (event : asked.Event) (old new : WorldValue) : Type 0 where
@@ -89,7 +91,8 @@ pub record HasLivedOn (old : WorldValue) (events : List asked.Event) (told : Lis
   pub at : events ≡ before ++ after
   pub more : List asked.Event
   pub told_more : List codes.Answer
-  pub refused : ((before ≡ []) × (more ≡ []) × (told_more ≡ [])) ⊎ ((event : asked.Event) × (rest : List asked.Event) × (after ≡ event ∷ rest) × IsAdded event more told_more)
+  pub refused : ((before ≡ []) × (more ≡ []) × (told_more ≡ []))
+      ⊎ ((event : asked.Event) × (rest : List asked.Event) × (after ≡ event ∷ rest) × IsAdded event more told_more)
   pub events_are : new.events ≡ old.events ++ before ++ more
   pub answers_are : new.answers ≡ old.answers ++ told ++ told_more
 

@@ -33,7 +33,8 @@ pub record IsDiskCrash (pick : ℕ) (old new : MemDisk) : Type 0 where
   pub image : images_of old (bytes_of new)
   pub synced : pick ≡ 0 → bytes_of new ≡ synced_of old
   pub read : pick ≡ 1 → bytes_of new ≡ bytes_of old
-  pub value : value_of new ≡ record (value_of old) { bytes = bytes_of new; first = bytes_of new; calls = []; left = calls_allowed old; arm = arms.Off }
+  pub value : value_of new ≡ record (value_of old)
+      { bytes = bytes_of new; first = bytes_of new; calls = []; left = calls_allowed old; arm = arms.Off }
 
 -- ---- a node
 
@@ -74,7 +75,8 @@ answer_of (Some result) = answers.Opened result
 -- What an opening with this answer does to a node, as the contract of the opening says.
 abbrev pub IsOpenedAt : Rules → ℕ → ℕ → codes.Answer → Node → Node → Type 0
 IsOpenedAt rules room p answers.Up old new = new ≡ old
-IsOpenedAt rules room p (answers.Opened (Ok number)) old (nodes.Held peer) = IsOpened ghosts (disk_in old) rules room p peer × (number ≡ epoch peer.state.journal)
+IsOpenedAt rules room p (answers.Opened (Ok number)) old (nodes.Held peer) =
+    IsOpened ghosts (disk_in old) rules room p peer × (number ≡ epoch peer.state.journal)
 IsOpenedAt rules room p (answers.Opened (Ok number)) old (nodes.Away disk) = ⊥
 IsOpenedAt rules room p (answers.Opened (Err error)) old (nodes.Held peer) = ⊥
 IsOpenedAt rules room p (answers.Opened (Err error)) old (nodes.Away disk) = IsRefusedOpening ghosts (disk_in old) rules room p error disk

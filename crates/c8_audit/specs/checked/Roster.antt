@@ -31,13 +31,15 @@ clash_of (Some a) (Some b) n = if a.room == n.room then Some (SamePlayer b n) el
 
 -- The first file with a journal, the journals by player, and a mismatch, after the first files were read. While no
 -- mismatch was found, all of these files name one room, and each the player whose journal it gave.
-pub record IsRoster (rules : Rules) (files : List Twice) (end : ℕ) (journals : List (Option Journal)) (first : Option Named) (mismatch : Option Mismatch) : Type 0 where
+pub record IsRoster (rules : Rules) (files : List Twice) (end : ℕ) (journals : List (Option Journal)) (first : Option Named)
+    (mismatch : Option Mismatch) : Type 0 where
   pub nobody : first ≡ None → (n : Named) → n.place < end → Names rules files n → ⊥
   pub somebody : (a : Named) → first ≡ Some a → Names rules files a × (a.place < end)
   pub seats : (p : ℕ) (a : Named) → 1 ≤ p → all_named journals p ≡ Some a → Names rules files a × (a.place < end) × (a.player.number ≡ p)
   pub clash : (why : Mismatch) → mismatch ≡ Some why → IsMismatch rules files why
   pub rooms : mismatch ≡ None → (a n : Named) → first ≡ Some a → n.place < end → Names rules files n → n.room ≡ a.room
-  pub players : mismatch ≡ None → (n : Named) → n.place < end → Names rules files n → (a : Named) × (all_named journals n.player.number ≡ Some a) × (a.place ≡ n.place)
+  pub players : mismatch ≡ None → (n : Named) → n.place < end → Names rules files n
+      → (a : Named) × (all_named journals n.player.number ≡ Some a) × (a.place ≡ n.place)
 
 -- what is gathered of the first files
 pub record IsSorted (rules : Rules) (files : List Twice) (end : ℕ) (g : Gathered) : Type 0 where

@@ -11,6 +11,7 @@ unfolding opened_since
 opened_more_since c before [] r = refl
 opened_more_since c before (s ∷ journal) r = opened_more_since (with_check c s) (opened_at c before s) journal r
 
-pub opened_more : (journal : List Record) (r : Record) → opened_since no_checks None (journal ++ r ∷ []) ≡ opened_at (checks_of journal) (opened_since no_checks None journal) r
+pub opened_more : (journal : List Record) (r : Record)
+    → opened_since no_checks None (journal ++ r ∷ []) ≡ opened_at (checks_of journal) (opened_since no_checks None journal) r
 unfolding checks_of
 opened_more journal r = opened_more_since no_checks None journal r

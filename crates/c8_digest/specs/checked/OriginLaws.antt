@@ -39,7 +39,8 @@ mark_is_one frame s = record {
 }
 
 -- 128 bytes read as marks give marks as they are kept
-pub marks_read : (frames : ℕ) (bytes : List ℕ) → length bytes ≡ 128 → ((i : ℕ) → slice_index bytes i < 2 ^ 8) → AreMarksAfter frames (marks_in frames bytes)
+pub marks_read : (frames : ℕ) (bytes : List ℕ) → length bytes ≡ 128 → ((i : ℕ) → slice_index bytes i < 2 ^ 8)
+    → AreMarksAfter frames (marks_in frames bytes)
 unfolding marks_in
 marks_read frames bytes long low =
     let one : ℕ → FrameMark = λ k. record { frame = 32 * (forgotten_after frames + k); mark = take 8 (drop (8 * k) bytes) } in
@@ -48,7 +49,8 @@ marks_read frames bytes long low =
       count = many;
       each = λ k m there.
           let within : k < marks_after frames = omega (arith, many, slice_get_within (map one (range_with_len 0 (marks_after frames))) k m there) in
-          let is : one k ≡ m = sym (get_or-map-range_with_len one 0 (marks_after frames) k k m within (omega arith)) ∙ get_or_from_slice_get (map one (range_with_len 0 (marks_after frames))) k m m there in
+          let is : one k ≡ m = sym (get_or-map-range_with_len one 0 (marks_after frames) k k m within (omega arith))
+              ∙ get_or_from_slice_get (map one (range_with_len 0 (marks_after frames))) k m m there in
           subst (IsMarkAt (32 * (forgotten_after frames + k))) is (record {
             frame_is = refl;
             long = omega (arith, length-take 8 (drop (8 * k) bytes), length-drop (8 * k) bytes, long, within);
@@ -58,8 +60,10 @@ marks_read frames bytes long low =
 
 -- ---- before the first frame
 
-first_mark : (rules : Rules) (k : ℕ) (m : FrameMark) → slice_get (record { frame = 0; mark = mark_of (first_state rules) } ∷ []) k ≡ Some m → IsMarkAt (32 * (forgotten_after 0 + k)) m
-first_mark rules zero m there = let is : record { frame = 0; mark = mark_of (first_state rules) } ≡ m = cc in subst (IsMarkAt 0) is (mark_is_one 0 (first_state rules))
+first_mark : (rules : Rules) (k : ℕ) (m : FrameMark) → slice_get (record { frame = 0; mark = mark_of (first_state rules) } ∷ []) k ≡ Some m
+    → IsMarkAt (32 * (forgotten_after 0 + k)) m
+first_mark rules zero m there = let is : record { frame = 0; mark = mark_of (first_state rules) } ≡ m = cc in
+    subst (IsMarkAt 0) is (mark_is_one 0 (first_state rules))
 first_mark rules (suc k) m there = absurd cc
 
 pub first_is : (rules : Rules) → AreInRange rules → IsOrigin (first_origin rules)

@@ -7,16 +7,19 @@ use Rattle.c8_disk.specs.declared.disk.Disk.{Ghosts}
 
 module _ {D : Type 0} (g : Ghosts D) where
   -- nothing is done, and each image that a crash now leaves has P
-  pub nothing_done : (disk : D) (P : List ℕ → Type 0) → ((image : List ℕ) → g.left_since disk (g.moment disk) image → P image) → LeavesOnly g disk disk P
+  pub nothing_done : (disk : D) (P : List ℕ → Type 0) → ((image : List ℕ) → g.left_since disk (g.moment disk) image → P image)
+      → LeavesOnly g disk disk P
   nothing_done disk P here = record { later = omega arith; each = here; before = λ t image le left. inl left }
 
   -- one more call, after which a crash leaves an image with P
   pub one_call_more : (old mid new : D) (P : List ℕ → Type 0) → LeavesOnly g old mid P
-      → Elapses (g.moment mid) (g.moment new) (g.left_since mid) (g.left_since new) (g.may_leave new) → ((image : List ℕ) → g.may_leave new image → P image) → LeavesOnly g old new P
+      → Elapses (g.moment mid) (g.moment new) (g.left_since mid) (g.left_since new) (g.may_leave new)
+      → ((image : List ℕ) → g.may_leave new image → P image) → LeavesOnly g old new P
   one_call_more old mid new P so_far time here = record {
     later = omega (arith, so_far.later, time.later);
     each = λ image left. ⊎_elim (so_far.each image) (here image) (time.nothing_else (g.moment old) image so_far.later left);
-    before = λ t image le left. ⊎_elim (so_far.before t image le) (λ now. inr (here image now)) (time.nothing_else t image (omega (arith, le, so_far.later)) left);
+    before = λ t image le left. ⊎_elim (so_far.before t image le) (λ now. inr (here image now))
+        (time.nothing_else t image (omega (arith, le, so_far.later)) left);
   }
 
   -- a property P that implies Q
@@ -36,7 +39,8 @@ module _ {D : Type 0} (g : Ghosts D) where
   }
 
   -- what holds for all images since an earlier moment also holds through a run
-  pub since_earlier : (old new : D) (P : List ℕ → Type 0) (t : ℕ) → t ≤ g.moment old → ((image : List ℕ) → g.left_since old t image → P image) → LeavesOnly g old new P
+  pub since_earlier : (old new : D) (P : List ℕ → Type 0) (t : ℕ) → t ≤ g.moment old
+      → ((image : List ℕ) → g.left_since old t image → P image) → LeavesOnly g old new P
       → (image : List ℕ) → g.left_since new t image → P image
   since_earlier old new P t le so_far run image left = ⊎_elim (so_far image) (λ p. p) (run.before t image le left)
 

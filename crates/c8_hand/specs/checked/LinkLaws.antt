@@ -1,5 +1,6 @@
 -- Checked, not believed: what is admitted, and what an admitted datagram changes.
-use Rattle.std.proofs.Common.{◌≡◌, ◌≢◌, ℕ, zero, suc, ◌<◌, ◌≤◌, ◌⊎◌, Bool, true, false, cond, Option, Some, None, refl, sym, ap, subst, ◌∙◌, inl, inr, arith}
+use Rattle.std.proofs.Common.{◌≡◌, ◌≢◌, ℕ, zero, suc, ◌<◌, ◌≤◌, ◌⊎◌, Bool, true, false, cond, Option, Some, None, refl, sym, ap, subst, ◌∙◌,
+  inl, inr, arith}
 use Rattle.std.specs.Prelude.{◌==◌, not, if◌then◌else◌}
 use Rattle.std.proofs.lemmas.Bool.{cases_lt, cases_eq, eqb-true, ne_eqb, both_ways, lt-ltb, le-ltb}
 use Rattle.std.proofs.lemmas.Bool.Decides.{nat_tests}
@@ -7,7 +8,8 @@ use Rattle.c8_wire.specs.declared.kinds.DatagramKind.{DatagramKind}
 use Rattle.c8_wire.specs.declared.kinds.DatagramKind.TheVariants as kinds
 use Rattle.c8_wire.specs.Packet.{HeadValue}
 use Rattle.c8_hand.specs.declared.error.HandError.TheVariants as errors
-use Rattle.c8_hand.specs.Links.{LinkValue, LinksValue, no_link, link_to, with_link, is_mine, refusal, refusal_of_seen, refusal_as, admission, refusal_by_kind, refusal_of_welcome, refusal_of_others, link_after, heard, IsForMe, NamesBoth, IsWelcomeOf, OpensByWelcome}
+use Rattle.c8_hand.specs.Links.{LinkValue, LinksValue, no_link, link_to, with_link, is_mine, refusal, refusal_of_seen, refusal_as,
+  admission, refusal_by_kind, refusal_of_welcome, refusal_of_others, link_after, heard, IsForMe, NamesBoth, IsWelcomeOf, OpensByWelcome}
 
 -- ---- one link changes
 
@@ -30,12 +32,14 @@ own_link l (suc (suc (suc (suc (suc n))))) player to same = absurd (omega arith)
 -- there is no link to a fifth player
 pub link_past : (l : LinksValue) (player : ℕ) → 4 < player → link_to l player ≡ no_link
 link_past l player past =
-    rw (ne_eqb player 1 (λ e. omega arith), ne_eqb player 2 (λ e. omega arith), ne_eqb player 3 (λ e. omega arith), ne_eqb player 4 (λ e. omega arith)) refl
+    rw (ne_eqb player 1 (λ e. omega arith), ne_eqb player 2 (λ e. omega arith), ne_eqb player 3 (λ e. omega arith),
+        ne_eqb player 4 (λ e. omega arith)) refl
 
 unless : (player place : ℕ) (link old : LinkValue) → (place ≡ player → ⊥) → (if player == place then link else old) ≡ old
 unless player place link old other = rw (ne_eqb player place (λ e. other (sym e))) refl
 
-pub link_other : (l : LinksValue) (player : ℕ) (link : LinkValue) (other : ℕ) → (other ≡ player → ⊥) → link_to (with_link l player link) other ≡ link_to l other
+pub link_other : (l : LinksValue) (player : ℕ) (link : LinkValue) (other : ℕ) → (other ≡ player → ⊥)
+    → link_to (with_link l player link) other ≡ link_to l other
 link_other l player link zero apart = refl
 link_other l player link (suc zero) apart = unless player 1 link l.one apart
 link_other l player link (suc (suc zero)) apart = unless player 2 link l.two apart
@@ -105,9 +109,11 @@ record IsLinked (link : LinkValue) (own theirs mine : ℕ) : Type 0 where
   is_open : link.is_open ≡ true
 
 linked : (link : LinkValue) (own theirs mine : ℕ) → refusal_of_others link own theirs mine ≡ None → IsLinked link own theirs mine
-linked link own theirs mine none = let judged = none in record { known = grind (arith, nat_tests); own_epoch = grind (arith, nat_tests); is_open = grind (arith, nat_tests) }
+linked link own theirs mine none = let judged = none in
+    record { known = grind (arith, nat_tests); own_epoch = grind (arith, nat_tests); is_open = grind (arith, nat_tests) }
 
-linked_by_kind : (kind : DatagramKind) (link : LinkValue) (own theirs mine : ℕ) → refusal_by_kind kind link own theirs mine ≡ None → kind ≢ kinds.Hello → kind ≢ kinds.Welcome → IsLinked link own theirs mine
+linked_by_kind : (kind : DatagramKind) (link : LinkValue) (own theirs mine : ℕ) → refusal_by_kind kind link own theirs mine ≡ None
+    → kind ≢ kinds.Hello → kind ≢ kinds.Welcome → IsLinked link own theirs mine
 linked_by_kind kinds.Hello link own theirs mine none hello welcome = absurd (hello refl)
 linked_by_kind kinds.Welcome link own theirs mine none hello welcome = absurd (welcome refl)
 linked_by_kind kinds.Data link own theirs mine none hello welcome = linked link own theirs mine none
@@ -118,12 +124,15 @@ linked_by_kind kinds.Show link own theirs mine none hello welcome = absurd cc
 linked_by_kind kinds.Seen link own theirs mine none hello welcome = absurd cc
 
 -- no SHOW and no SEEN is admitted as a player's
-among_players : (kind : DatagramKind) (link : LinkValue) (own theirs mine : ℕ) → refusal_by_kind kind link own theirs mine ≡ None → (kind ≢ kinds.Show) × (kind ≢ kinds.Seen)
+among_players : (kind : DatagramKind) (link : LinkValue) (own theirs mine : ℕ) → refusal_by_kind kind link own theirs mine ≡ None
+    → (kind ≢ kinds.Show) × (kind ≢ kinds.Seen)
 among_players kind link own theirs mine none =
-    (λ is. let never = ap (λ (k : DatagramKind). refusal_by_kind k link own theirs mine) (sym is) ∙ none in absurd cc, λ is. let never = ap (λ (k : DatagramKind). refusal_by_kind k link own theirs mine) (sym is) ∙ none in absurd cc)
+    (λ is. let never = ap (λ (k : DatagramKind). refusal_by_kind k link own theirs mine) (sym is) ∙ none in absurd cc,
+        λ is. let never = ap (λ (k : DatagramKind). refusal_by_kind k link own theirs mine) (sym is) ∙ none in absurd cc)
 
 pub admitted_players : (l : LinksValue) (head : HeadValue) → refusal l head ≡ None → (head.kind ≢ kinds.Show) × (head.kind ≢ kinds.Seen)
-admitted_players l head none = among_players head.kind (link_to l head.from) l.epoch head.sender_epoch head.addressee_epoch (admitted l head none).by_kind
+admitted_players l head none = among_players head.kind (link_to l head.from) l.epoch head.sender_epoch head.addressee_epoch
+    (admitted l head none).by_kind
 
 pub admitted_welcome : (l : LinksValue) (head : HeadValue) → refusal l head ≡ None → head.kind ≡ kinds.Welcome → head.addressee_epoch ≡ l.epoch
 admitted_welcome l head none kind =
@@ -131,15 +140,18 @@ admitted_welcome l head none kind =
     welcomed link l.epoch head.sender_epoch head.addressee_epoch
     (ap (λ (k : DatagramKind). refusal_by_kind k link l.epoch head.sender_epoch head.addressee_epoch) (sym kind) ∙ (admitted l head none).by_kind)
 
-admitted_linked : (l : LinksValue) (head : HeadValue) → refusal l head ≡ None → head.kind ≢ kinds.Hello → head.kind ≢ kinds.Welcome → IsLinked (link_to l head.from) l.epoch head.sender_epoch head.addressee_epoch
-admitted_linked l head none hello welcome = linked_by_kind head.kind (link_to l head.from) l.epoch head.sender_epoch head.addressee_epoch (admitted l head none).by_kind hello welcome
+admitted_linked : (l : LinksValue) (head : HeadValue) → refusal l head ≡ None → head.kind ≢ kinds.Hello → head.kind ≢ kinds.Welcome
+    → IsLinked (link_to l head.from) l.epoch head.sender_epoch head.addressee_epoch
+admitted_linked l head none hello welcome =
+    linked_by_kind head.kind (link_to l head.from) l.epoch head.sender_epoch head.addressee_epoch (admitted l head none).by_kind hello welcome
 
 pub names_both : (l : LinksValue) (head : HeadValue) → refusal l head ≡ None → head.kind ≢ kinds.Hello → head.kind ≢ kinds.Welcome → NamesBoth l head
 names_both l head none hello welcome =
     let is = admitted_linked l head none hello welcome in
     record { theirs = is.known; mine = is.own_epoch }
 
-pub comes_by_link : (l : LinksValue) (head : HeadValue) → refusal l head ≡ None → head.kind ≢ kinds.Hello → head.kind ≢ kinds.Welcome → (link_to l head.from).is_open ≡ true
+pub comes_by_link : (l : LinksValue) (head : HeadValue) → refusal l head ≡ None → head.kind ≢ kinds.Hello → head.kind ≢ kinds.Welcome
+    → (link_to l head.from).is_open ≡ true
 comes_by_link l head none hello welcome = (admitted_linked l head none hello welcome).is_open
 
 -- how each kind is judged
@@ -202,7 +214,8 @@ seen_changes_none l head player seen =
 
 -- ---- only a WELCOME opens a link
 
-pub sender_link : (l : LinksValue) (head : HeadValue) → 1 ≤ head.from → head.from ≤ 4 → link_to (heard l head) head.from ≡ link_after head.kind (link_to l head.from) head.sender_epoch
+pub sender_link : (l : LinksValue) (head : HeadValue) → 1 ≤ head.from → head.from ≤ 4
+    → link_to (heard l head) head.from ≡ link_after head.kind (link_to l head.from) head.sender_epoch
 sender_link l head from to = link_with l head.from (link_after head.kind (link_to l head.from) head.sender_epoch) from to
 
 pub other_link : (l : LinksValue) (head : HeadValue) (player : ℕ) → player ≢ head.from → link_to (heard l head) player ≡ link_to l player
@@ -225,7 +238,8 @@ opened kinds.Show link theirs was = inl refl
 opened kinds.Seen link theirs was = inl refl
 
 -- the link to the sender, if it has one
-sender_opens : (l : LinksValue) (head : HeadValue) → refusal l head ≡ None → 1 ≤ head.from → head.from ≤ 4 → (link_to (heard l head) head.from).is_open ≡ true
+sender_opens : (l : LinksValue) (head : HeadValue) → refusal l head ≡ None → 1 ≤ head.from → head.from ≤ 4
+    → (link_to (heard l head) head.from).is_open ≡ true
     → (link_to (heard l head) head.from ≡ link_to l head.from) ⊎ IsWelcomeOf (heard l head) head.from head
 sender_opens l head none from to was =
     let new = sender_link l head from to in
@@ -251,7 +265,8 @@ player_opens l head none player was =
         | inr to ↦
             let here : (link_to (heard l head) head.from).is_open ≡ true = ap (λ (p : ℕ). (link_to (heard l head) p).is_open) (sym same) ∙ was in
             let from = (is_for_me l head none).from_one in
-            subst (λ (p : ℕ). (link_to (heard l head) p ≡ link_to l p) ⊎ IsWelcomeOf (heard l head) p head) (sym same) (sender_opens l head none from to here)
+            subst (λ (p : ℕ). (link_to (heard l head) p ≡ link_to l p) ⊎ IsWelcomeOf (heard l head) p head) (sym same)
+                (sender_opens l head none from to here)
       ]
       | inr other ↦ inl (other_link l head player other)
     ]
@@ -265,7 +280,8 @@ opens_by_welcome l head none player was =
 
 -- ---- a known epoch never falls
 
-not_below : (kind : DatagramKind) (link : LinkValue) (own theirs mine : ℕ) → refusal_by_kind kind link own theirs mine ≡ None → link.known ≤ (link_after kind link theirs).known
+not_below : (kind : DatagramKind) (link : LinkValue) (own theirs mine : ℕ) → refusal_by_kind kind link own theirs mine ≡ None
+    → link.known ≤ (link_after kind link theirs).known
 not_below kinds.Hello link own theirs mine none =
     elim (cases_lt link.known theirs) [
       | inl later ↦ rw (lt-ltb link.known theirs later) (omega arith)
@@ -279,11 +295,13 @@ not_below kinds.Cut link own theirs mine none = omega arith
 not_below kinds.Show link own theirs mine none = omega arith
 not_below kinds.Seen link own theirs mine none = omega arith
 
-player_rises : (l : LinksValue) (head : HeadValue) (player : ℕ) → refusal l head ≡ None → (link_to l player).known ≤ (link_to (heard l head) player).known
+player_rises : (l : LinksValue) (head : HeadValue) (player : ℕ) → refusal l head ≡ None
+    → (link_to l player).known ≤ (link_to (heard l head) player).known
 player_rises l head player none =
     elim (cases_eq player head.from) [
       | inl same ↦ elim (cases_lt 4 head.from) [
-        | inl past ↦ omega (arith, ap (λ (link : LinkValue). link.known) (link_past (heard l head) player (omega arith)), ap (λ (link : LinkValue). link.known) (link_past l player (omega arith)))
+        | inl past ↦ omega (arith, ap (λ (link : LinkValue). link.known) (link_past (heard l head) player (omega arith)),
+        ap (λ (link : LinkValue). link.known) (link_past l player (omega arith)))
         | inr to ↦
             let new = ap (λ (link : LinkValue). link.known) (sender_link l head (is_for_me l head none).from_one to) in
             let rises = not_below head.kind (link_to l head.from) l.epoch head.sender_epoch head.addressee_epoch (admitted l head none).by_kind in
@@ -292,7 +310,8 @@ player_rises l head player none =
       | inr other ↦ omega (arith, ap (λ (link : LinkValue). link.known) (other_link l head player other))
     ]
 
-pub known_rises : (l : LinksValue) (head : HeadValue) (player : ℕ) → admission l head ≡ None → (link_to l player).known ≤ (link_to (heard l head) player).known
+pub known_rises : (l : LinksValue) (head : HeadValue) (player : ℕ) → admission l head ≡ None
+    → (link_to l player).known ≤ (link_to (heard l head) player).known
 known_rises l head player none =
     elim (seen_or_player l head none) [
       | inl seen ↦ omega (arith, ap (λ (link : LinkValue). link.known) (seen_changes_none l head player seen))

@@ -1,6 +1,7 @@
 -- Checked, not believed: when two lists differ, why a run is refused, and that a run that is not refused is in the list
 -- after its fresh part is taken.
-use Rattle.std.proofs.Common.{◌≡◌, ◌≢◌, ℕ, zero, suc, ◌+◌, ◌-◌, ◌≤◌, ◌||◌, List, [], ◌∷◌, ◌++◌, length, take, drop, Bool, true, false, not, cond, Option, Some, None, refl, sym, ap, ◌∙◌, inl, inr, arith}
+use Rattle.std.proofs.Common.{◌≡◌, ◌≢◌, ℕ, zero, suc, ◌+◌, ◌-◌, ◌≤◌, ◌||◌, List, [], ◌∷◌, ◌++◌, length, take, drop, Bool, true, false, not,
+  cond, Option, Some, None, refl, sym, ap, ◌∙◌, inl, inr, arith}
 use Rattle.std.specs.Prelude.{◌==◌, nat_lt}
 use Rattle.std.proofs.Math.Seq.{take-length}
 use Rattle.std.proofs.lemmas.Bool.{cases_eq, both_ways, eq-eqb, ne_eqb, ltb-false}
@@ -73,7 +74,8 @@ not_at_first : (test : Bool) (x : KnownError) (others : Option KnownError) → t
 not_at_first test x others fails = rw fails refl
 
 -- a run that is not refused fits what is held
-pub misfit_none : (k : KnownValue) (player teller start : ℕ) (words : List ℕ) → refusal k player teller start words ≡ None → misfit k player start words ≡ None
+pub misfit_none : (k : KnownValue) (player teller start : ℕ) (words : List ℕ) → refusal k player teller start words ≡ None
+    → misfit k player start words ≡ None
 unfolding refusal
 misfit_none k player teller start words none = (none_past (is_from_leaver k player teller) errors.FromLeaver (misfit k player start words) none).1
 

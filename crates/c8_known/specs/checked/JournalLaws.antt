@@ -10,9 +10,11 @@ use Rattle.c8_game.specs.Rules.{Rules}
 use Rattle.c8_known.specs.Journal.{Record, words_of, freezes, lets_go, cuts_of, epochs_of, held, epochs, had_epoch, has_freeze, has_leave, cut_of}
 use Rattle.c8_known.specs.Growth.{Begins}
 
-pub held_more : (rules : Rules) (q : ℕ) (journal more : List Record) → held rules q (journal ++ more) ≡ held rules q journal ++ flat_map (words_of q) more
+pub held_more : (rules : Rules) (q : ℕ) (journal more : List Record)
+    → held rules q (journal ++ more) ≡ held rules q journal ++ flat_map (words_of q) more
 unfolding held
-held_more rules q journal more = rw (flat_map-append (words_of q) journal more) (sym (append_assoc _ (flat_map (words_of q) journal) (flat_map (words_of q) more)))
+held_more rules q journal more = rw (flat_map-append (words_of q) journal more)
+    (sym (append_assoc _ (flat_map (words_of q) journal) (flat_map (words_of q) more)))
 
 pub held_next : (rules : Rules) (q : ℕ) (journal : List Record) (r : Record) → held rules q (journal ++ r ∷ []) ≡ held rules q journal ++ words_of q r
 held_next rules q journal r = held_more rules q journal (r ∷ []) ∙ ap (λ (words : List ℕ). held rules q journal ++ words) (append-nil (words_of q r))
@@ -64,15 +66,19 @@ first_of (x ∷ xs) ys K is = is
 
 pub cut_stays : (q K : ℕ) (journal more : List Record) → cut_of q journal ≡ Some K → cut_of q (journal ++ more) ≡ Some K
 unfolding cut_of
-cut_stays q K journal more is = rw (flat_map-append (cuts_of q) journal more) (first_of (flat_map (cuts_of q) journal) (flat_map (cuts_of q) more) K is)
+cut_stays q K journal more is = rw (flat_map-append (cuts_of q) journal more)
+    (first_of (flat_map (cuts_of q) journal) (flat_map (cuts_of q) more) K is)
 
 -- a cut was there before, or the record makes it
 old_or_new : (xs ys : List ℕ) (K : ℕ) → slice_get (xs ++ ys) 0 ≡ Some K → (slice_get xs 0 ≡ Some K) ⊎ (slice_get ys 0 ≡ Some K)
 old_or_new [] ys K is = inr is
 old_or_new (x ∷ xs) ys K is = inl is
 
-pub cut_next : (q K : ℕ) (journal : List Record) (r : Record) → cut_of q (journal ++ r ∷ []) ≡ Some K → (cut_of q journal ≡ Some K) ⊎ (slice_get (cuts_of q r) 0 ≡ Some K)
+pub cut_next : (q K : ℕ) (journal : List Record) (r : Record) → cut_of q (journal ++ r ∷ []) ≡ Some K
+    → (cut_of q journal ≡ Some K) ⊎ (slice_get (cuts_of q r) 0 ≡ Some K)
 unfolding cut_of
 cut_next q K journal r is =
     old_or_new (flat_map (cuts_of q) journal) (cuts_of q r) K
-    (sym (ap (λ (cuts : List ℕ). slice_get cuts 0) (flat_map-append (cuts_of q) journal (r ∷ []) ∙ ap (λ (more : List ℕ). flat_map (cuts_of q) journal ++ more) (append-nil (cuts_of q r)))) ∙ is)
+    (sym (ap (λ (cuts : List ℕ). slice_get cuts 0)
+        (flat_map-append (cuts_of q) journal (r ∷ [])
+        ∙ ap (λ (more : List ℕ). flat_map (cuts_of q) journal ++ more) (append-nil (cuts_of q r)))) ∙ is)

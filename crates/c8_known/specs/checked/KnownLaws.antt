@@ -1,9 +1,11 @@
 -- Checked, not believed: each record keeps the invariant and what is known.
-use Rattle.std.proofs.Common.{◌≡◌, ◌≢◌, ℕ, zero, suc, ◌+◌, ◌-◌, ◌<◌, ◌≤◌, ◌||◌, List, [], ◌∷◌, ◌++◌, length, Bool, true, false, Option, Some, None, refl, sym, ap, ◌∙◌, inl, inr, length-append, arith, slice_set, slice_index_or}
+use Rattle.std.proofs.Common.{◌≡◌, ◌≢◌, ℕ, zero, suc, ◌+◌, ◌-◌, ◌<◌, ◌≤◌, ◌||◌, List, [], ◌∷◌, ◌++◌, length, Bool, true, false, Option,
+  Some, None, refl, sym, ap, ◌∙◌, inl, inr, length-append, arith, slice_set, slice_index_or}
 use Rattle.std.proofs.lemmas.Bool.{cases_eq}
 use Rattle.std.proofs.lemmas.List.{append-nil, length-set, get_or-set_same, get_or-set_other}
 use Rattle.c8_known.specs.Journal.{Own, Got, Freeze, Leave, Cut}
-use Rattle.c8_known.specs.Known.{PlayerValue, KnownValue, nobody, player_in, count_in, is_frozen_in, with_words, cut_at, with_cut, with_record, Plays, EndsAtCut, IsKnown}
+use Rattle.c8_known.specs.Known.{PlayerValue, KnownValue, nobody, player_in, count_in, is_frozen_in, with_words, cut_at, with_cut,
+  with_record, Plays, EndsAtCut, IsKnown}
 use Rattle.c8_known.specs.Growth.{IsStillKnownOf, IsStillKnown}
 use Rattle.c8_known.specs.checked.BeginsLaws.{begins_more}
 
@@ -12,10 +14,12 @@ use Rattle.c8_known.specs.checked.BeginsLaws.{begins_more}
 abbrev pub changed : KnownValue → ℕ → ℕ → PlayerValue → KnownValue
 changed k ticks q p = record { me = k.me; delay = k.delay; limit = k.limit; ticks = ticks; players = slice_set k.players (q - 1) p }
 
-pub player_same : (k : KnownValue) (ticks q : ℕ) (p : PlayerValue) (other : ℕ) → q - 1 < length k.players → other - 1 ≡ q - 1 → player_in (changed k ticks q p) other ≡ p
+pub player_same : (k : KnownValue) (ticks q : ℕ) (p : PlayerValue) (other : ℕ) → q - 1 < length k.players → other - 1 ≡ q - 1
+    → player_in (changed k ticks q p) other ≡ p
 player_same k ticks q p other within same = rw same (get_or-set_same k.players (q - 1) p nobody within)
 
-pub player_other : (k : KnownValue) (ticks q : ℕ) (p : PlayerValue) (other : ℕ) → other - 1 ≢ q - 1 → player_in (changed k ticks q p) other ≡ player_in k other
+pub player_other : (k : KnownValue) (ticks q : ℕ) (p : PlayerValue) (other : ℕ) → other - 1 ≢ q - 1
+    → player_in (changed k ticks q p) other ≡ player_in k other
 player_other k ticks q p other apart = get_or-set_other k.players (q - 1) (other - 1) p nobody apart
 
 place_of : (k : KnownValue) (q : ℕ) → Plays k q → q - 1 < length k.players
@@ -71,7 +75,8 @@ still_of_same p = record {
   ended = λ K was. refl;
 }
 
-pub still_changed : (k : KnownValue) (ticks q : ℕ) (p : PlayerValue) → Plays k q → k.ticks ≤ ticks → IsStillKnownOf (player_in k q) p → IsStillKnown k (changed k ticks q p)
+pub still_changed : (k : KnownValue) (ticks q : ℕ) (p : PlayerValue) → Plays k q → k.ticks ≤ ticks → IsStillKnownOf (player_in k q) p
+    → IsStillKnown k (changed k ticks q p)
 still_changed k ticks q p plays later still = record {
   me = refl;
   delay = refl;
@@ -118,9 +123,11 @@ own_known k start word known room =
 
 pub own_still : (k : KnownValue) (start word : ℕ) → IsKnown k → IsStillKnown k (with_record k (Own k.me start word))
 own_still k start word known =
-    still_changed k (k.ticks + 1) k.me (with_words (player_in k k.me) (word ∷ [])) known.me (omega arith) (still_longer (player_in k k.me) (word ∷ []) known.own_uncut)
+    still_changed k (k.ticks + 1) k.me (with_words (player_in k k.me) (word ∷ [])) known.me (omega arith)
+        (still_longer (player_in k k.me) (word ∷ []) known.own_uncut)
 
-pub got_known : (k : KnownValue) (q start : ℕ) (words : List ℕ) → IsKnown k → Plays k q → q ≢ k.me → (player_in k q).cut ≡ None → count_in k q + length words ≤ k.limit → IsKnown (with_record k (Got q start words))
+pub got_known : (k : KnownValue) (q start : ℕ) (words : List ℕ) → IsKnown k → Plays k q → q ≢ k.me → (player_in k q).cut ≡ None
+    → count_in k q + length words ≤ k.limit → IsKnown (with_record k (Got q start words))
 got_known k q start words known plays other uncut room =
     let p : PlayerValue = player_in k q in
     sound_changed k k.ticks q (with_words p words) known plays (record {
@@ -131,8 +138,10 @@ got_known k q start words known plays other uncut room =
       cuts = λ K was. absurd cc;
     })
 
-pub got_still : (k : KnownValue) (q start : ℕ) (words : List ℕ) → Plays k q → (player_in k q).cut ≡ None → IsStillKnown k (with_record k (Got q start words))
-got_still k q start words plays uncut = still_changed k k.ticks q (with_words (player_in k q) words) plays (omega arith) (still_longer (player_in k q) words uncut)
+pub got_still : (k : KnownValue) (q start : ℕ) (words : List ℕ) → Plays k q → (player_in k q).cut ≡ None
+    → IsStillKnown k (with_record k (Got q start words))
+got_still k q start words plays uncut = still_changed k k.ticks q (with_words (player_in k q) words) plays (omega arith)
+    (still_longer (player_in k q) words uncut)
 
 or_true : (b : Bool) → (b || true) ≡ true
 or_true true = refl
@@ -178,7 +187,8 @@ some_same : (o : Option ℕ) (K length : ℕ) → o ≡ None → cut_at o length
 some_same None K length none is = cc
 some_same (Some first) K length none is = absurd cc
 
-pub cut_known : (k : KnownValue) (q K start : ℕ) (words : List ℕ) → IsKnown k → Plays k q → q ≢ k.me → is_frozen_in k q ≡ true → (player_in k q).cut ≡ None
+pub cut_known : (k : KnownValue) (q K start : ℕ) (words : List ℕ) → IsKnown k → Plays k q → q ≢ k.me → is_frozen_in k q ≡ true
+    → (player_in k q).cut ≡ None
     → count_in k q + length words ≡ K → K ≤ k.limit → IsKnown (with_record k (Cut q K start words))
 cut_known k q K start words known plays other leaves uncut all room =
     let p : PlayerValue = player_in k q in
@@ -191,7 +201,8 @@ cut_known k q K start words known plays other leaves uncut all room =
       cuts = λ at was. let is : K ≡ at = some_same p.cut at K uncut was in record { leaves = leaves; count = longer ∙ all ∙ is };
     })
 
-pub cut_still : (k : KnownValue) (q K start : ℕ) (words : List ℕ) → Plays k q → (player_in k q).cut ≡ None → IsStillKnown k (with_record k (Cut q K start words))
+pub cut_still : (k : KnownValue) (q K start : ℕ) (words : List ℕ) → Plays k q → (player_in k q).cut ≡ None
+    → IsStillKnown k (with_record k (Cut q K start words))
 cut_still k q K start words plays uncut =
     let p : PlayerValue = player_in k q in
     let longer = still_longer p words uncut in
@@ -204,7 +215,8 @@ set_twice [] i x y = refl
 set_twice (z ∷ xs) zero x y = refl
 set_twice (z ∷ xs) (suc i) x y = ap (λ rest. z ∷ rest) (set_twice xs i x y)
 
-pub cut_in_two : (k : KnownValue) (q K start later : ℕ) (words : List ℕ) → Plays k q → with_record k (Cut q K start words) ≡ with_record (with_record k (Got q start words)) (Cut q K later [])
+pub cut_in_two : (k : KnownValue) (q K start later : ℕ) (words : List ℕ) → Plays k q
+    → with_record k (Cut q K start words) ≡ with_record (with_record k (Got q start words)) (Cut q K later [])
 cut_in_two k q K start later words plays =
     let p : PlayerValue = player_in k q in
     let longer : PlayerValue = with_words p words in
@@ -212,7 +224,8 @@ cut_in_two k q K start later words plays =
     let no_more : with_words longer [] ≡ longer = λ i. record longer { held = append-nil longer.held i } in
     let twice = set_twice k.players (q - 1) longer (with_cut longer K) in
     ap (λ (players : List PlayerValue). record k { players = players })
-    (sym twice ∙ ap (λ (new : PlayerValue). slice_set (slice_set k.players (q - 1) longer) (q - 1) (with_cut new K)) (sym (ap (λ (x : PlayerValue). with_words x []) there ∙ no_more)))
+    (sym twice ∙ ap (λ (new : PlayerValue). slice_set (slice_set k.players (q - 1) longer) (q - 1) (with_cut new K))
+        (sym (ap (λ (x : PlayerValue). with_words x []) there ∙ no_more)))
 
 -- ---- what is still known
 

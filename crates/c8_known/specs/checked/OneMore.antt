@@ -1,5 +1,6 @@
 -- Checked, not believed: what is known by a journal with one more record.
-use Rattle.std.proofs.Common.{◌≡◌, ◌≢◌, ℕ, zero, suc, ◌+◌, ◌-◌, ◌<◌, ◌≤◌, ◌||◌, List, [], ◌∷◌, ◌++◌, map, Bool, true, false, Option, refl, sym, ap, ◌∙◌, arith, slice_set}
+use Rattle.std.proofs.Common.{◌≡◌, ◌≢◌, ℕ, zero, suc, ◌+◌, ◌-◌, ◌<◌, ◌≤◌, ◌||◌, List, [], ◌∷◌, ◌++◌, map, Bool, true, false, Option, refl,
+  sym, ap, ◌∙◌, arith, slice_set}
 use Rattle.std.specs.Prelude.{◌==◌}
 use Rattle.std.specs.List.{range_with_len, slice_get, flat_map}
 use Rattle.std.proofs.Math.Bool.{or-false}
@@ -10,9 +11,11 @@ use Rattle.std.proofs.lemmas.List.Sums.{sum_by-append}
 use Rattle.std.proofs.lemmas.List.FromFn.{get_or-map-range_with_len}
 use Rattle.c8_game.specs.Rules.{Rules}
 use Rattle.c8_known.specs.Journal as journals
-use Rattle.c8_known.specs.Journal.{Record, Head, Epoch, Own, Got, Freeze, Leave, Cut, State, Check, words_of, is_own, freezes, lets_go, cuts_of, player_of}
+use Rattle.c8_known.specs.Journal.{Record, Head, Epoch, Own, Got, Freeze, Leave, Cut, State, Check, words_of, is_own, freezes, lets_go,
+  cuts_of, player_of}
 use Rattle.c8_known.specs.checked.JournalLaws.{held_next, freeze_next, leave_next}
-use Rattle.c8_known.specs.Known.{PlayerValue, KnownValue, nobody, player_in, said_of, known_of, with_words, cut_at, with_cut, with_record, NamesPlayer}
+use Rattle.c8_known.specs.Known.{PlayerValue, KnownValue, nobody, player_in, said_of, known_of, with_words, cut_at, with_cut, with_record,
+  NamesPlayer}
 
 -- ---- one player's part
 
@@ -35,9 +38,11 @@ after p q r = record {
   cut = cut_more p.cut (cuts_of q r);
 }
 
-cut_of_more : (q : ℕ) (journal : List Record) (r : Record) → journals.cut_of q (journal ++ r ∷ []) ≡ cut_more (journals.cut_of q journal) (cuts_of q r)
+cut_of_more : (q : ℕ) (journal : List Record) (r : Record)
+    → journals.cut_of q (journal ++ r ∷ []) ≡ cut_more (journals.cut_of q journal) (cuts_of q r)
 unfolding journals.cut_of
-cut_of_more q journal r = rw (flat_map-append (cuts_of q) journal (r ∷ []), append-nil (cuts_of q r)) (first_more (flat_map (cuts_of q) journal) (cuts_of q r))
+cut_of_more q journal r = rw (flat_map-append (cuts_of q) journal (r ∷ []), append-nil (cuts_of q r))
+    (first_more (flat_map (cuts_of q) journal) (cuts_of q r))
 
 same_player : {h₁ h₂ : List ℕ} {f₁ f₂ l₁ l₂ : Bool} {c₁ c₂ : Option ℕ} → h₁ ≡ h₂ → f₁ ≡ f₂ → l₁ ≡ l₂ → c₁ ≡ c₂
     → ◌≡◌ {A = PlayerValue} (record { held = h₁; frozen = f₁; leaving = l₁; cut = c₁ }) (record { held = h₂; frozen = f₂; leaving = l₂; cut = c₂ })
@@ -47,7 +52,8 @@ said_more : (rules : Rules) (q : ℕ) (journal : List Record) (r : Record) → s
 said_more rules q journal r = same_player (held_next rules q journal r) (freeze_next q journal r) (leave_next q journal r) (cut_of_more q journal r)
 
 -- a record that is not about a player changes nothing for it
-after_none : (p : PlayerValue) (q : ℕ) (r : Record) → words_of q r ≡ [] → freezes q r ≡ false → lets_go q r ≡ false → cuts_of q r ≡ [] → after p q r ≡ p
+after_none : (p : PlayerValue) (q : ℕ) (r : Record) → words_of q r ≡ [] → freezes q r ≡ false → lets_go q r ≡ false → cuts_of q r ≡ []
+    → after p q r ≡ p
 after_none p q r words freeze leave cuts =
     same_player (rw words (append-nil p.held)) (rw freeze (or-false p.frozen)) (rw leave (or-false p.leaving)) (rw cuts refl)
 
@@ -94,7 +100,8 @@ same_from f g a zero same = refl
 same_from f g a (suc n) same = rw (same a (omega arith), same_from f g (a + 1) n (λ i from. same i (omega (arith, from)))) refl
 
 -- tables of two functions that differ at one place at most
-one_place : (f g : ℕ → PlayerValue) (a n place : ℕ) → place < n → ((i : ℕ) → i ≢ a + place → g i ≡ f i) → map g (range_with_len a n) ≡ slice_set (map f (range_with_len a n)) place (g (a + place))
+one_place : (f g : ℕ → PlayerValue) (a n place : ℕ) → place < n → ((i : ℕ) → i ≢ a + place → g i ≡ f i)
+    → map g (range_with_len a n) ≡ slice_set (map f (range_with_len a n)) place (g (a + place))
 one_place f g a zero place within same = absurd (omega arith)
 one_place f g a (suc n) zero within same =
     let here : a + 0 ≡ a = omega arith in
@@ -107,11 +114,13 @@ one_place f g a (suc n) (suc place) within same =
 abbrev table : Rules → List Record → List PlayerValue
 table rules journal = map (λ place. said_of rules (place + 1) journal) (range_with_len 0 rules.players)
 
-pub player_known : (rules : Rules) (me q : ℕ) (journal : List Record) → 1 ≤ q → q ≤ rules.players → player_in (known_of rules me journal) q ≡ said_of rules q journal
+pub player_known : (rules : Rules) (me q : ℕ) (journal : List Record) → 1 ≤ q → q ≤ rules.players
+    → player_in (known_of rules me journal) q ≡ said_of rules q journal
 unfolding known_of
 player_known rules me q journal from to =
     let at : q - 1 + 1 ≡ q = omega (arith, from) in
-    get_or-map-range_with_len (λ place. said_of rules (place + 1) journal) 0 rules.players (q - 1) (q - 1) nobody (omega (arith, from, to)) (omega arith)
+    get_or-map-range_with_len (λ place. said_of rules (place + 1) journal) 0 rules.players (q - 1) (q - 1) nobody (omega (arith, from, to))
+        (omega arith)
     ∙ ap (λ (player : ℕ). said_of rules player journal) at
 
 same_known : (k : KnownValue) {ticks₁ ticks₂ : ℕ} {players₁ players₂ : List PlayerValue} → ticks₁ ≡ ticks₂ → players₁ ≡ players₂
@@ -119,25 +128,29 @@ same_known : (k : KnownValue) {ticks₁ ticks₂ : ℕ} {players₁ players₂ :
 same_known k ticks players = λ i. record k { ticks = ticks i; players = players i }
 
 table_more : (rules : Rules) (me : ℕ) (journal : List Record) (r : Record) → NamesPlayer rules r
-    → table rules (journal ++ r ∷ []) ≡ slice_set (table rules journal) (player_of r - 1) (after (player_in (known_of rules me journal) (player_of r)) (player_of r) r)
+    → table rules (journal ++ r ∷ []) ≡ slice_set (table rules journal) (player_of r - 1)
+    (after (player_in (known_of rules me journal) (player_of r)) (player_of r) r)
 table_more rules me journal r named =
     let q : ℕ = player_of r in
     let from : 1 ≤ q = named.from_one in
     let to : q ≤ rules.players = named.in_game in
     let at : 0 + (q - 1) + 1 ≡ q = omega (arith, from) in
-    one_place (λ place. said_of rules (place + 1) journal) (λ place. said_of rules (place + 1) (journal ++ r ∷ [])) 0 rules.players (q - 1) (omega (arith, from, to))
+    one_place (λ place. said_of rules (place + 1) journal) (λ place. said_of rules (place + 1) (journal ++ r ∷ [])) 0 rules.players (q - 1)
+        (omega (arith, from, to))
     (λ i other. said_more rules (i + 1) journal r ∙ after_other (said_of rules (i + 1) journal) (i + 1) r (λ e. other (omega (arith, e))))
     ∙ ap (λ (p : PlayerValue). slice_set (table rules journal) (q - 1) p)
     (ap (λ (player : ℕ). said_of rules player (journal ++ r ∷ [])) at ∙ said_more rules q journal r
     ∙ ap (λ (p : PlayerValue). after p q r) (sym (player_known rules me q journal from to)))
 
 -- a table whose player does not change
-table_same : (rules : Rules) (journal : List Record) (r : Record) → ((p : PlayerValue) (q : ℕ) → after p q r ≡ p) → table rules (journal ++ r ∷ []) ≡ table rules journal
+table_same : (rules : Rules) (journal : List Record) (r : Record) → ((p : PlayerValue) (q : ℕ) → after p q r ≡ p)
+    → table rules (journal ++ r ∷ []) ≡ table rules journal
 table_same rules journal r none =
     same_from (λ place. said_of rules (place + 1) journal) (λ place. said_of rules (place + 1) (journal ++ r ∷ [])) 0 rules.players
     (λ i from. said_more rules (i + 1) journal r ∙ none (said_of rules (i + 1) journal) (i + 1))
 
-ticks_more : (journal : List Record) (r : Record) (more : ℕ) → journals.ticks (r ∷ []) ≡ more → journals.ticks (journal ++ r ∷ []) ≡ journals.ticks journal + more
+ticks_more : (journal : List Record) (r : Record) (more : ℕ) → journals.ticks (r ∷ []) ≡ more
+    → journals.ticks (journal ++ r ∷ []) ≡ journals.ticks journal + more
 unfolding journals.ticks
 ticks_more journal r more is = sum_by-append _ journal (r ∷ []) ∙ ap (λ (n : ℕ). journals.ticks journal + n) is
 
@@ -149,33 +162,43 @@ one_tick : (journal : List Record) (r : Record) → is_own r ≡ true → journa
 unfolding journals.ticks
 one_tick journal r own = ticks_more journal r 1 (rw own refl)
 
-pub one_more : (rules : Rules) (me : ℕ) (journal : List Record) (r : Record) → NamesPlayer rules r → known_of rules me (journal ++ r ∷ []) ≡ with_record (known_of rules me journal) r
+pub one_more : (rules : Rules) (me : ℕ) (journal : List Record) (r : Record) → NamesPlayer rules r
+    → known_of rules me (journal ++ r ∷ []) ≡ with_record (known_of rules me journal) r
 unfolding known_of
 one_more rules me journal (Head player form id room) named =
-    let r : Record = Head player form id room in same_known (known_of rules me journal) (no_tick journal r refl) (table_same rules journal r (λ p q. after_none p q r refl refl refl refl))
+    let r : Record = Head player form id room in
+        same_known (known_of rules me journal) (no_tick journal r refl) (table_same rules journal r (λ p q. after_none p q r refl refl refl refl))
 one_more rules me journal (Epoch player number form) named =
-    let r : Record = Epoch player number form in same_known (known_of rules me journal) (no_tick journal r refl) (table_same rules journal r (λ p q. after_none p q r refl refl refl refl))
+    let r : Record = Epoch player number form in
+        same_known (known_of rules me journal) (no_tick journal r refl) (table_same rules journal r (λ p q. after_none p q r refl refl refl refl))
 one_more rules me journal (State player frames piece bytes) named =
-    let r : Record = State player frames piece bytes in same_known (known_of rules me journal) (no_tick journal r refl) (table_same rules journal r (λ p q. after_none p q r refl refl refl refl))
+    let r : Record = State player frames piece bytes in
+        same_known (known_of rules me journal) (no_tick journal r refl) (table_same rules journal r (λ p q. after_none p q r refl refl refl refl))
 one_more rules me journal (Check player frames digest) named =
-    let r : Record = Check player frames digest in same_known (known_of rules me journal) (no_tick journal r refl) (table_same rules journal r (λ p q. after_none p q r refl refl refl refl))
+    let r : Record = Check player frames digest in
+        same_known (known_of rules me journal) (no_tick journal r refl) (table_same rules journal r (λ p q. after_none p q r refl refl refl refl))
 one_more rules me journal (Own player start word) named =
     let r : Record = Own player start word in
     same_known (known_of rules me journal) (one_tick journal r refl)
-    (table_more rules me journal r named ∙ ap (λ (p : PlayerValue). slice_set (table rules journal) (player - 1) p) (after_own (player_in (known_of rules me journal) player) player start word))
+    (table_more rules me journal r named ∙ ap (λ (p : PlayerValue). slice_set (table rules journal) (player - 1) p)
+        (after_own (player_in (known_of rules me journal) player) player start word))
 one_more rules me journal (Got player start words) named =
     let r : Record = Got player start words in
     same_known (known_of rules me journal) (no_tick journal r refl)
-    (table_more rules me journal r named ∙ ap (λ (p : PlayerValue). slice_set (table rules journal) (player - 1) p) (after_got (player_in (known_of rules me journal) player) player start words))
+    (table_more rules me journal r named ∙ ap (λ (p : PlayerValue). slice_set (table rules journal) (player - 1) p)
+        (after_got (player_in (known_of rules me journal) player) player start words))
 one_more rules me journal (Freeze player) named =
     let r : Record = Freeze player in
     same_known (known_of rules me journal) (no_tick journal r refl)
-    (table_more rules me journal r named ∙ ap (λ (p : PlayerValue). slice_set (table rules journal) (player - 1) p) (after_freeze (player_in (known_of rules me journal) player) player))
+    (table_more rules me journal r named ∙ ap (λ (p : PlayerValue). slice_set (table rules journal) (player - 1) p)
+        (after_freeze (player_in (known_of rules me journal) player) player))
 one_more rules me journal (Leave player) named =
     let r : Record = Leave player in
     same_known (known_of rules me journal) (no_tick journal r refl)
-    (table_more rules me journal r named ∙ ap (λ (p : PlayerValue). slice_set (table rules journal) (player - 1) p) (after_leave (player_in (known_of rules me journal) player) player))
+    (table_more rules me journal r named ∙ ap (λ (p : PlayerValue). slice_set (table rules journal) (player - 1) p)
+        (after_leave (player_in (known_of rules me journal) player) player))
 one_more rules me journal (Cut player K start words) named =
     let r : Record = Cut player K start words in
     same_known (known_of rules me journal) (no_tick journal r refl)
-    (table_more rules me journal r named ∙ ap (λ (p : PlayerValue). slice_set (table rules journal) (player - 1) p) (after_cut (player_in (known_of rules me journal) player) player K start words))
+    (table_more rules me journal r named ∙ ap (λ (p : PlayerValue). slice_set (table rules journal) (player - 1) p)
+        (after_cut (player_in (known_of rules me journal) player) player K start words))

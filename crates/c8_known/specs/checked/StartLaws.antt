@@ -1,5 +1,6 @@
 -- Checked, not believed: what is known before a journal has a record.
-use Rattle.std.proofs.Common.{◌≡◌, ℕ, ◌+◌, ◌-◌, ◌<◌, ◌≤◌, List, [], length, false, None, sym, ap, ◌∙◌, ◌⊎◌, inl, inr, ⊎_elim, arith, replicate, slice_index_or}
+use Rattle.std.proofs.Common.{◌≡◌, ℕ, ◌+◌, ◌-◌, ◌<◌, ◌≤◌, List, [], length, false, None, sym, ap, ◌∙◌, ◌⊎◌, inl, inr, ⊎_elim, arith,
+  replicate, slice_index_or}
 use Rattle.std.proofs.lemmas.Bool.{cases_lt}
 use Rattle.std.proofs.lemmas.List.{append-nil, length-replicate, get_or_past}
 use Rattle.std.proofs.lemmas.List.FromFn.{length-map-range_with_len}
@@ -14,7 +15,8 @@ at_start delay = record { held = replicate delay 0; frozen = false; leaving = fa
 
 pub said_at_start : (rules : Rules) (q : ℕ) → said_of rules q [] ≡ at_start rules.delay
 unfolding journals.held journals.has_freeze journals.has_leave journals.cut_of
-said_at_start rules q = ap (λ (held : List ℕ). record { held = held; frozen = false; leaving = false; cut = None }) (append-nil (replicate rules.delay 0))
+said_at_start rules q = ap (λ (held : List ℕ). record { held = held; frozen = false; leaving = false; cut = None })
+    (append-nil (replicate rules.delay 0))
 
 pub players_known : (rules : Rules) (me : ℕ) (journal : List journals.Record) → length (known_of rules me journal).players ≡ rules.players
 unfolding known_of
@@ -30,7 +32,8 @@ at_place rules me q within =
 past_all : (rules : Rules) (me q : ℕ) → rules.players ≤ q - 1 → player_in (known_of rules me []) q ≡ nobody
 past_all rules me q past = get_or_past (known_of rules me []).players (q - 1) nobody (omega (arith, past, players_known rules me []))
 
-pub player_at_start : (rules : Rules) (me q : ℕ) → (player_in (known_of rules me []) q ≡ at_start rules.delay) ⊎ (player_in (known_of rules me []) q ≡ nobody)
+pub player_at_start : (rules : Rules) (me q : ℕ)
+    → (player_in (known_of rules me []) q ≡ at_start rules.delay) ⊎ (player_in (known_of rules me []) q ≡ nobody)
 player_at_start rules me q =
     elim (cases_lt (q - 1) rules.players) [
       | inl within ↦ inl (at_place rules me q within)

@@ -1,23 +1,35 @@
 -- Checked, not believed: each code has one instruction, and `instruction_of` finds it.
 use Rattle.std.proofs.Common.{◌≡◌, ℕ, ◌+◌, ◌*◌, ◌/◌, ◌%◌, ◌&&◌, cond, nat_eq, Option, Some, None, refl, sym, inl, inr, arith}
 use Rattle.std.proofs.lemmas.Bool.{cases_Bool, and_parts, cond-true, cond-false, eqb-true}
-use Rattle.c8_machine.specs.Instructions.{Instruction, Clear, Return, Jump, Call, SkipIfValue, SkipUnlessValue, SkipIfSame, SetValue, AddValue, Set, Or, And, ExclusiveOr, Add, Subtract, ShiftRight, SubtractFrom, ShiftLeft, SkipUnlessSame, SetAddress, JumpFrom, Random, Draw, SkipIfDown, SkipIfUp, ReadTimer, AwaitKey, SetTimer, SetTone, AddAddress, PointAtDigit, StoreDigits, StoreRegisters, LoadRegisters, code_of, digits, with_byte, with_address, IsInRange, IsDigit, IsByte, IsAddress, IsInstructionOf}
-use Rattle.c8_machine.specs.checked.Decoding.{instruction_of, instruction_by, system_instruction, arithmetic_instruction, key_instruction, register_instruction}
+use Rattle.c8_machine.specs.Instructions.{Instruction, Clear, Return, Jump, Call, SkipIfValue, SkipUnlessValue, SkipIfSame, SetValue,
+  AddValue, Set, Or, And, ExclusiveOr, Add, Subtract, ShiftRight, SubtractFrom, ShiftLeft, SkipUnlessSame, SetAddress, JumpFrom, Random,
+  Draw, SkipIfDown, SkipIfUp, ReadTimer, AwaitKey, SetTimer, SetTone, AddAddress, PointAtDigit, StoreDigits, StoreRegisters, LoadRegisters,
+  code_of, digits, with_byte, with_address, IsInRange, IsDigit, IsByte, IsAddress, IsInstructionOf}
+use Rattle.c8_machine.specs.checked.Decoding.{instruction_of, instruction_by, system_instruction, arithmetic_instruction, key_instruction,
+  register_instruction}
 
 -- ---- the instruction of a code is found
 
-parts_are : (code a x y n value to : ℕ) → code / 0x1000 ≡ a → code / 0x100 % 0x10 ≡ x → code / 0x10 % 0x10 ≡ y → code % 0x10 ≡ n → code % 0x100 ≡ value → code % 0x1000 ≡ to
+parts_are : (code a x y n value to : ℕ) → code / 0x1000 ≡ a → code / 0x100 % 0x10 ≡ x → code / 0x10 % 0x10 ≡ y → code % 0x10 ≡ n
+    → code % 0x100 ≡ value → code % 0x1000 ≡ to
     → instruction_of code ≡ instruction_by code a x y n value to
-parts_are code a x y n value to at_a at_x at_y at_n at_value at_to = λ i. instruction_by code (at_a i) (at_x i) (at_y i) (at_n i) (at_value i) (at_to i)
+parts_are code a x y n value to at_a at_x at_y at_n at_value at_to =
+    λ i. instruction_by code (at_a i) (at_x i) (at_y i) (at_n i) (at_value i) (at_to i)
 
-of_digits : (a x y n : ℕ) → IsDigit x → IsDigit y → IsDigit n → instruction_of (digits a x y n) ≡ instruction_by (digits a x y n) a x y n (y * 0x10 + n) (x * 0x100 + y * 0x10 + n)
-of_digits a x y n x_in y_in n_in = parts_are (digits a x y n) a x y n (y * 0x10 + n) (x * 0x100 + y * 0x10 + n) (omega arith) (omega arith) (omega arith) (omega arith) (omega arith) (omega arith)
+of_digits : (a x y n : ℕ) → IsDigit x → IsDigit y → IsDigit n
+    → instruction_of (digits a x y n) ≡ instruction_by (digits a x y n) a x y n (y * 0x10 + n) (x * 0x100 + y * 0x10 + n)
+of_digits a x y n x_in y_in n_in = parts_are (digits a x y n) a x y n (y * 0x10 + n) (x * 0x100 + y * 0x10 + n) (omega arith) (omega arith)
+    (omega arith) (omega arith) (omega arith) (omega arith)
 
-of_byte : (a x value : ℕ) → IsDigit x → IsByte value → instruction_of (with_byte a x value) ≡ instruction_by (with_byte a x value) a x (value / 0x10) (value % 0x10) value (x * 0x100 + value)
-of_byte a x value x_in value_in = parts_are (with_byte a x value) a x (value / 0x10) (value % 0x10) value (x * 0x100 + value) (omega arith) (omega arith) (omega arith) (omega arith) (omega arith) (omega arith)
+of_byte : (a x value : ℕ) → IsDigit x → IsByte value
+    → instruction_of (with_byte a x value) ≡ instruction_by (with_byte a x value) a x (value / 0x10) (value % 0x10) value (x * 0x100 + value)
+of_byte a x value x_in value_in = parts_are (with_byte a x value) a x (value / 0x10) (value % 0x10) value (x * 0x100 + value) (omega arith)
+    (omega arith) (omega arith) (omega arith) (omega arith) (omega arith)
 
-of_address : (a to : ℕ) → IsAddress to → instruction_of (with_address a to) ≡ instruction_by (with_address a to) a (to / 0x100) (to / 0x10 % 0x10) (to % 0x10) (to % 0x100) to
-of_address a to to_in = parts_are (with_address a to) a (to / 0x100) (to / 0x10 % 0x10) (to % 0x10) (to % 0x100) to (omega arith) (omega arith) (omega arith) (omega arith) (omega arith) (omega arith)
+of_address : (a to : ℕ) → IsAddress to → instruction_of (with_address a to)
+    ≡ instruction_by (with_address a to) a (to / 0x100) (to / 0x10 % 0x10) (to % 0x10) (to % 0x100) to
+of_address a to to_in = parts_are (with_address a to) a (to / 0x100) (to / 0x10 % 0x10) (to % 0x10) (to % 0x100) to (omega arith)
+    (omega arith) (omega arith) (omega arith) (omega arith) (omega arith)
 
 finds : (i : Instruction) → IsInRange i → instruction_of (code_of i) ≡ Some i
 unfolding instruction_by system_instruction arithmetic_instruction key_instruction register_instruction
@@ -70,7 +82,8 @@ by_test code a b p q on off = elim (cases_Bool (nat_eq a b)) [
   | inr fails ↦ rw (cond-false _ _ _ fails) off
 ]
 
-by_tests : (code a b c d : ℕ) (p q : Option Instruction) → (a ≡ b → c ≡ d → IsSound code p) → IsSound code q → IsSound code (cond (nat_eq a b && nat_eq c d) p q)
+by_tests : (code a b c d : ℕ) (p q : Option Instruction) → (a ≡ b → c ≡ d → IsSound code p) → IsSound code q
+    → IsSound code (cond (nat_eq a b && nat_eq c d) p q)
 by_tests code a b c d p q on off = elim (cases_Bool (nat_eq a b && nat_eq c d)) [
   | inl holds ↦ let both = and_parts _ _ holds in rw (cond-true _ _ _ holds) (on (eqb-true a b both.0) (eqb-true c d both.1))
   | inr fails ↦ rw (cond-false _ _ _ fails) off

@@ -51,7 +51,8 @@ longer n steps (inr early) = inr (record {
 })
 
 -- a run whose first step ends the frame
-ends_at_once : (rules : Rules) (keys n : ℕ) (s mid : State) (step : Step) → goes_on step ≡ false → IsStep rules keys s mid step → Run rules keys (suc n) s
+ends_at_once : (rules : Rules) (keys n : ℕ) (s mid : State) (step : Step) → goes_on step ≡ false → IsStep rules keys s mid step
+    → Run rules keys (suc n) s
 ends_at_once rules keys n s mid step ends here = record {
   end = mid;
   steps = step ∷ [];
@@ -60,7 +61,8 @@ ends_at_once rules keys n s mid step ends here = record {
 }
 
 run_on : (rules : Rules) (keys n : ℕ) (s mid : State) (step : Step) → IsStep rules keys s mid step → Run rules keys n mid → Run rules keys (suc n) s
-run_on rules keys n s mid Went here rest = record { end = rest.end; steps = Went ∷ rest.steps; whole = longer n rest.steps rest.whole; chain = (mid, here, rest.chain) }
+run_on rules keys n s mid Went here rest =
+    record { end = rest.end; steps = Went ∷ rest.steps; whole = longer n rest.steps rest.whole; chain = (mid, here, rest.chain) }
 run_on rules keys n s mid step here rest = ends_at_once rules keys n s mid step refl here
 
 run : (rules : Rules) (keys n : ℕ) (s : State) → Run rules keys n s
@@ -68,7 +70,8 @@ run rules keys zero s = record { end = s; steps = []; whole = inl refl; chain = 
 run rules keys (suc n) s = let done = step_of rules keys s in run_on rules keys n s done.0 done.1 done.2 (run rules keys n done.0)
 
 act : (rules : Rules) (keys : ℕ) (s : State) (waits : Option ℕ) → (t : State) × MatchOption waits (Runs rules keys s t) (λ _. t ≡ s)
-act rules keys s None = let whole = run rules keys rules.ipf s in (whole.end, record { steps = whole.steps; whole = whole.whole; chain = whole.chain })
+act rules keys s None = let whole = run rules keys rules.ipf s in
+    (whole.end, record { steps = whole.steps; whole = whole.whole; chain = whole.chain })
 act rules keys s (Some x) = (s, refl)
 
 frame : (rules : Rules) (keys : ℕ) (s : State) (stop : Option Stop) → (t : State) × MatchOption stop (IsLiveFrame rules keys s t) (λ _. t ≡ s)

@@ -1,5 +1,6 @@
 -- Checked, not believed: runs and their pairs.
-use Rattle.std.proofs.Common.{inl, inr, ◌≡◌, ◌≢◌, ℕ, zero, suc, ◌+◌, ◌*◌, ◌/◌, ◌%◌, ◌^◌, ◌<◌, ◌==◌, ◌&&◌, List, [], ◌∷◌, ◌++◌, length, get_or, drop, replicate, true, false, Option, Some, None, refl, sym, ap, ◌∙◌, arith, length-append}
+use Rattle.std.proofs.Common.{inl, inr, ◌≡◌, ◌≢◌, ℕ, zero, suc, ◌+◌, ◌*◌, ◌/◌, ◌%◌, ◌^◌, ◌<◌, ◌==◌, ◌&&◌, List, [], ◌∷◌, ◌++◌, length,
+  get_or, drop, replicate, true, false, Option, Some, None, refl, sym, ap, ◌∙◌, arith, length-append}
 use Rattle.std.specs.Prelude.{not}
 use Rattle.std.proofs.lemmas.Bool.{cases_eq, eq-eqb, eqb-true, ne_eqb, and_parts, not-true}
 use Rattle.std.proofs.lemmas.List.{length-replicate}
@@ -13,7 +14,8 @@ use Rattle.c8_pairs.specs.Reading.{pairs_at, is_same, well_after, count_in, are_
 
 -- ---- one input more in front
 
-in_same : (word : ℕ) (p : Pair) (pairs : List Pair) → word ≡ p.keys → in_front word (p ∷ pairs) ≡ record { times = p.times + 1; keys = p.keys } ∷ pairs
+in_same : (word : ℕ) (p : Pair) (pairs : List Pair) → word ≡ p.keys
+    → in_front word (p ∷ pairs) ≡ record { times = p.times + 1; keys = p.keys } ∷ pairs
 in_same word p pairs same = rw (eq-eqb word p.keys same) refl
 
 in_apart : (word : ℕ) (p : Pair) (pairs : List Pair) → word ≢ p.keys → in_front word (p ∷ pairs) ≡ record { times = 1; keys = word } ∷ p ∷ pairs
@@ -45,15 +47,18 @@ pairs_say (word ∷ words) = front_says word (pairs_of words) ∙ ap (λ (ws : L
 front_new : (keys : ℕ) (pairs : List Pair) → well_after (Some keys) pairs ≡ true → in_front keys pairs ≡ record { times = 1; keys = keys } ∷ pairs
 front_new keys [] well = refl
 front_new keys (p ∷ pairs) well =
-    let apart = not-true (keys == p.keys) (and_parts (not (keys == p.keys)) (well_after (Some p.keys) pairs) (and_parts (not (p.times == 0)) (not (keys == p.keys) && well_after (Some p.keys) pairs) well).1).0 in
+    let apart = not-true (keys == p.keys) (and_parts (not (keys == p.keys)) (well_after (Some p.keys) pairs)
+        (and_parts (not (p.times == 0)) (not (keys == p.keys) && well_after (Some p.keys) pairs) well).1).0 in
     rw apart refl
 
-stretch : (keys k : ℕ) (words : List ℕ) → well_after (Some keys) (pairs_of words) ≡ true → pairs_of (replicate (suc k) keys ++ words) ≡ record { times = suc k; keys = keys } ∷ pairs_of words
+stretch : (keys k : ℕ) (words : List ℕ) → well_after (Some keys) (pairs_of words) ≡ true
+    → pairs_of (replicate (suc k) keys ++ words) ≡ record { times = suc k; keys = keys } ∷ pairs_of words
 unfolding pairs_of
 stretch keys zero words well = front_new keys (pairs_of words) well
 stretch keys (suc k) words well =
     let more : suc k + 1 ≡ suc (suc k) = omega arith in
-    ap (in_front keys) (stretch keys k words well) ∙ in_same keys (record { times = suc k; keys = keys }) (pairs_of words) refl ∙ ap (λ (n : ℕ). record { times = n; keys = keys } ∷ pairs_of words) more
+    ap (in_front keys) (stretch keys k words well) ∙ in_same keys (record { times = suc k; keys = keys }) (pairs_of words) refl
+        ∙ ap (λ (n : ℕ). record { times = n; keys = keys } ∷ pairs_of words) more
 
 some_times : (n : ℕ) → not (n == 0) ≡ true → (k : ℕ) × (n ≡ suc k)
 some_times zero e = absurd cc
@@ -149,7 +154,8 @@ read_back [] small = refl
 read_back (p ∷ pairs) small =
     let whole : big_number 2 (big_bytes 2 p.keys) ≡ p.keys = big_number-reads_back 2 p.keys [] small.0 in
     let keys : get_or (big_bytes 2 p.keys) 0 0 * 256 + get_or (big_bytes 2 p.keys) 1 0 ≡ p.keys = omega (arith, whole) in
-    ap (λ (k : ℕ). record { times = p.times; keys = k } ∷ pairs_at (pairs_bytes pairs)) keys ∙ ap (λ (ps : List Pair). p ∷ ps) (read_back pairs small.1)
+    ap (λ (k : ℕ). record { times = p.times; keys = k } ∷ pairs_at (pairs_bytes pairs)) keys
+        ∙ ap (λ (ps : List Pair). p ∷ ps) (read_back pairs small.1)
 
 -- the spelling of a run has its pairs
 pub pairs_at-spelling : (words : List ℕ) → ((i : ℕ) → get_or words i 0 < 2 ^ 16) → pairs_at (spelling words) ≡ pairs_of words
@@ -180,7 +186,8 @@ front_begins : (word : ℕ) (pairs : List Pair) → Begins word (in_front word p
 front_begins word [] = record { first = record { times = 1; keys = word }; rest = []; is = refl; keys = refl }
 front_begins word (p ∷ pairs) =
     elim (cases_eq word p.keys) [
-      | inl same ↦ record { first = record { times = p.times + 1; keys = p.keys }; rest = pairs; is = rw (eq-eqb word p.keys same) refl; keys = sym same }
+      | inl same ↦ record { first = record { times = p.times + 1; keys = p.keys }; rest = pairs; is = rw (eq-eqb word p.keys same) refl;
+      keys = sym same }
       | inr apart ↦ record { first = record { times = 1; keys = word }; rest = p ∷ pairs; is = rw (ne_eqb word p.keys apart) refl; keys = refl }
     ]
 
@@ -210,10 +217,13 @@ more_pairs word [] = one_pair word
 more_pairs word (next ∷ words) =
     let begins = begins_with next words in
     let rest : suc (pairs_after (Some next) words) ≡ suc (length begins.rest) = more_pairs next words ∙ opened next words ∙ ap length begins.is in
-    let same_length : length (in_front word (pairs_of (next ∷ words))) ≡ length (in_front word (begins.first ∷ begins.rest)) = ap (λ (ps : List Pair). length (in_front word ps)) begins.is in
+    let same_length : length (in_front word (pairs_of (next ∷ words))) ≡ length (in_front word (begins.first ∷ begins.rest)) =
+        ap (λ (ps : List Pair). length (in_front word ps)) begins.is in
     elim (cases_eq word next) [
-      | inl same ↦ rw (eq-eqb word next same) (omega (arith, rest, same_length, ap length (in_same word begins.first begins.rest (same ∙ sym begins.keys))))
-      | inr apart ↦ rw (ne_eqb word next apart) (omega (arith, rest, same_length, ap length (in_apart word begins.first begins.rest (λ e. apart (e ∙ begins.keys)))))
+      | inl same ↦ rw (eq-eqb word next same) (omega
+      (arith, rest, same_length, ap length (in_same word begins.first begins.rest (same ∙ sym begins.keys))))
+      | inr apart ↦ rw (ne_eqb word next apart)
+      (omega (arith, rest, same_length, ap length (in_apart word begins.first begins.rest (λ e. apart (e ∙ begins.keys)))))
     ]
 
 pub count_pairs : (words : List ℕ) → pairs_after None words ≡ length (pairs_of words)
@@ -231,7 +241,8 @@ apart_here keys [] apart some = absurd (omega (arith, some))
 apart_here keys (word ∷ words) apart some = apart_of keys word words (λ e. apart (sym e))
 
 -- the first stretch of inputs, and the pairs of the inputs after it
-pub stretch_from : (keys times : ℕ) (words : List ℕ) → 0 < times → words ≡ replicate times keys ++ drop times words → well_after (Some keys) (pairs_of (drop times words)) ≡ true
+pub stretch_from : (keys times : ℕ) (words : List ℕ) → 0 < times → words ≡ replicate times keys ++ drop times words
+    → well_after (Some keys) (pairs_of (drop times words)) ≡ true
     → pairs_of words ≡ record { times = times; keys = keys } ∷ pairs_of (drop times words)
 stretch_from keys zero words some same apart = absurd (omega (arith, some))
 stretch_from keys (suc more) words some same apart = ap pairs_of same ∙ stretch keys more (drop (suc more) words) apart
@@ -240,7 +251,8 @@ stretch_from keys (suc more) words some same apart = ap pairs_of same ∙ stretc
 
 pub length_words : (pairs : List Pair) → length (words_in pairs) ≡ count_in pairs
 length_words [] = refl
-length_words (p ∷ pairs) = length-append (replicate p.times p.keys) (words_in pairs) ∙ omega (arith, length-replicate p.times p.keys, length_words pairs)
+length_words (p ∷ pairs) = length-append (replicate p.times p.keys) (words_in pairs)
+    ∙ omega (arith, length-replicate p.times p.keys, length_words pairs)
 
 pub length_spelled : (pairs : List Pair) → length (pairs_bytes pairs) ≡ 3 * length pairs
 length_spelled [] = refl
@@ -251,10 +263,12 @@ slice_index_more [] words most fits i = fits i
 slice_index_more (w ∷ front) words most fits i = slice_index_more front words most (λ k. fits (suc k)) i
 
 -- the inputs of the pairs after the first have 16 bits too
-pub sets_after : (p : Pair) (pairs : List Pair) → ((i : ℕ) → get_or (words_in (p ∷ pairs)) i 0 < 2 ^ 16) → (i : ℕ) → get_or (words_in pairs) i 0 < 2 ^ 16
+pub sets_after : (p : Pair) (pairs : List Pair) → ((i : ℕ) → get_or (words_in (p ∷ pairs)) i 0 < 2 ^ 16) → (i : ℕ)
+    → get_or (words_in pairs) i 0 < 2 ^ 16
 sets_after p pairs fits = slice_index_more (replicate p.times p.keys) (words_in pairs) (2 ^ 16) fits
 
-replicated : (times keys : ℕ) (words : List ℕ) → keys < 2 ^ 16 → ((i : ℕ) → get_or words i 0 < 2 ^ 16) → (i : ℕ) → get_or (replicate times keys ++ words) i 0 < 2 ^ 16
+replicated : (times keys : ℕ) (words : List ℕ) → keys < 2 ^ 16 → ((i : ℕ) → get_or words i 0 < 2 ^ 16) → (i : ℕ)
+    → get_or (replicate times keys ++ words) i 0 < 2 ^ 16
 replicated zero keys words small fits i = fits i
 replicated (suc times) keys words small fits zero = small
 replicated (suc times) keys words small fits (suc i) = replicated times keys words small fits i
@@ -273,14 +287,16 @@ sets_of (times ∷ high ∷ low ∷ rest) fits i =
 -- the spelling of a run passes as one
 pub spelling_is_run : (words : List ℕ) → ((i : ℕ) → get_or words i 0 < 2 ^ 16) → are_run (pairs_at (spelling words)) (length words) ≡ true
 spelling_is_run words small =
-    ap (λ (pairs : List Pair). are_run pairs (length words)) (pairs_at-spelling words small) ∙ rw (well_of words, eq-eqb (count_in (pairs_of words)) (length words) (count_of words)) refl
+    ap (λ (pairs : List Pair). are_run pairs (length words)) (pairs_at-spelling words small)
+        ∙ rw (well_of words, eq-eqb (count_in (pairs_of words)) (length words) (count_of words)) refl
 
 -- Bytes of a run of `count` inputs: they are the spelling of its inputs, and there are `count` of them.
 pub record IsSpelled (bytes : List ℕ) (count : ℕ) : Type 0 where
   pub spells : spelling (words_in (pairs_at bytes)) ≡ bytes
   pub many : length (words_in (pairs_at bytes)) ≡ count
 
-pub run_is_spelled : (bytes : List ℕ) (count : ℕ) → length bytes % 3 ≡ 0 → ((i : ℕ) → get_or bytes i 0 < 2 ^ 8) → are_run (pairs_at bytes) count ≡ true → IsSpelled bytes count
+pub run_is_spelled : (bytes : List ℕ) (count : ℕ) → length bytes % 3 ≡ 0 → ((i : ℕ) → get_or bytes i 0 < 2 ^ 8)
+    → are_run (pairs_at bytes) count ≡ true → IsSpelled bytes count
 run_is_spelled bytes count whole fits is =
     let both = and_parts (well_after None (pairs_at bytes)) (count_in (pairs_at bytes) == count) is in
     record {

@@ -31,7 +31,8 @@ session_low rules room =
     number_low (take 8 digest) (take_low digest 8 (2 ^ 8) (digest_bytes_fit (id_of rules ++ to_be_bytes w64 room)))
 
 -- no more frames are confirmed than the game has
-pub confirmed_frames : (rules : Rules) (me room : ℕ) (journal : List Record) → AreInRange rules → 1 ≤ me → me ≤ rules.players → IsJournal rules me room journal → confirmed (known_of rules me journal) ≤ rules.frames
+pub confirmed_frames : (rules : Rules) (me room : ℕ) (journal : List Record) → AreInRange rules → 1 ≤ me → me ≤ rules.players
+    → IsJournal rules me room journal → confirmed (known_of rules me journal) ≤ rules.frames
 confirmed_frames rules me room journal range from in_game is =
     let k : KnownValue = known_of rules me journal in
     let known = journal_known rules me room journal range from in_game is in

@@ -48,7 +48,8 @@ IsPlanned rules me journal c = c.count ≢ 0 → plan_of c ≡ (told_of rules me
 
 -- the next record of a checkpoint, from the kept bytes, and the answer to it
 abbrev pub next_record : ℕ → Checks → Record
-next_record me c = if c.count == all_pieces then Check me c.frames (digest_of (plan_of c)) else State me c.frames c.count (piece_in c.count (plan_of c))
+next_record me c = if c.count == all_pieces then Check me c.frames (digest_of (plan_of c)) else State me c.frames c.count
+    (piece_in c.count (plan_of c))
 
 abbrev pub next_said : Checks → said.Check
 next_said c = if c.count == all_pieces then Done c.frames else Piece c.count

@@ -14,7 +14,8 @@ use Rattle.c8_known.specs.Known.{KnownValue, known_of}
 use Rattle.c8_known.specs.Confirmed.{confirmed, rows_below}
 use Rattle.c8_known.specs.Growth.{IsStillKnown}
 use Rattle.c8_known.specs.checked.ConfirmedLaws.{confirmed_rises, map_same}
-use Rattle.c8_check.specs.Checks.{Pieces, ChecksValue, no_checks, with_check, checks_of, opened_at, opened_since, or_first, begun_at, save_bytes, before_piece}
+use Rattle.c8_check.specs.Checks.{Pieces, ChecksValue, no_checks, with_check, checks_of, opened_at, opened_since, or_first, begun_at,
+  save_bytes, before_piece}
 use Rattle.c8_check.specs.checked.CheckLaws.{opened_more}
 use Rattle.c8_roll.specs.Roll.{mark_after, marks_up_to, IsOnTheWay}
 use Rattle.c8_roll.specs.checked.RollLaws.{first_on_the_way}
@@ -27,15 +28,19 @@ use Rattle.c8_peer.specs.checked.Held.{is_play}
 
 -- ---- more is known
 
-serial_stays : (rules : Rules) (early late : KnownValue) (n : ℕ) → IsStillKnown early late → n ≤ confirmed early → serial rules (rows_below late n) ≡ serial rules (rows_below early n)
+serial_stays : (rules : Rules) (early late : KnownValue) (n : ℕ) → IsStillKnown early late → n ≤ confirmed early
+    → serial rules (rows_below late n) ≡ serial rules (rows_below early n)
 serial_stays rules early late n still within = ap (serial rules) (rows_same early late n still within)
 
-marks_stay : (rules : Rules) (early late : KnownValue) (n : ℕ) → IsStillKnown early late → n ≤ confirmed early → marks_up_to rules late n ≡ marks_up_to rules early n
+marks_stay : (rules : Rules) (early late : KnownValue) (n : ℕ) → IsStillKnown early late → n ≤ confirmed early
+    → marks_up_to rules late n ≡ marks_up_to rules early n
 marks_stay rules early late n still within =
     ap kept (map_same (λ i. mark_after rules late (32 * i)) (λ i. mark_after rules early (32 * i)) 0 (n / 32 + 1)
-    (λ i below. ap (λ (rows : List Row). record { frame = 32 * i; mark = mark_of (serial rules rows) }) (rows_same early late (32 * i) still (omega (arith, below, within)))))
+    (λ i below. ap (λ (rows : List Row). record { frame = 32 * i; mark = mark_of (serial rules rows) })
+        (rows_same early late (32 * i) still (omega (arith, below, within)))))
 
-way_stays : (rules : Rules) (early late : KnownValue) (from : Origin) → IsStillKnown early late → IsOnTheWay rules early from → IsOnTheWay rules late from
+way_stays : (rules : Rules) (early late : KnownValue) (from : Origin) → IsStillKnown early late → IsOnTheWay rules early from
+    → IsOnTheWay rules late from
 way_stays rules early late from still way =
     let within = way.confirmed_is in
     record {
@@ -44,11 +49,13 @@ way_stays rules early late from still way =
       marks = way.marks ∙ sym (marks_stay rules early late from.frames still within);
     }
 
-pieces_stay : (rules : Rules) (early late : KnownValue) (p : Pieces) → IsStillKnown early late → AreTruePieces rules early p → AreTruePieces rules late p
+pieces_stay : (rules : Rules) (early late : KnownValue) (p : Pieces) → IsStillKnown early late → AreTruePieces rules early p
+    → AreTruePieces rules late p
 pieces_stay rules early late p still are =
     let within = are.confirmed_is in
     let same : serial_at rules late p.frames ≡ serial_at rules early p.frames =
-    λ i. record { frames = p.frames; machine = serial_stays rules early late p.frames still within i; marks = marks_stay rules early late p.frames still within i } in
+    λ i. record { frames = p.frames; machine = serial_stays rules early late p.frames still within i;
+        marks = marks_stay rules early late p.frames still within i } in
     record {
       confirmed_is = omega (arith, within, confirmed_rises early late still);
       bytes_are = are.bytes_are ∙ ap (λ (from : Origin). take (before_piece p.count) (save_bytes from)) (sym same);
@@ -70,7 +77,8 @@ record IsNone (c : ChecksValue) (before : Option Origin) : Type 0 where
   under_way : c.under_way ≡ None
   begun : before ≡ None
 
-one_none : (c : ChecksValue) (before : Option Origin) (r : Record) → is_no_check r ≡ true → IsNone c before → IsNone (with_check c r) (opened_at c before r)
+one_none : (c : ChecksValue) (before : Option Origin) (r : Record) → is_no_check r ≡ true → IsNone c before
+    → IsNone (with_check c r) (opened_at c before r)
 one_none c before (Head player form id room) is none = record { last = none.last; under_way = refl; begun = none.last }
 one_none c before (Epoch player number form) is none = record { last = none.last; under_way = refl; begun = none.last }
 one_none c before (Own player start word) is none = none
@@ -81,7 +89,8 @@ one_none c before (Cut player length start words) is none = none
 one_none c before (State player frames piece bytes) is none = absurd cc
 one_none c before (Check player frames digest) is none = absurd cc
 
-all_none : (c : ChecksValue) (before : Option Origin) (journal : List Record) → SaysNoCheck journal → IsNone c before → IsNone (fold with_check c journal) (opened_since c before journal)
+all_none : (c : ChecksValue) (before : Option Origin) (journal : List Record) → SaysNoCheck journal → IsNone c before
+    → IsNone (fold with_check c journal) (opened_since c before journal)
 unfolding opened_since
 all_none c before [] all none = none
 all_none c before (r ∷ journal) all none =
@@ -126,10 +135,13 @@ play_begins_nothing c before (Check player frames digest) is = absurd cc
 pub play_checks : (journal : List Record) (r : Record) → is_play r ≡ true → checks_of (journal ++ r ∷ []) ≡ checks_of journal
 play_checks journal r play = checks_more journal r ∙ play_says_nothing (checks_of journal) r play
 
-pub play_begins : (rules : Rules) (journal : List Record) (r : Record) → is_play r ≡ true → begun_at rules (journal ++ r ∷ []) ≡ begun_at rules journal
-play_begins rules journal r play = ap (or_first rules) (opened_more journal r ∙ play_begins_nothing (checks_of journal) (opened_since no_checks None journal) r play)
+pub play_begins : (rules : Rules) (journal : List Record) (r : Record) → is_play r ≡ true
+    → begun_at rules (journal ++ r ∷ []) ≡ begun_at rules journal
+play_begins rules journal r play = ap (or_first rules)
+    (opened_more journal r ∙ play_begins_nothing (checks_of journal) (opened_since no_checks None journal) r play)
 
-pub play_true : (rules : Rules) (me room : ℕ) (journal : List Record) (r : Record) → AreInRange rules → 1 ≤ me → me ≤ rules.players → IsJournal rules me room journal → IsAllowed rules me room journal r
+pub play_true : (rules : Rules) (me room : ℕ) (journal : List Record) (r : Record) → AreInRange rules → 1 ≤ me → me ≤ rules.players
+    → IsJournal rules me room journal → IsAllowed rules me room journal r
     → is_play r ≡ true → HasTrueChecks rules me journal → HasTrueChecks rules me (journal ++ r ∷ [])
 play_true rules me room journal r range from to is may play are =
     let early : KnownValue = known_of rules me journal in
@@ -154,7 +166,8 @@ record IsOpeningOf (rules : Rules) (journal : List Record) (new : Record) : Type
 opens : (rules : Rules) (room me : ℕ) (journal : List Record) → IsOpeningOf rules journal (opening_record rules room me journal)
 opens rules room me [] =
     let new : Record = Head me second_form (id_of rules) room in
-    record { begins = ap (or_first rules) (opened_more [] new); last = ap (λ (c : ChecksValue). c.last) (checks_more [] new); none = ap (λ (c : ChecksValue). c.under_way) (checks_more [] new) }
+    record { begins = ap (or_first rules) (opened_more [] new); last = ap (λ (c : ChecksValue). c.last) (checks_more [] new);
+        none = ap (λ (c : ChecksValue). c.under_way) (checks_more [] new) }
 opens rules room me (r ∷ rest) =
     let new : Record = Epoch me (epoch (r ∷ rest) + 1) second_form in
     record {
@@ -163,19 +176,24 @@ opens rules room me (r ∷ rest) =
       none = ap (λ (c : ChecksValue). c.under_way) (checks_more (r ∷ rest) new);
     }
 
-first_or_last : (rules : Rules) (k : KnownValue) (last : Option Origin) → ((from : Origin) → last ≡ Some from → IsOnTheWay rules k from) → IsOnTheWay rules k (or_first rules last)
+first_or_last : (rules : Rules) (k : KnownValue) (last : Option Origin) → ((from : Origin) → last ≡ Some from → IsOnTheWay rules k from)
+    → IsOnTheWay rules k (or_first rules last)
 first_or_last rules k None ways = first_on_the_way rules k
 first_or_last rules k (Some from) ways = ways from refl
 
-pub opening_true : (rules : Rules) (me room : ℕ) (journal : List Record) → AreInRange rules → 1 ≤ me → me ≤ rules.players → IsJournal rules me room journal
-    → IsAllowed rules me room journal (opening_record rules room me journal) → HasTrueLast rules me journal → HasTrueChecks rules me (journal ++ opening_record rules room me journal ∷ [])
+pub opening_true : (rules : Rules) (me room : ℕ) (journal : List Record) → AreInRange rules → 1 ≤ me → me ≤ rules.players
+    → IsJournal rules me room journal
+    → IsAllowed rules me room journal (opening_record rules room me journal) → HasTrueLast rules me journal
+    → HasTrueChecks rules me (journal ++ opening_record rules room me journal ∷ [])
 opening_true rules me room journal range from to is may are =
     let new : Record = opening_record rules room me journal in
     let early : KnownValue = known_of rules me journal in
     let late : KnownValue = known_of rules me (journal ++ new ∷ []) in
-    let still : IsStillKnown early late = journal_grows rules me room journal (new ∷ []) range from to (journal_more rules me room journal new is may) in
+    let still : IsStillKnown early late = journal_grows rules me room journal (new ∷ []) range from to
+        (journal_more rules me room journal new is may) in
     let opening = opens rules room me journal in
-    let ways : (at : Origin) → (checks_of journal).last ≡ Some at → IsOnTheWay rules late at = λ at e. way_stays rules early late at still (are at e) in
+    let ways : (at : Origin) → (checks_of journal).last ≡ Some at → IsOnTheWay rules late at =
+        λ at e. way_stays rules early late at still (are at e) in
     record {
       begun = subst (IsOnTheWay rules late) (sym opening.begins) (first_or_last rules late (checks_of journal).last ways);
       last = λ at e. ways at (sym opening.last ∙ e);

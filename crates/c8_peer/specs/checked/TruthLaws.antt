@@ -19,7 +19,8 @@ use Rattle.c8_peer.specs.Truth.{IsTrueMark, IsFrozenAt, IsTrueMessage, IsTrue}
 
 -- confirmed rows stay
 pub rows_same : (early late : KnownValue) (n : ℕ) → IsStillKnown early late → n ≤ confirmed early → rows_below late n ≡ rows_below early n
-rows_same early late n still within = map_same (row late) (row early) 0 n (λ frame below. row_stays early late still frame (omega (arith, below, within)))
+rows_same early late n still within = map_same (row late) (row early) 0 n
+    (λ frame below. row_stays early late still frame (omega (arith, below, within)))
 
 pub stands_longer : {X : Type 0} (start : ℕ) (words short long : List X) → Begins short long → Stands start words short → Stands start words long
 stands_longer start words short long begins stands =
@@ -33,7 +34,8 @@ stands_longer start words short long begins stands =
 pub count_rises : (rules : Rules) (q : ℕ) (journal rest : List Record) → count rules q journal ≤ count rules q (journal ++ rest)
 count_rises rules q journal rest = begins_length (held rules q journal) (held rules q (journal ++ rest)) (held_begins rules q journal rest)
 
-pub frozen_stays : (rules : Rules) (leaver n : ℕ) (journal rest : List Record) → IsFrozenAt rules leaver n journal → IsFrozenAt rules leaver n (journal ++ rest)
+pub frozen_stays : (rules : Rules) (leaver n : ℕ) (journal rest : List Record) → IsFrozenAt rules leaver n journal
+    → IsFrozenAt rules leaver n (journal ++ rest)
 frozen_stays rules leaver n journal rest at = record {
   before = at.before;
   rest = at.rest ++ rest;
@@ -41,7 +43,8 @@ frozen_stays rules leaver n journal rest at = record {
   few = at.few;
 }
 
-mark_stays : (rules : Rules) (me : ℕ) (journal rest : List Record) (frame : ℕ) (mark : List ℕ) → IsStillKnown (known_of rules me journal) (known_of rules me (journal ++ rest))
+mark_stays : (rules : Rules) (me : ℕ) (journal rest : List Record) (frame : ℕ) (mark : List ℕ)
+    → IsStillKnown (known_of rules me journal) (known_of rules me (journal ++ rest))
     → IsTrueMark rules me journal frame mark → IsTrueMark rules me (journal ++ rest) frame mark
 mark_stays rules me journal rest frame mark still true_mark =
     let early : KnownValue = known_of rules me journal in
@@ -55,7 +58,8 @@ mark_stays rules me journal rest frame mark still true_mark =
       is = true_mark.is ∙ ap (λ (rows : List Row). mark_of (serial rules rows)) (sym (rows_same early late frame still within));
     }
 
-message_stays : (rules : Rules) (me to : ℕ) (journal rest : List Record) (m : Message) → IsStillKnown (known_of rules me journal) (known_of rules me (journal ++ rest))
+message_stays : (rules : Rules) (me to : ℕ) (journal rest : List Record) (m : Message)
+    → IsStillKnown (known_of rules me journal) (known_of rules me (journal ++ rest))
     → IsTrueMessage rules me to journal m → IsTrueMessage rules me to (journal ++ rest) m
 message_stays rules me to journal rest packets.Hello still is = is
 message_stays rules me to journal rest (packets.Welcome ack) still is = omega (arith, is, count_rises rules to journal rest)
@@ -72,12 +76,16 @@ message_stays rules me to journal rest (packets.Frozen f) still is =
     let few = is.1 in (
       frozen_stays rules f.leaver f.length journal rest is.0,
       omega (arith, few, count_rises rules f.leaver journal rest),
-      stands_longer f.start f.words (held rules f.leaver journal) (held rules f.leaver (journal ++ rest)) (held_begins rules f.leaver journal rest) is.2,
+      stands_longer f.start f.words (held rules f.leaver journal) (held rules f.leaver (journal ++ rest))
+          (held_begins rules f.leaver journal rest) is.2,
     )
 message_stays rules me to journal rest (packets.Cut c) still is =
-    (is.0, cut_stays c.leaver c.length journal rest is.1, stands_longer c.start c.words (held rules c.leaver journal) (held rules c.leaver (journal ++ rest)) (held_begins rules c.leaver journal rest) is.2)
+    (is.0, cut_stays c.leaver c.length journal rest is.1,
+        stands_longer c.start c.words (held rules c.leaver journal) (held rules c.leaver (journal ++ rest))
+        (held_begins rules c.leaver journal rest) is.2)
 message_stays rules me to journal rest (packets.Show m) still is =
-    (is.0, stands_longer m.start m.rows (confirmed_rows (known_of rules me journal)) (confirmed_rows (known_of rules me (journal ++ rest))) (rows_stay (known_of rules me journal) (known_of rules me (journal ++ rest)) still) is.1)
+    (is.0, stands_longer m.start m.rows (confirmed_rows (known_of rules me journal)) (confirmed_rows (known_of rules me (journal ++ rest)))
+        (rows_stay (known_of rules me journal) (known_of rules me (journal ++ rest)) still) is.1)
 message_stays rules me to journal rest (packets.Seen ack) still is = is
 
 pub truth_stays : (rules : Rules) (me room : ℕ) (journal rest : List Record) (p : Packet) → AreInRange rules → 1 ≤ me → me ≤ rules.players
@@ -89,7 +97,8 @@ truth_stays rules me room journal rest p range from to is true_packet = record {
 }
 
 pub confirmed_stays : (rules : Rules) (me room n : ℕ) (journal rest : List Record) → AreInRange rules → 1 ≤ me → me ≤ rules.players
-    → IsJournal rules me room (journal ++ rest) → n ≤ confirmed (known_of rules me journal) → rows_below (known_of rules me (journal ++ rest)) n ≡ rows_below (known_of rules me journal) n
+    → IsJournal rules me room (journal ++ rest) → n ≤ confirmed (known_of rules me journal)
+    → rows_below (known_of rules me (journal ++ rest)) n ≡ rows_below (known_of rules me journal) n
 confirmed_stays rules me room n journal rest range from to is within =
     rows_same (known_of rules me journal) (known_of rules me (journal ++ rest)) n (journal_grows rules me room journal rest range from to is) within
 

@@ -1,5 +1,6 @@
 -- Checked, not believed: the spelling of a record reads back, and so do lists of bodies and records.
-use Rattle.std.proofs.Common.{◌≡◌, ℕ, zero, suc, ◌*◌, ◌-◌, ◌/◌, ◌%◌, ◌^◌, ◌<◌, ◌≤◌, List, [], ◌∷◌, ◌++◌, length, map, take, drop, ⊎_elim, refl, sym, ap, subst, ◌∙◌, arith}
+use Rattle.std.proofs.Common.{◌≡◌, ℕ, zero, suc, ◌*◌, ◌-◌, ◌/◌, ◌%◌, ◌^◌, ◌<◌, ◌≤◌, List, [], ◌∷◌, ◌++◌, length, map, take, drop, ⊎_elim,
+  refl, sym, ap, subst, ◌∙◌, arith}
 use Rattle.std.specs.Prelude.{slice_index, replicate}
 use Rattle.std.specs.List.{All}
 use Rattle.std.proofs.Math.Seq.{take-append_seam, drop-append_seam}
@@ -15,7 +16,8 @@ use Rattle.c8_record.specs.declared.record.Record.{Record as Lent}
 use Rattle.c8_record.specs.declared.record.Record.TheVariants as lents
 use Rattle.c8_wire.specs.Lent.{words}
 use Rattle.c8_record.specs.Lent.{value_of, IsComplete}
-use Rattle.c8_record.specs.Body.{IsForm, records_of, run_room, Fields, fields_of, field_bytes, body_of, HasSpelling, Spells, run_at, bytes_at, record_of}
+use Rattle.c8_record.specs.Body.{IsForm, records_of, run_room, Fields, fields_of, field_bytes, body_of, HasSpelling, Spells, run_at,
+  bytes_at, record_of}
 use Rattle.c8_record.specs.checked.CheckLaws.{words_low}
 
 -- ---- fields
@@ -58,16 +60,19 @@ bytes_are f short even =
 
 -- ---- records
 
-room_is : (player form : ℕ) (id : List ℕ) (room : ℕ) → length id ≡ 32 → room < 2 ^ 64 → number_at 44 8 (field_bytes (fields_of (Head player form id room))) ≡ room
+room_is : (player form : ℕ) (id : List ℕ) (room : ℕ) → length id ≡ 32 → room < 2 ^ 64
+    → number_at 44 8 (field_bytes (fields_of (Head player form id room))) ≡ room
 unfolding number_at after_start zeros_of
 room_is player form id room long low =
     let rest : List ℕ = zeros_of (id ++ big_bytes 8 room) in
     let there : drop 32 ((id ++ big_bytes 8 room) ++ rest) ≡ big_bytes 8 room ++ rest =
-    ap (λ (n : ℕ). drop n ((id ++ big_bytes 8 room) ++ rest)) (sym long) ∙ ap (drop (length id)) (append_assoc id (big_bytes 8 room) rest) ∙ drop-append_seam id (big_bytes 8 room ++ rest) in
+    ap (λ (n : ℕ). drop n ((id ++ big_bytes 8 room) ++ rest)) (sym long) ∙ ap (drop (length id)) (append_assoc id (big_bytes 8 room) rest)
+        ∙ drop-append_seam id (big_bytes 8 room ++ rest) in
     ap (big_number 8) there ∙ big_number-reads_back 8 room rest (omega (arith, low))
 
 id_is : (id more : List ℕ) (rest : List ℕ) → length id ≡ 32 → take 32 ((id ++ more) ++ rest) ≡ id
-id_is id more rest long = ap (λ (n : ℕ). take n ((id ++ more) ++ rest)) (sym long) ∙ ap (take (length id)) (append_assoc id more rest) ∙ take-append_seam id (more ++ rest)
+id_is id more rest long = ap (λ (n : ℕ). take n ((id ++ more) ++ rest)) (sym long) ∙ ap (take (length id)) (append_assoc id more rest)
+    ∙ take-append_seam id (more ++ rest)
 
 word_is : (player start word : ℕ) → word < 2 ^ 16 → number_at 12 2 (field_bytes (fields_of (Own player start word))) ≡ word
 unfolding number_at zeros_of
@@ -164,11 +169,13 @@ small_form form is = ⊎_elim (λ (first : form ≡ 0). omega (arith, first)) (�
 pub head_spells : (bytes : List ℕ) (player form : ℕ) (id : List ℕ) (room : ℕ) → bytes ≡ body_of (Head player form id room)
     → 1 ≤ player → player ≤ 4 → IsForm form → length id ≡ 32 → AreBytes id → room < 2 ^ 64 → Spells bytes (Head player form id room)
 head_spells bytes player form id room is from to of long fits low = record {
-  has = record { from_one = from; to_four = to; number = omega arith; start = small_form form of; short = omega (arith, long, length-append id (big_bytes 8 room)); parts = (of, long, fits, low) };
+  has = record { from_one = from; to_four = to; number = omega arith; start = small_form form of;
+      short = omega (arith, long, length-append id (big_bytes 8 room)); parts = (of, long, fits, low) };
   is = is;
 }
 
-pub epoch_spells : (bytes : List ℕ) (player number form : ℕ) → bytes ≡ body_of (Epoch player number form) → 1 ≤ player → player ≤ 4 → number < 2 ^ 32 → IsForm form → Spells bytes (Epoch player number form)
+pub epoch_spells : (bytes : List ℕ) (player number form : ℕ) → bytes ≡ body_of (Epoch player number form) → 1 ≤ player → player ≤ 4
+    → number < 2 ^ 32 → IsForm form → Spells bytes (Epoch player number form)
 epoch_spells bytes player number form is from to low of = record {
   has = record { from_one = from; to_four = to; number = low; start = small_form form of; short = omega arith; parts = of };
   is = is;
@@ -185,7 +192,8 @@ own_spells bytes player start word is from to low fits = record {
 pub got_spells : (bytes : List ℕ) (player start : ℕ) (words : List ℕ) → bytes ≡ body_of (Got player start words)
     → 1 ≤ player → player ≤ 4 → start < 2 ^ 32 → AreWords words → length words ≤ 64 → 1 ≤ length words → Spells bytes (Got player start words)
 got_spells bytes player start words is from to low sets few some = record {
-  has = record { from_one = from; to_four = to; number = omega arith; start = low; short = omega (arith, few, length-spelled_words words); parts = (some, sets) };
+  has = record { from_one = from; to_four = to; number = omega arith; start = low; short = omega (arith, few, length-spelled_words words);
+      parts = (some, sets) };
   is = is;
 }
 
@@ -197,16 +205,19 @@ cut_spells bytes player cut start words is from to low first sets few = record {
 }
 
 pub state_spells : (bytes : List ℕ) (player frames piece : ℕ) (words : List ℕ) → bytes ≡ body_of (State player frames piece (words_bytes words))
-    → 1 ≤ player → player ≤ 4 → frames < 2 ^ 32 → piece < 2 ^ 32 → AreWords words → length words ≤ 64 → Spells bytes (State player frames piece (words_bytes words))
+    → 1 ≤ player → player ≤ 4 → frames < 2 ^ 32 → piece < 2 ^ 32 → AreWords words → length words ≤ 64
+    → Spells bytes (State player frames piece (words_bytes words))
 state_spells bytes player frames piece words is from to low place sets few = record {
-  has = record { from_one = from; to_four = to; number = low; start = place; short = omega (arith, few, length-spelled_words words); parts = (omega (arith, length-spelled_words words), words_low words) };
+  has = record { from_one = from; to_four = to; number = low; start = place; short = omega (arith, few, length-spelled_words words);
+      parts = (omega (arith, length-spelled_words words), words_low words) };
   is = is;
 }
 
 pub check_spells : (bytes : List ℕ) (player frames : ℕ) (words : List ℕ) → bytes ≡ body_of (Check player frames (words_bytes words))
     → 1 ≤ player → player ≤ 4 → frames < 2 ^ 32 → AreWords words → length words ≡ 4 → Spells bytes (Check player frames (words_bytes words))
 check_spells bytes player frames words is from to low sets four = record {
-  has = record { from_one = from; to_four = to; number = low; start = omega arith; short = omega (arith, four, length-spelled_words words); parts = (omega (arith, four, length-spelled_words words), words_low words) };
+  has = record { from_one = from; to_four = to; number = low; start = omega arith; short = omega (arith, four, length-spelled_words words);
+      parts = (omega (arith, four, length-spelled_words words), words_low words) };
   is = is;
 }
 
@@ -253,4 +264,5 @@ bodies_spell [] all k d within = absurd (omega (arith, within))
 bodies_spell (r ∷ records) all zero d within =
     let has = all 0 r (omega arith) in
     subst (λ (one : Record). Spells (body_of r) one) (sym (read_again r has)) (record { has = has; is = refl })
-bodies_spell (r ∷ records) all (suc k) d within = bodies_spell records (λ k d within. all (suc k) d (omega (arith, within))) k d (omega (arith, within))
+bodies_spell (r ∷ records) all (suc k) d within =
+    bodies_spell records (λ k d within. all (suc k) d (omega (arith, within))) k d (omega (arith, within))

@@ -1,5 +1,6 @@
 -- Checked, not believed: journals, one record after another.
-use Rattle.std.proofs.Common.{◌≡◌, ◌⊎◌, inl, inr, ⊎_elim, ℕ, zero, suc, ◌-◌, ◌<◌, ◌≤◌, List, [], ◌∷◌, ◌++◌, length, take, Bool, true, false, ◌||◌, Some, refl, sym, ap, subst, ◌∙◌, append_assoc, arith}
+use Rattle.std.proofs.Common.{◌≡◌, ◌⊎◌, inl, inr, ⊎_elim, ℕ, zero, suc, ◌-◌, ◌<◌, ◌≤◌, List, [], ◌∷◌, ◌++◌, length, take, Bool, true, false,
+  ◌||◌, Some, refl, sym, ap, subst, ◌∙◌, append_assoc, arith}
 use Rattle.std.specs.Prelude.{slice_index}
 use Rattle.std.specs.List.{slice_get, flat_map}
 use Rattle.std.proofs.Math.Seq.{take-append_seam}
@@ -15,7 +16,8 @@ use Rattle.c8_known.specs.Known.{KnownValue, player_in, count_in, is_frozen_in, 
 use Rattle.c8_known.specs.Growth.{IsStillKnown}
 use Rattle.c8_known.specs.checked.OneMore.{one_more}
 use Rattle.c8_known.specs.checked.StartLaws.{players_known, known_at_start}
-use Rattle.c8_known.specs.checked.KnownLaws.{own_known, own_still, got_known, got_still, freeze_known, freeze_still, leave_known, leave_still, cut_known, cut_still, still_same, still_more}
+use Rattle.c8_known.specs.checked.KnownLaws.{own_known, own_still, got_known, got_still, freeze_known, freeze_still, leave_known,
+  leave_still, cut_known, cut_still, still_same, still_more}
 use Rattle.c8_check.specs.Checks.{no_checks, with_check, checks_of}
 use Rattle.c8_record.specs.Allowed.{Past, past_of, MayOwn, MayCut, IsAllowedAfter, IsAllowed, IsJournal}
 use Rattle.c8_record.specs.checked.Taken.{epoch_after}
@@ -27,7 +29,8 @@ place_more : {X : Type 0} (xs : List X) (y : X) (n : ℕ) (z : X) → slice_get 
 place_more [] y zero z e = inr (refl, cc)
 place_more [] y (suc n) z e = absurd cc
 place_more (x ∷ xs) y zero z e = inl (omega arith, e)
-place_more (x ∷ xs) y (suc n) z e = ⊎_elim (λ below. inl (omega (arith, below.0), below.1)) (λ here. inr (omega (arith, here.0), here.1)) (place_more xs y n z e)
+place_more (x ∷ xs) y (suc n) z e = ⊎_elim (λ below. inl (omega (arith, below.0), below.1)) (λ here. inr (omega (arith, here.0), here.1))
+    (place_more xs y n z e)
 
 place_before : {X : Type 0} (xs ys : List X) (n : ℕ) (z : X) → slice_get xs n ≡ Some z → slice_get (xs ++ ys) n ≡ Some z
 place_before [] ys n z e = absurd cc
@@ -47,19 +50,26 @@ pub journal_more : (rules : Rules) (me room : ℕ) (journal : List Record) (r : 
     → IsJournal rules me room journal → IsAllowed rules me room journal r → IsJournal rules me room (journal ++ r ∷ [])
 journal_more rules me room journal r is may n s e =
     ⊎_elim
-    (λ below. subst (λ (before : List Record). IsAllowed rules me room before s) (sym (take-append-le n journal (r ∷ []) (omega (arith, below.0)))) (is n s below.1))
-    (λ here. let front : take n (journal ++ r ∷ []) ≡ journal = ap (λ (m : ℕ). take m (journal ++ r ∷ [])) here.0 ∙ take-append_seam journal (r ∷ []) in
-    subst (λ (before : List Record). IsAllowed rules me room before s) (sym front) (subst (λ (one : Record). IsAllowed rules me room journal one) (sym here.1) may))
+    (λ below. subst (λ (before : List Record). IsAllowed rules me room before s)
+        (sym (take-append-le n journal (r ∷ []) (omega (arith, below.0)))) (is n s below.1))
+    (λ here. let front : take n (journal ++ r ∷ []) ≡ journal =
+        ap (λ (m : ℕ). take m (journal ++ r ∷ [])) here.0 ∙ take-append_seam journal (r ∷ []) in
+    subst (λ (before : List Record). IsAllowed rules me room before s) (sym front)
+        (subst (λ (one : Record). IsAllowed rules me room journal one) (sym here.1) may))
     (place_more journal r n s e)
 
-pub journal_begins : (rules : Rules) (me room : ℕ) (journal more : List Record) → IsJournal rules me room (journal ++ more) → IsJournal rules me room journal
+pub journal_begins : (rules : Rules) (me room : ℕ) (journal more : List Record) → IsJournal rules me room (journal ++ more)
+    → IsJournal rules me room journal
 journal_begins rules me room journal more is n r e =
-    subst (λ (before : List Record). IsAllowed rules me room before r) (take-append-le n journal more (omega (arith, slice_get_within journal n r e))) (is n r (place_before journal more n r e))
+    subst (λ (before : List Record). IsAllowed rules me room before r)
+        (take-append-le n journal more (omega (arith, slice_get_within journal n r e))) (is n r (place_before journal more n r e))
 
 -- the record after a prefix of a journal is allowed there
-pub next_allowed : (rules : Rules) (me room : ℕ) (journal : List Record) (r : Record) (more : List Record) → IsJournal rules me room (journal ++ r ∷ more) → IsAllowed rules me room journal r
+pub next_allowed : (rules : Rules) (me room : ℕ) (journal : List Record) (r : Record) (more : List Record)
+    → IsJournal rules me room (journal ++ r ∷ more) → IsAllowed rules me room journal r
 next_allowed rules me room journal r more is =
-    subst (λ (before : List Record). IsAllowed rules me room before r) (take-append_seam journal (r ∷ more)) (is (length journal) r (place_here journal r more))
+    subst (λ (before : List Record). IsAllowed rules me room before r) (take-append_seam journal (r ∷ more))
+        (is (length journal) r (place_here journal r more))
 
 -- ---- epochs
 
@@ -74,7 +84,8 @@ last_here xs x =
 
 epochs_more : (journal : List Record) (r : Record) → epochs (journal ++ r ∷ []) ≡ epochs journal ++ journals.epochs_of r
 unfolding epochs
-epochs_more journal r = flat_map-append journals.epochs_of journal (r ∷ []) ∙ ap (λ (more : List ℕ). flat_map journals.epochs_of journal ++ more) (append-nil (journals.epochs_of r))
+epochs_more journal r = flat_map-append journals.epochs_of journal (r ∷ [])
+    ∙ ap (λ (more : List ℕ). flat_map journals.epochs_of journal ++ more) (append-nil (journals.epochs_of r))
 
 last_of : List ℕ → ℕ
 last_of numbers = slice_index numbers (length numbers - 1)
@@ -85,7 +96,8 @@ same_epoch journal r none = ap last_of (epochs_more journal r ∙ ap (λ (more :
 
 next_epoch : (journal : List Record) (r : Record) (number : ℕ) → journals.epochs_of r ≡ number ∷ [] → epoch (journal ++ r ∷ []) ≡ number
 unfolding last_of
-next_epoch journal r number one = ap last_of (epochs_more journal r ∙ ap (λ (more : List ℕ). epochs journal ++ more) one) ∙ last_here (epochs journal) number
+next_epoch journal r number one = ap last_of (epochs_more journal r ∙ ap (λ (more : List ℕ). epochs journal ++ more) one)
+    ∙ last_here (epochs journal) number
 
 pub epoch_more : (journal : List Record) (r : Record) → epoch (journal ++ r ∷ []) ≡ epoch_after (epoch journal) r
 epoch_more journal (Head player form id room) = next_epoch journal (Head player form id room) 1 refl
@@ -110,10 +122,12 @@ pub of_game : (rules : Rules) (me : ℕ) (journal : List Record) → IsOfGame ru
 unfolding known_of
 of_game rules me journal = record { players = players_known rules me journal; delay = refl; limit = refl; player = refl }
 
-pub names_player : (rules : Rules) (room : ℕ) (past : Past) (r : Record) → length past.known.players ≡ rules.players → IsAllowedAfter rules room past r → NamesPlayer rules r
+pub names_player : (rules : Rules) (room : ℕ) (past : Past) (r : Record) → length past.known.players ≡ rules.players
+    → IsAllowedAfter rules room past r → NamesPlayer rules r
 names_player rules room past r all may = record { from_one = may.plays.from_one; in_game = omega (arith, may.plays.in_game, all) }
 
-own_room : (rules : Rules) (k : KnownValue) (player start : ℕ) → IsKnown k → IsOfGame rules k.me k → MayOwn rules k player start → count_in k k.me < k.limit
+own_room : (rules : Rules) (k : KnownValue) (player start : ℕ) → IsKnown k → IsOfGame rules k.me k → MayOwn rules k player start
+    → count_in k k.me < k.limit
 own_room rules k player start known of may = omega (arith, known.own, of.delay, of.limit, may.frames)
 
 or_true : (b : Bool) → (b || true) ≡ true
@@ -127,21 +141,25 @@ leaves k player cut start words may =
       | inr other ↦ rw (may.elsewhere other) refl
     ]
 
-pub sound_more : (rules : Rules) (room : ℕ) (past : Past) (r : Record) → IsKnown past.known → IsOfGame rules past.known.me past.known → IsAllowedAfter rules room past r → IsKnown (with_record past.known r)
+pub sound_more : (rules : Rules) (room : ℕ) (past : Past) (r : Record) → IsKnown past.known → IsOfGame rules past.known.me past.known
+    → IsAllowedAfter rules room past r → IsKnown (with_record past.known r)
 sound_more rules room past (Head player form id named) known of may = known
 sound_more rules room past (Epoch player number form) known of may = known
 sound_more rules room past (Own player start word) known of may =
-    subst (λ (q : ℕ). IsKnown (with_record past.known (Own q start word))) (sym may.may.own) (own_known past.known start word known (own_room rules past.known player start known of may.may))
+    subst (λ (q : ℕ). IsKnown (with_record past.known (Own q start word))) (sym may.may.own)
+        (own_known past.known start word known (own_room rules past.known player start known of may.may))
 sound_more rules room past (Got player start words) known of may =
     got_known past.known player start words known may.plays may.may.other may.may.uncut (omega (arith, may.may.next, may.may.within))
 sound_more rules room past (Freeze player) known of may = freeze_known past.known player known may.plays
 sound_more rules room past (Leave player) known of may = leave_known past.known player known may.plays
 sound_more rules room past (Cut player cut start words) known of may =
-    cut_known past.known player cut start words known may.plays may.may.other (leaves past.known player cut start words may.may) may.may.once (omega (arith, may.may.next, may.may.ends)) may.may.within
+    cut_known past.known player cut start words known may.plays may.may.other (leaves past.known player cut start words may.may)
+        may.may.once (omega (arith, may.may.next, may.may.ends)) may.may.within
 sound_more rules room past (State player frames piece bytes) known of may = known
 sound_more rules room past (Check player frames digest) known of may = known
 
-pub still_with : (rules : Rules) (room : ℕ) (past : Past) (r : Record) → IsKnown past.known → IsAllowedAfter rules room past r → IsStillKnown past.known (with_record past.known r)
+pub still_with : (rules : Rules) (room : ℕ) (past : Past) (r : Record) → IsKnown past.known → IsAllowedAfter rules room past r
+    → IsStillKnown past.known (with_record past.known r)
 still_with rules room past (Head player form id named) known may = still_same past.known
 still_with rules room past (Epoch player number form) known may = still_same past.known
 still_with rules room past (Own player start word) known may =
@@ -154,8 +172,10 @@ still_with rules room past (State player frames piece bytes) known may = still_s
 still_with rules room past (Check player frames digest) known may = still_same past.known
 
 -- what a journal with one more record makes known
-pub known_more : (rules : Rules) (me room : ℕ) (journal : List Record) (r : Record) → IsAllowed rules me room journal r → known_of rules me (journal ++ r ∷ []) ≡ with_record (known_of rules me journal) r
-known_more rules me room journal r may = one_more rules me journal r (names_player rules room (past_of rules me journal) r (players_known rules me journal) may)
+pub known_more : (rules : Rules) (me room : ℕ) (journal : List Record) (r : Record) → IsAllowed rules me room journal r
+    → known_of rules me (journal ++ r ∷ []) ≡ with_record (known_of rules me journal) r
+known_more rules me room journal r may = one_more rules me journal r
+    (names_player rules room (past_of rules me journal) r (players_known rules me journal) may)
 
 -- What a journal makes known is sound, and each longer journal keeps it.
 pub record HasGrown (rules : Rules) (me : ℕ) (early late : List Record) : Type 0 where
@@ -166,7 +186,8 @@ me_is : (rules : Rules) (me : ℕ) (journal : List Record) → (known_of rules m
 unfolding known_of
 me_is rules me journal = refl
 
-one_grown : (rules : Rules) (me room : ℕ) (journal : List Record) (r : Record) → IsKnown (known_of rules me journal) → IsAllowed rules me room journal r → HasGrown rules me journal (journal ++ r ∷ [])
+one_grown : (rules : Rules) (me room : ℕ) (journal : List Record) (r : Record) → IsKnown (known_of rules me journal)
+    → IsAllowed rules me room journal r → HasGrown rules me journal (journal ++ r ∷ [])
 unfolding me_is
 one_grown rules me room journal r known may =
     let past : Past = past_of rules me journal in
@@ -176,23 +197,29 @@ one_grown rules me room journal r known may =
       still = subst (λ (k : KnownValue). IsStillKnown past.known k) (sym more) (still_with rules room past r known may);
     }
 
-grown_from : (rules : Rules) (me room : ℕ) (more journal : List Record) → IsJournal rules me room (journal ++ more) → IsKnown (known_of rules me journal) → HasGrown rules me journal (journal ++ more)
+grown_from : (rules : Rules) (me room : ℕ) (more journal : List Record) → IsJournal rules me room (journal ++ more)
+    → IsKnown (known_of rules me journal) → HasGrown rules me journal (journal ++ more)
 grown_from rules me room [] journal is known =
-    subst (λ (late : List Record). HasGrown rules me journal late) (sym (append-nil journal)) (record { known = known; still = still_same (known_of rules me journal) })
+    subst (λ (late : List Record). HasGrown rules me journal late) (sym (append-nil journal))
+        (record { known = known; still = still_same (known_of rules me journal) })
 grown_from rules me room (r ∷ more) journal is known =
     let split : (journal ++ r ∷ []) ++ more ≡ journal ++ r ∷ more = append_assoc journal (r ∷ []) more in
     let one = one_grown rules me room journal r known (next_allowed rules me room journal r more is) in
-    let rest = grown_from rules me room more (journal ++ r ∷ []) (subst (λ (late : List Record). IsJournal rules me room late) (sym split) is) one.known in
+    let rest = grown_from rules me room more (journal ++ r ∷ [])
+        (subst (λ (late : List Record). IsJournal rules me room late) (sym split) is) one.known in
     let all : HasGrown rules me journal ((journal ++ r ∷ []) ++ more) = record {
       known = rest.known;
-      still = still_more (known_of rules me journal) (known_of rules me (journal ++ r ∷ [])) (known_of rules me ((journal ++ r ∷ []) ++ more)) one.still rest.still;
+      still = still_more (known_of rules me journal) (known_of rules me (journal ++ r ∷ []))
+          (known_of rules me ((journal ++ r ∷ []) ++ more)) one.still rest.still;
     } in
     subst (λ (late : List Record). HasGrown rules me journal late) split all
 
-pub journal_known : (rules : Rules) (me room : ℕ) (journal : List Record) → AreInRange rules → 1 ≤ me → me ≤ rules.players → IsJournal rules me room journal → IsKnown (known_of rules me journal)
+pub journal_known : (rules : Rules) (me room : ℕ) (journal : List Record) → AreInRange rules → 1 ≤ me → me ≤ rules.players
+    → IsJournal rules me room journal → IsKnown (known_of rules me journal)
 journal_known rules me room journal range from to is = (grown_from rules me room journal [] is (known_at_start rules me range from to)).known
 
-pub journal_grows : (rules : Rules) (me room : ℕ) (early more : List Record) → AreInRange rules → 1 ≤ me → me ≤ rules.players → IsJournal rules me room (early ++ more)
+pub journal_grows : (rules : Rules) (me room : ℕ) (early more : List Record) → AreInRange rules → 1 ≤ me → me ≤ rules.players
+    → IsJournal rules me room (early ++ more)
     → IsStillKnown (known_of rules me early) (known_of rules me (early ++ more))
 journal_grows rules me room early more range from to is =
     (grown_from rules me room more early is (journal_known rules me room early range from to (journal_begins rules me room early more is))).still

@@ -30,17 +30,20 @@ longer me q p words o = record {
   cut_elsewhere = o.cut_elsewhere;
 }
 
-orderly_with : (rules : Rules) (room : ℕ) (past : Past) (r : Record) → IsOrderly past.known → IsAllowedAfter rules room past r → IsOrderly (with_record past.known r)
+orderly_with : (rules : Rules) (room : ℕ) (past : Past) (r : Record) → IsOrderly past.known → IsAllowedAfter rules room past r
+    → IsOrderly (with_record past.known r)
 orderly_with rules room past (Head player form id named) orderly may = orderly
 orderly_with rules room past (Epoch player number form) orderly may = orderly
 orderly_with rules room past (State player frames piece bytes) orderly may = orderly
 orderly_with rules room past (Check player frames digest) orderly may = orderly
 orderly_with rules room past (Own player start word) orderly may =
     let k : KnownValue = past.known in
-    orderly_changed k (k.ticks + 1) player (with_words (player_in k player) (word ∷ [])) orderly may.plays (longer k.me player (player_in k player) (word ∷ []) (orderly player may.plays.from_one))
+    orderly_changed k (k.ticks + 1) player (with_words (player_in k player) (word ∷ [])) orderly may.plays
+        (longer k.me player (player_in k player) (word ∷ []) (orderly player may.plays.from_one))
 orderly_with rules room past (Got player start words) orderly may =
     let k : KnownValue = past.known in
-    orderly_changed k k.ticks player (with_words (player_in k player) words) orderly may.plays (longer k.me player (player_in k player) words (orderly player may.plays.from_one))
+    orderly_changed k k.ticks player (with_words (player_in k player) words) orderly may.plays
+        (longer k.me player (player_in k player) words (orderly player may.plays.from_one))
 orderly_with rules room past (Freeze player) orderly may =
     let k : KnownValue = past.known in
     let o = orderly player may.plays.from_one in
@@ -75,12 +78,14 @@ orderly_with rules room past (Cut player cut start words) orderly may =
       cut_elsewhere = λ other K is. may.may.elsewhere other;
     })
 
-orderly_from : (rules : Rules) (me room : ℕ) (more journal : List Record) → IsJournal rules me room (journal ++ more) → IsOrderly (known_of rules me journal) → IsOrderly (known_of rules me (journal ++ more))
+orderly_from : (rules : Rules) (me room : ℕ) (more journal : List Record) → IsJournal rules me room (journal ++ more)
+    → IsOrderly (known_of rules me journal) → IsOrderly (known_of rules me (journal ++ more))
 orderly_from rules me room [] journal is orderly = subst (λ (all : List Record). IsOrderly (known_of rules me all)) (sym (append-nil journal)) orderly
 orderly_from rules me room (r ∷ more) journal is orderly =
     let split : (journal ++ r ∷ []) ++ more ≡ journal ++ r ∷ more = append_assoc journal (r ∷ []) more in
     let may = next_allowed rules me room journal r more is in
-    let one : IsOrderly (known_of rules me (journal ++ r ∷ [])) = subst IsOrderly (sym (known_more rules me room journal r may)) (orderly_with rules room (past_of rules me journal) r orderly may) in
+    let one : IsOrderly (known_of rules me (journal ++ r ∷ [])) =
+        subst IsOrderly (sym (known_more rules me room journal r may)) (orderly_with rules room (past_of rules me journal) r orderly may) in
     subst (λ (all : List Record). IsOrderly (known_of rules me all)) split
     (orderly_from rules me room more (journal ++ r ∷ []) (subst (λ (all : List Record). IsJournal rules me room all) (sym split) is) one)
 

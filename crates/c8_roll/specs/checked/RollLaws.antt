@@ -1,8 +1,10 @@
 -- Checked, not believed: the parts of a roll, its newest mark, and from where it may be run.
-use Rattle.std.proofs.Common.{◌≡◌, ℕ, zero, suc, ◌+◌, ◌-◌, ◌*◌, ◌/◌, ◌≤◌, ◌<◌, List, ◌++◌, length, map, take, drop, Some, inl, inr, refl, sym, ap, subst, ◌∙◌, arith}
+use Rattle.std.proofs.Common.{◌≡◌, ℕ, zero, suc, ◌+◌, ◌-◌, ◌*◌, ◌/◌, ◌≤◌, ◌<◌, List, ◌++◌, length, map, take, drop, Some, inl, inr, refl,
+  sym, ap, subst, ◌∙◌, arith}
 use Rattle.std.specs.Prelude.{fold, min}
 use Rattle.std.specs.List.{slice_get, range_with_len}
-use Rattle.std.proofs.lemmas.List.{length-drop, length-append, length-take-le, get_or-take, get_or-drop, drop-append-le, drop-drop, take-append-drop, map-append, same_lists}
+use Rattle.std.proofs.lemmas.List.{length-drop, length-append, length-take-le, get_or-take, get_or-drop, drop-append-le, drop-drop,
+  take-append-drop, map-append, same_lists}
 use Rattle.std.proofs.lemmas.List.FromFn.{length-map-range_with_len, get_or-map-range_with_len}
 use Rattle.std.proofs.lemmas.List.Sums.{fold-append}
 use Rattle.std.proofs.lemmas.Bool.{cases_lt}
@@ -25,9 +27,11 @@ use Rattle.c8_roll.specs.Roll.{mark_since, marks_since, mark_after, marks_up_to,
 
 -- ---- the newest mark
 
-pub map_same_between : (g f : ℕ → FrameMark) (a n : ℕ) → ((i : ℕ) → a ≤ i → i < a + n → g i ≡ f i) → map g (range_with_len a n) ≡ map f (range_with_len a n)
+pub map_same_between : (g f : ℕ → FrameMark) (a n : ℕ) → ((i : ℕ) → a ≤ i → i < a + n → g i ≡ f i)
+    → map g (range_with_len a n) ≡ map f (range_with_len a n)
 map_same_between g f a zero same = refl
-map_same_between g f a (suc n) same = rw (same a (omega arith) (omega arith), map_same_between g f (a + 1) n (λ i low to. same i (omega (arith, low)) (omega (arith, to)))) refl
+map_same_between g f a (suc n) same = rw (same a (omega arith) (omega arith),
+    map_same_between g f (a + 1) n (λ i low to. same i (omega (arith, low)) (omega (arith, to)))) refl
 
 -- the last of the marks at the first multiples is among the last sixteen
 newest_kept : (f : ℕ → FrameMark) (n : ℕ) → newest_of (kept (map f (range_with_len 0 (n + 1)))) ≡ Some (f n)
@@ -39,12 +43,15 @@ newest_kept f n =
     let last : ℕ = length (kept put) - 1 in
     let place : gone + last ≡ n = omega (arith, many, left) in
     slice_get-get_or (kept put) last (f n) (omega (arith, many, left))
-    ∙ ap Some (get_or-drop gone put last (f n) ∙ get_or-map-range_with_len f 0 (n + 1) (gone + last) n (f n) (omega (arith, place)) (omega (arith, place)))
+    ∙ ap Some (get_or-drop gone put last (f n)
+    ∙ get_or-map-range_with_len f 0 (n + 1) (gone + last) n (f n) (omega (arith, place)) (omega (arith, place)))
 
-pub newest_up_to : (rules : Rules) (k : KnownValue) (n : ℕ) → newest_of (marks_up_to rules k n) ≡ Some (mark_after rules k (mark_step * (n / mark_step)))
+pub newest_up_to : (rules : Rules) (k : KnownValue) (n : ℕ)
+    → newest_of (marks_up_to rules k n) ≡ Some (mark_after rules k (mark_step * (n / mark_step)))
 newest_up_to rules k n = newest_kept (λ m. mark_after rules k (mark_step * m)) (n / mark_step)
 
-pub newest_of_roll : (rules : Rules) (k : KnownValue) (v : RollValue) → v ≡ roll_of rules k → newest_of v.marks ≡ Some (mark_after rules k (mark_step * (confirmed k / mark_step)))
+pub newest_of_roll : (rules : Rules) (k : KnownValue) (v : RollValue) → v ≡ roll_of rules k
+    → newest_of v.marks ≡ Some (mark_after rules k (mark_step * (confirmed k / mark_step)))
 unfolding roll_of
 newest_of_roll rules k v is = ap (λ (r : RollValue). newest_of r.marks) is ∙ newest_up_to rules k (confirmed k)
 
@@ -58,7 +65,8 @@ pub roll_ticks : (rules : Rules) (from : Origin) (k : KnownValue) (v : RollValue
 unfolding roll_since
 roll_ticks rules from k v is = ap (λ (r : RollValue). r.ticks) is
 
-pub roll_shown : (rules : Rules) (from : Origin) (k : KnownValue) (v : RollValue) → v ≡ roll_since rules from k → v.shown ≡ run_since rules from (best_rows k)
+pub roll_shown : (rules : Rules) (from : Origin) (k : KnownValue) (v : RollValue) → v ≡ roll_since rules from k
+    → v.shown ≡ run_since rules from (best_rows k)
 unfolding roll_since
 roll_shown rules from k v is = ap (λ (r : RollValue). r.shown) is
 
@@ -66,11 +74,13 @@ pub roll_confirmed : (rules : Rules) (from : Origin) (k : KnownValue) (v : RollV
 unfolding roll_since
 roll_confirmed rules from k v is = ap (λ (r : RollValue). r.confirmed) is
 
-pub roll_base : (rules : Rules) (from : Origin) (k : KnownValue) (v : RollValue) → v ≡ roll_since rules from k → v.base ≡ run_since rules from (confirmed_rows k)
+pub roll_base : (rules : Rules) (from : Origin) (k : KnownValue) (v : RollValue) → v ≡ roll_since rules from k
+    → v.base ≡ run_since rules from (confirmed_rows k)
 unfolding roll_since
 roll_base rules from k v is = ap (λ (r : RollValue). r.base) is
 
-pub roll_marks : (rules : Rules) (from : Origin) (k : KnownValue) (v : RollValue) → v ≡ roll_since rules from k → v.marks ≡ marks_since rules from k (confirmed k)
+pub roll_marks : (rules : Rules) (from : Origin) (k : KnownValue) (v : RollValue) → v ≡ roll_since rules from k
+    → v.marks ≡ marks_since rules from k (confirmed k)
 unfolding roll_since
 roll_marks rules from k v is = ap (λ (r : RollValue). r.marks) is
 
@@ -99,27 +109,33 @@ rows_front f n m within =
     ∙ sym (get_or-map-range_with_len f 0 m i i d (omega (arith, below, front)) (omega arith)))
 
 -- the rows from the origin on lead to the same machine as all rows
-run_is_serial : (rules : Rules) (from : Origin) (rows before : List Row) → from.machine ≡ serial rules before → take from.frames rows ≡ before → run_since rules from rows ≡ serial rules rows
+run_is_serial : (rules : Rules) (from : Origin) (rows before : List Row) → from.machine ≡ serial rules before
+    → take from.frames rows ≡ before → run_since rules from rows ≡ serial rules rows
 run_is_serial rules from rows before machine front =
     let one : State → Row → State = λ s row. frame_of rules (joined rules row) s in
     ap (λ (s : State). fold one s (drop from.frames rows)) (machine ∙ ap (serial rules) (sym front))
     ∙ sym (fold-append one (first_state rules) (take from.frames rows) (drop from.frames rows))
     ∙ ap (serial rules) (take-append-drop from.frames rows)
 
-pub confirmed_is_serial : (rules : Rules) (k : KnownValue) (from : Origin) (n : ℕ) → IsOnTheWay rules k from → from.frames ≤ n → run_since rules from (rows_below k n) ≡ serial rules (rows_below k n)
-confirmed_is_serial rules k from n way within = run_is_serial rules from (rows_below k n) (rows_below k from.frames) way.machine (rows_front (row k) n from.frames within)
+pub confirmed_is_serial : (rules : Rules) (k : KnownValue) (from : Origin) (n : ℕ) → IsOnTheWay rules k from → from.frames ≤ n
+    → run_since rules from (rows_below k n) ≡ serial rules (rows_below k n)
+confirmed_is_serial rules k from n way within =
+    run_is_serial rules from (rows_below k n) (rows_below k from.frames) way.machine (rows_front (row k) n from.frames within)
 
-best_is_serial : (rules : Rules) (k : KnownValue) (from : Origin) → IsOnTheWay rules k from → run_since rules from (best_rows k) ≡ serial rules (best_rows k)
+best_is_serial : (rules : Rules) (k : KnownValue) (from : Origin) → IsOnTheWay rules k from
+    → run_since rules from (best_rows k) ≡ serial rules (best_rows k)
 best_is_serial rules k from way =
     let most = (confirmed_is k).ticked in
     let sure = way.confirmed_is in
     run_is_serial rules from (best_rows k) (rows_below k from.frames) way.machine
-    (rows_front (best_row k) k.ticks from.frames (omega (arith, most, sure)) ∙ map_same (best_row k) (row k) 0 from.frames (λ i to. best_of_confirmed k i (omega (arith, to, sure))))
+    (rows_front (best_row k) k.ticks from.frames (omega (arith, most, sure))
+        ∙ map_same (best_row k) (row k) 0 from.frames (λ i to. best_of_confirmed k i (omega (arith, to, sure))))
 
 joined_ranges : (a n : ℕ) → range_with_len 0 a ++ range_with_len a n ≡ range_with_len 0 (a + n)
 joined_ranges a n = let from : a ≡ 0 + a = omega arith in ap (λ (b : ℕ). range_with_len 0 a ++ range_with_len b n) from ∙ sym (range_more 0 a n)
 
-pub marks_on_the_way : (rules : Rules) (k : KnownValue) (from : Origin) (n : ℕ) → IsOnTheWay rules k from → from.frames ≤ n → marks_since rules from k n ≡ marks_up_to rules k n
+pub marks_on_the_way : (rules : Rules) (k : KnownValue) (from : Origin) (n : ℕ) → IsOnTheWay rules k from → from.frames ≤ n
+    → marks_since rules from k n ≡ marks_up_to rules k n
 marks_on_the_way rules k from n way within =
     let f : ℕ → FrameMark = λ m. mark_after rules k (32 * m) in
     let g : ℕ → FrameMark = λ m. mark_since rules from k (32 * m) in
@@ -127,7 +143,8 @@ marks_on_the_way rules k from n way within =
     let count : ℕ = n / 32 - from.frames / 32 in
     let all : first + count ≡ n / 32 + 1 = omega (arith, within) in
     let later : map g (range_with_len first count) ≡ map f (range_with_len first count) =
-    map_same_between g f first count (λ i low to. ap (λ (s : State). record { frame = 32 * i; mark = mark_of s }) (confirmed_is_serial rules k from (32 * i) way (omega (arith, low)))) in
+    map_same_between g f first count (λ i low to. ap (λ (s : State). record { frame = 32 * i; mark = mark_of s })
+        (confirmed_is_serial rules k from (32 * i) way (omega (arith, low)))) in
     ap (λ (marks : List FrameMark). kept (marks ++ map g (range_with_len first count))) way.marks
     ∙ kept_more (map f (range_with_len 0 first)) (map g (range_with_len first count))
     ∙ ap (λ (marks : List FrameMark). kept (map f (range_with_len 0 first) ++ marks)) later
@@ -149,7 +166,8 @@ first_on_the_way rules k = record { confirmed_is = omega arith; machine = refl; 
 -- ---- origins of a run
 
 -- the marks kept after n frames
-since_kept : (rules : Rules) (from : Origin) (k : KnownValue) (n : ℕ) → from.frames ≤ n → AreMarksAfter from.frames from.marks → AreMarksAfter n (marks_since rules from k n)
+since_kept : (rules : Rules) (from : Origin) (k : KnownValue) (n : ℕ) → from.frames ≤ n → AreMarksAfter from.frames from.marks
+    → AreMarksAfter n (marks_since rules from k n)
 since_kept rules from k n starts are =
     let g : ℕ → FrameMark = λ m. mark_since rules from k (32 * m) in
     let first : ℕ = from.frames / 32 + 1 in
@@ -169,19 +187,25 @@ since_kept rules from k n starts are =
           elim (cases_lt (gone + i) (length from.marks)) [
             | inl low ↦
                 let was = are.each (gone + i) m (sym (slice_get-append_left from.marks later (gone + i) low) ∙ here) in
-                let same : 32 * (forgotten_after from.frames + (gone + i)) ≡ 32 * (forgotten_after n + i) = omega (arith, old, more, all, starts, low) in
+                let same : 32 * (forgotten_after from.frames + (gone + i)) ≡ 32 * (forgotten_after n + i) =
+                    omega (arith, old, more, all, starts, low) in
                 subst (λ (frame : ℕ). IsMarkAt frame m) same was
             | inr high ↦
                 let place : ℕ = gone + i - length from.marks in
-                let there_later : slice_get later place ≡ Some m = sym (slice_get-append_right from.marks later (gone + i) place (omega (arith, high))) ∙ here in
+                let there_later : slice_get later place ≡ Some m =
+                    sym (slice_get-append_right from.marks later (gone + i) place (omega (arith, high))) ∙ here in
                 let below : place < count = omega (arith, more, slice_get_within later place m there_later) in
-                let is : g (first + place) ≡ m = sym (get_or-map-range_with_len g first count place (first + place) m below refl) ∙ get_or_from_slice_get later place m m there_later in
+                let is : g (first + place) ≡ m = sym (get_or-map-range_with_len g first count place (first + place) m below refl)
+                    ∙ get_or_from_slice_get later place m m there_later in
                 let same : 32 * (first + place) ≡ 32 * (forgotten_after n + i) = omega (arith, old, more, all, starts, high, within) in
-                subst (λ (frame : ℕ). IsMarkAt frame m) same (subst (IsMarkAt (32 * (first + place))) is (mark_is_one (32 * (first + place)) (run_since rules from (rows_below k (32 * (first + place))))))
+                subst (λ (frame : ℕ). IsMarkAt frame m) same
+                    (subst (IsMarkAt (32 * (first + place))) is
+                    (mark_is_one (32 * (first + place)) (run_since rules from (rows_below k (32 * (first + place))))))
           ];
     }
 
-pub origin_goes_on : (rules : Rules) (from : Origin) (k : KnownValue) (n : ℕ) → AreInRange rules → IsOrigin from → from.frames ≤ n → IsOrigin (origin_at rules from k n)
+pub origin_goes_on : (rules : Rules) (from : Origin) (k : KnownValue) (n : ℕ) → AreInRange rules → IsOrigin from → from.frames ≤ n
+    → IsOrigin (origin_at rules from k n)
 origin_goes_on rules from k n range is starts = record {
   machine_is = run_in rules from.machine (drop from.frames (rows_below k n)) range is.machine_is;
   marks_are = since_kept rules from k n starts is.marks_are;

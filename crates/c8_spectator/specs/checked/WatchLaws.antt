@@ -1,6 +1,7 @@
 -- Checked, not believed: what a watcher takes, and that its rows begin a list if all rows shown to it
 -- are of that list.
-use Rattle.std.proofs.Common.{◌≡◌, ◌≢◌, ℕ, ◌+◌, ◌-◌, ◌<◌, ◌≤◌, ◌||◌, List, [], ◌∷◌, ◌++◌, length, drop, Bool, true, false, not, cond, Option, Some, None, Result, Ok, Err, refl, sym, ap, subst, ◌∙◌, append_assoc, inl, inr, arith}
+use Rattle.std.proofs.Common.{◌≡◌, ◌≢◌, ℕ, ◌+◌, ◌-◌, ◌<◌, ◌≤◌, ◌||◌, List, [], ◌∷◌, ◌++◌, length, drop, Bool, true, false, not, cond,
+  Option, Some, None, Result, Ok, Err, refl, sym, ap, subst, ◌∙◌, append_assoc, inl, inr, arith}
 use Rattle.std.specs.Prelude.{◌==◌, nat_lt}
 use Rattle.std.proofs.Math.Seq.{drop-append_seam}
 use Rattle.std.proofs.lemmas.Bool.{cases_Bool, eq-eqb, eqb-true, le-ltb, ltb-false, not-false}
@@ -17,7 +18,8 @@ use Rattle.c8_spectator.specs.declared.error.WatchError.TheVariants as errors
 use Rattle.c8_spectator.specs.declared.error.NotTaken.TheVariants as refusals
 use Rattle.c8_spectator.specs.declared.taken.Taken.{Taken}
 use Rattle.c8_spectator.specs.declared.taken.Taken.TheVariants as answers
-use Rattle.c8_spectator.specs.Watching.{WatchValue, Watched, is_of_other_match, are_of_game, are_same, differ, refusal_of_rows, refusal_of_message, refusal, fresh_rows, rows_in, with_rows, taken_of, unless_refused, hear}
+use Rattle.c8_spectator.specs.Watching.{WatchValue, Watched, is_of_other_match, are_of_game, are_same, differ, refusal_of_rows,
+  refusal_of_message, refusal, fresh_rows, rows_in, with_rows, taken_of, unless_refused, hear}
 use Rattle.c8_spectator.specs.Growth.{IsStillWatched, IsTaken, ShowsRowsOf}
 
 -- ---- no row is taken back
@@ -83,7 +85,8 @@ unrefused w p none =
     let ours = none_past (is_of_other_match w p.head) errors.Session _ none in
     taken_by w p.head p.message ours.0 ours.1
 
-answered : (w : WatchValue) (message : Message) (refused : Option WatchError) (taken : Taken) → (unless_refused w message refused).answer ≡ Ok taken → refused ≡ None
+answered : (w : WatchValue) (message : Message) (refused : Option WatchError) (taken : Taken)
+    → (unless_refused w message refused).answer ≡ Ok taken → refused ≡ None
 answered w message (Some error) taken is = absurd cc
 answered w message None taken is = refl
 
@@ -113,7 +116,8 @@ taken_unrefused w p is =
     ∙ mine w p.head is.shown is.seat
     ∙ accepted w is.shown is.of_game is.within is.after is.same
 
-pub taken_heard : (w : WatchValue) (p : Packet) (is : IsTaken w p) → hear w (Ok p) ≡ record { answer = Ok (taken_of (fresh_rows w is.shown)); watch = with_rows w (fresh_rows w is.shown) }
+pub taken_heard : (w : WatchValue) (p : Packet) (is : IsTaken w p)
+    → hear w (Ok p) ≡ record { answer = Ok (taken_of (fresh_rows w is.shown)); watch = with_rows w (fresh_rows w is.shown) }
 taken_heard w p is =
     ap (λ (refused : Option WatchError). unless_refused w p.message refused) (taken_unrefused w p is)
     ∙ ap (λ (message : Message). unless_refused w message None) is.message
@@ -130,7 +134,8 @@ reach_of w m after = omega (arith, after, length-append w.rows (fresh_rows w m),
 
 pub taken_reaches : (w : WatchValue) (p : Packet) (is : IsTaken w p) → is.shown.start + length is.shown.rows ≤ length (hear w (Ok p)).watch.rows
 taken_reaches w p is =
-    subst (λ (watched : Watched). is.shown.start + length is.shown.rows ≤ length watched.watch.rows) (sym (taken_heard w p is)) (reach_of w is.shown is.after)
+    subst (λ (watched : Watched). is.shown.start + length is.shown.rows ≤ length watched.watch.rows) (sym (taken_heard w p is))
+        (reach_of w is.shown is.after)
 
 -- ---- only new rows change what a watcher has
 
@@ -143,7 +148,8 @@ kept_unless : (w : WatchValue) (message : Message) (refused : Option WatchError)
 kept_unless w message (Some error) is = absurd cc
 kept_unless w message None is = let some = kept_some (rows_in w message) cc in omega (arith, some, length-append w.rows (rows_in w message))
 
-pub kept_more : (w : WatchValue) (told : Result Packet WireError) → (hear w told).answer ≡ Ok answers.Kept → length w.rows < length (hear w told).watch.rows
+pub kept_more : (w : WatchValue) (told : Result Packet WireError) → (hear w told).answer ≡ Ok answers.Kept
+    → length w.rows < length (hear w told).watch.rows
 kept_more w (Err error) is = absurd cc
 kept_more w (Ok p) is = kept_unless w p.message (refusal w p) is
 
@@ -162,18 +168,22 @@ unkept_same w (Ok p) apart = unkept_unless w p.message (refusal w p) apart
 
 -- ---- the rows stay within the game
 
-within_taken : (w : WatchValue) (m : ShowMessage) → length w.rows ≤ w.rules.frames → m.start + length m.rows ≤ w.rules.frames → m.start ≤ length w.rows
+within_taken : (w : WatchValue) (m : ShowMessage) → length w.rows ≤ w.rules.frames → m.start + length m.rows ≤ w.rules.frames
+    → m.start ≤ length w.rows
     → length (w.rows ++ fresh_rows w m) ≤ w.rules.frames
-within_taken w m few within after = omega (arith, few, within, after, length-append w.rows (fresh_rows w m), length-drop (length w.rows - m.start) m.rows)
+within_taken w m few within after = omega
+    (arith, few, within, after, length-append w.rows (fresh_rows w m), length-drop (length w.rows - m.start) m.rows)
 
 within_by : (w : WatchValue) (p : Packet) (refused : Option WatchError) → refusal w p ≡ refused → length w.rows ≤ w.rules.frames
     → length (unless_refused w p.message refused).watch.rows ≤ w.rules.frames
 within_by w p (Some error) refused few = few
 within_by w p None none few =
     let is = unrefused w p none in
-    subst (λ (message : Message). length (w.rows ++ rows_in w message) ≤ w.rules.frames) (sym is.message) (within_taken w is.shown few is.within is.after)
+    subst (λ (message : Message). length (w.rows ++ rows_in w message) ≤ w.rules.frames) (sym is.message)
+        (within_taken w is.shown few is.within is.after)
 
-pub within_heard : (w : WatchValue) (told : Result Packet WireError) → length w.rows ≤ w.rules.frames → length (hear w told).watch.rows ≤ (hear w told).watch.rules.frames
+pub within_heard : (w : WatchValue) (told : Result Packet WireError) → length w.rows ≤ w.rules.frames
+    → length (hear w told).watch.rows ≤ (hear w told).watch.rules.frames
 within_heard w (Err error) few = few
 within_heard w (Ok p) few =
     let still = still_heard w (Ok p) in
@@ -189,13 +199,15 @@ begins_fresh {X = X} held part list start after begins stands =
     let more = begins_drop new part (drop start list) stands in
     let whole : start + new ≡ length held = omega (arith, after) in
     let rest : drop new (drop start list) ≡ begins.rest =
-    drop-drop new start list ∙ ap (λ (n : ℕ). drop n list) whole ∙ ap (λ (all : List X). drop (length held) all) begins.is ∙ drop-append_seam held begins.rest in
+    drop-drop new start list ∙ ap (λ (n : ℕ). drop n list) whole ∙ ap (λ (all : List X). drop (length held) all) begins.is
+        ∙ drop-append_seam held begins.rest in
     record {
       rest = more.rest;
       is = begins.is ∙ ap (λ (later : List X). held ++ later) (sym rest ∙ more.is) ∙ sym (append_assoc held (drop new part) more.rest);
     }
 
-pub truth_by : (truth : List Row) (w : WatchValue) (p : Packet) (refused : Option WatchError) → refusal w p ≡ refused → Begins w.rows truth → ShowsRowsOf truth p
+pub truth_by : (truth : List Row) (w : WatchValue) (p : Packet) (refused : Option WatchError) → refusal w p ≡ refused → Begins w.rows truth
+    → ShowsRowsOf truth p
     → Begins (unless_refused w p.message refused).watch.rows truth
 truth_by truth w p (Some error) refused begins shows = begins
 truth_by truth w p None none begins shows =
@@ -203,15 +215,18 @@ truth_by truth w p None none begins shows =
     subst (λ (message : Message). Begins (w.rows ++ rows_in w message) truth) (sym is.message)
     (begins_fresh w.rows is.shown.rows truth is.shown.start is.after begins (shows.stand is.shown is.message).is)
 
-pub truth_heard : (truth : List Row) (w : WatchValue) (p : Packet) → Begins w.rows truth → ShowsRowsOf truth p → Begins (hear w (Ok p)).watch.rows truth
+pub truth_heard : (truth : List Row) (w : WatchValue) (p : Packet) → Begins w.rows truth → ShowsRowsOf truth p
+    → Begins (hear w (Ok p)).watch.rows truth
 truth_heard truth w p begins shows = truth_by truth w p (refusal w p) refl begins shows
 
 shows_one : (truth : List Row) (p : Packet) (m : ShowMessage) → p.message ≡ packets.Show m → Stands m.start m.rows truth → ShowsRowsOf truth p
 shows_one truth p m is stands = record {
-  stand = λ other other_is. let same : m ≡ other = cc (is, other_is) in subst (λ (shown : ShowMessage). Stands shown.start shown.rows truth) same stands;
+  stand = λ other other_is. let same : m ≡ other = cc (is, other_is) in
+      subst (λ (shown : ShowMessage). Stands shown.start shown.rows truth) same stands;
 }
 
-pub truth_shown : (truth : List Row) (w : WatchValue) (p : Packet) (m : ShowMessage) → p.message ≡ packets.Show m → Begins w.rows truth → Stands m.start m.rows truth
+pub truth_shown : (truth : List Row) (w : WatchValue) (p : Packet) (m : ShowMessage) → p.message ≡ packets.Show m → Begins w.rows truth
+    → Stands m.start m.rows truth
     → Begins (hear w (Ok p)).watch.rows truth
 truth_shown truth w p m is begins stands = truth_heard truth w p begins (shows_one truth p m is stands)
 
@@ -219,7 +234,8 @@ truth_shown truth w p m is begins stands = truth_heard truth w p begins (shows_o
 
 same_as_itself : (row : Row) → are_same row row ≡ true
 same_as_itself row =
-    rw (eq-eqb (set_at row 0) (set_at row 0) refl, eq-eqb (set_at row 1) (set_at row 1) refl, eq-eqb (set_at row 2) (set_at row 2) refl, eq-eqb (set_at row 3) (set_at row 3) refl)
+    rw (eq-eqb (set_at row 0) (set_at row 0) refl, eq-eqb (set_at row 1) (set_at row 1) refl, eq-eqb (set_at row 2) (set_at row 2) refl,
+        eq-eqb (set_at row 3) (set_at row 3) refl)
     refl
 
 same_front : (rows others more rest : List Row) → rows ++ more ≡ others ++ rest → differ rows others ≡ false
@@ -229,12 +245,14 @@ same_front (row ∷ rows) [] more rest e = refl
 same_front (row ∷ rows) (other ∷ others) more rest e =
     let head : row ≡ other = cc in
     let tail : rows ++ more ≡ others ++ rest = cc in
-    ap (λ (test : Bool). not test || differ rows others) (ap (λ (second : Row). are_same row second) (sym head) ∙ same_as_itself row) ∙ same_front rows others more rest tail
+    ap (λ (test : Bool). not test || differ rows others) (ap (λ (second : Row). are_same row second) (sym head) ∙ same_as_itself row)
+        ∙ same_front rows others more rest tail
 
 pub begin_one : (rows others truth : List Row) → Begins rows truth → Begins others truth → differ rows others ≡ false
 begin_one rows others truth one two = same_front rows others one.rest two.rest (sym one.is ∙ two.is)
 
-next_differs : (test : Bool) (x : WatchError) (others : Option WatchError) → cond test (Some x) others ≡ Some errors.Differs → x ≢ errors.Differs → others ≡ Some errors.Differs
+next_differs : (test : Bool) (x : WatchError) (others : Option WatchError) → cond test (Some x) others ≡ Some errors.Differs
+    → x ≢ errors.Differs → others ≡ Some errors.Differs
 next_differs true x others is apart = absurd (apart cc)
 next_differs false x others is apart = is
 
@@ -255,7 +273,8 @@ show_agrees w head m apart = λ is.
       | inr other ↦ let none = rw other at is in absurd cc
     ]
 
-message_agrees : (truth : List Row) (w : WatchValue) (head : HeadValue) (message : Message) → Begins w.rows truth → ShowsRowsOf truth (record { head = head; message = message })
+message_agrees : (truth : List Row) (w : WatchValue) (head : HeadValue) (message : Message) → Begins w.rows truth
+    → ShowsRowsOf truth (record { head = head; message = message })
     → refusal_of_message w head message ≢ Some errors.Differs
 message_agrees truth w head packets.Hello begins shows = λ is. absurd cc
 message_agrees truth w head (packets.Welcome ack) begins shows = λ is. absurd cc

@@ -32,7 +32,8 @@ pub fits_within : (version : WireVersion) (words : List ℕ) → fits_in version
 unfolding fits_in
 fits_within version words = greatest_le (λ n. are_carried version (take n words)) (length words)
 
-pub fits_most : (version : WireVersion) (words : List ℕ) (n : ℕ) → n ≤ length words → are_carried version (take n words) ≡ true → n ≤ fits_in version words
+pub fits_most : (version : WireVersion) (words : List ℕ) (n : ℕ) → n ≤ length words → are_carried version (take n words) ≡ true
+    → n ≤ fits_in version words
 unfolding fits_in
 fits_most version words n within passes = greatest_is (λ k. are_carried version (take k words)) (length words) n within passes
 
@@ -45,7 +46,8 @@ fits_is version words n within passes most =
     omega (arith, above, below)
 
 -- a number of inputs fits if it is at most 64 and they have few enough stretches
-pub few_carried : (version : WireVersion) (words : List ℕ) (n : ℕ) → n ≤ longest_run → has_few_stretches version (take n words) ≡ true → are_carried version (take n words) ≡ true
+pub few_carried : (version : WireVersion) (words : List ℕ) (n : ℕ) → n ≤ longest_run → has_few_stretches version (take n words) ≡ true
+    → are_carried version (take n words) ≡ true
 few_carried version words n few room = rw (le-leb (length (take n words)) longest_run (omega (arith, length-take n words, few))) room
 
 -- in version 1 the first 64 fit
@@ -67,7 +69,8 @@ carried_words words =
     elim (cases_lt (length words) longest_run) [
       | inl short ↦
           let same = fits_words words (length words) (omega arith) (omega (arith, short)) (λ below. refl) in
-          ap (λ (n : ℕ). take n words) (sym same) ∙ take_all (length words) words (omega arith) ∙ sym (take_all longest_run words (omega (arith, short)))
+          ap (λ (n : ℕ). take n words) (sym same) ∙ take_all (length words) words (omega arith)
+              ∙ sym (take_all longest_run words (omega (arith, short)))
       | inr long ↦
           let same = fits_words words longest_run long (omega arith) (λ below. absurd (omega (arith, below))) in
           ap (λ (n : ℕ). take n words) (sym same)
@@ -79,7 +82,8 @@ one_carried versions.One (word ∷ words) = refl
 one_carried versions.Two [] = ap (λ (ps : List Pair). nat_le (length ps) most_pairs) (no_pairs [] refl)
 one_carried versions.Two (word ∷ words) = ap (λ (n : ℕ). nat_le n most_pairs) (sym (count_pairs (word ∷ [])))
 
-pub carried_most : (version : WireVersion) (words : List ℕ) (n : ℕ) → n ≤ length words → are_carried version (take n words) ≡ true → n ≤ length (carried version words)
+pub carried_most : (version : WireVersion) (words : List ℕ) (n : ℕ) → n ≤ length words → are_carried version (take n words) ≡ true
+    → n ≤ length (carried version words)
 carried_most version words n within passes =
     omega (arith, length-take (fits_in version words) words, fits_most version words n within passes, within)
 

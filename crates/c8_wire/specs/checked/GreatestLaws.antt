@@ -11,12 +11,14 @@ pick P false x y when unless = unless refl
 pub greatest_le : (test : ℕ → Bool) (n : ℕ) → greatest test n ≤ n
 unfolding greatest
 greatest_le test zero = omega arith
-greatest_le test (suc n) = pick (λ m. m ≤ suc n) (test (suc n)) (suc n) (greatest test n) (λ passes. omega arith) (λ fails. let less = greatest_le test n in omega (arith, less))
+greatest_le test (suc n) = pick (λ m. m ≤ suc n) (test (suc n)) (suc n) (greatest test n) (λ passes. omega arith)
+    (λ fails. let less = greatest_le test n in omega (arith, less))
 
 pub greatest_passes : (test : ℕ → Bool) (n : ℕ) → test zero ≡ true → test (greatest test n) ≡ true
 unfolding greatest
 greatest_passes test zero least = least
-greatest_passes test (suc n) least = pick (λ m. test m ≡ true) (test (suc n)) (suc n) (greatest test n) (λ passes. passes) (λ fails. greatest_passes test n least)
+greatest_passes test (suc n) least = pick (λ m. test m ≡ true) (test (suc n)) (suc n) (greatest test n) (λ passes. passes)
+    (λ fails. greatest_passes test n least)
 
 pub greatest_is : (test : ℕ → Bool) (n m : ℕ) → m ≤ n → test m ≡ true → m ≤ greatest test n
 unfolding greatest

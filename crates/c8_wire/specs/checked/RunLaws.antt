@@ -31,7 +31,8 @@ whole_pairs count size right = grind (arith, nat_tests)
 pub few_pairs : (count size : ℕ) → has_wrong_size versions.Two count size ≡ false → size ≤ 3 * 42
 few_pairs count size right = grind (arith, nat_tests)
 
-pub are_run_of : (version : WireVersion) (count : ℕ) (bytes : List ℕ) → AreBytes bytes → has_wrong_size version count (length bytes) ≡ false → are_no_run version count bytes ≡ false → AreRun version count bytes
+pub are_run_of : (version : WireVersion) (count : ℕ) (bytes : List ℕ) → AreBytes bytes → has_wrong_size version count (length bytes) ≡ false
+    → are_no_run version count bytes ≡ false → AreRun version count bytes
 are_run_of versions.One count bytes fits sized paired =
     let size = size_of_words count (length bytes) sized in
     record {
@@ -46,7 +47,8 @@ are_run_of versions.Two count bytes fits sized paired =
     record {
       spells = is.spells;
       many = is.many;
-      room = le-leb (length (pairs_of inputs)) 42 (omega (arith, few_pairs count (length bytes) sized, ap length is.spells, length_spelled (pairs_of inputs)));
+      room = le-leb (length (pairs_of inputs)) 42
+          (omega (arith, few_pairs count (length bytes) sized, ap length is.spells, length_spelled (pairs_of inputs)));
       sets = sets_of bytes fits;
     }
 
@@ -56,7 +58,8 @@ inputs_again versions.One words sets = words_of-spelled words sets
 inputs_again versions.Two words sets = ap words_in (pairs_at-spelling words sets) ∙ pairs_say words
 
 -- and has the right size, if the inputs fit
-pub right_size : (version : WireVersion) (words : List ℕ) → has_few_stretches version words ≡ true → has_wrong_size version (length words) (length (inputs_bytes version words)) ≡ false
+pub right_size : (version : WireVersion) (words : List ℕ) → has_few_stretches version words ≡ true
+    → has_wrong_size version (length words) (length (inputs_bytes version words)) ≡ false
 right_size versions.One words room = let size = length-spelled_words words in grind (arith, nat_tests)
 right_size versions.Two words room =
     let size = length_spelled (pairs_of words) in
@@ -68,6 +71,7 @@ are_paired versions.One words sets = refl
 are_paired versions.Two words sets = ap not (spelling_is_run words sets)
 
 -- how many bytes it has at most
-pub few_bytes : (version : WireVersion) (words : List ℕ) → length words ≤ 64 → has_few_stretches version words ≡ true → length (inputs_bytes version words) ≤ 128
+pub few_bytes : (version : WireVersion) (words : List ℕ) → length words ≤ 64 → has_few_stretches version words ≡ true
+    → length (inputs_bytes version words) ≤ 128
 few_bytes versions.One words few room = omega (arith, length-spelled_words words)
 few_bytes versions.Two words few room = omega (arith, length_spelled (pairs_of words), leb-true (length (pairs_of words)) 42 room)

@@ -1,5 +1,6 @@
 -- Checked, not believed: the key sets of a run, by the bytes that spell them.
-use Rattle.std.proofs.Common.{◌≡◌, ℕ, zero, suc, ◌+◌, ◌*◌, ◌/◌, ◌%◌, ◌^◌, ◌<◌, List, [], ◌∷◌, ◌++◌, length, get_or, drop, Some, refl, sym, ap, ◌∙◌, arith}
+use Rattle.std.proofs.Common.{◌≡◌, ℕ, zero, suc, ◌+◌, ◌*◌, ◌/◌, ◌%◌, ◌^◌, ◌<◌, List, [], ◌∷◌, ◌++◌, length, get_or, drop, Some, refl, sym,
+  ap, ◌∙◌, arith}
 use Rattle.std.specs.Prelude.{slice_get}
 use Rattle.std.specs.List.{flat_map}
 use Rattle.byteorder.specs.Endian.{big_bytes, big_number}
@@ -17,7 +18,8 @@ length_words_of (high ∷ low ∷ rest) = omega (arith, length_words_of rest)
 pub length_of_words : (bytes : List ℕ) → length bytes % 2 ≡ 0 → length bytes ≡ 2 * length (words_of bytes)
 length_of_words bytes even = omega (arith, length_words_of bytes)
 
-pub slice_get_words_of : (bytes : List ℕ) (place : ℕ) → place < length (words_of bytes) → slice_get (words_of bytes) place ≡ Some (number_at (2 * place) 2 bytes)
+pub slice_get_words_of : (bytes : List ℕ) (place : ℕ) → place < length (words_of bytes)
+    → slice_get (words_of bytes) place ≡ Some (number_at (2 * place) 2 bytes)
 unfolding words_of number_at
 slice_get_words_of [] place h = absurd (omega arith)
 slice_get_words_of (high ∷ []) place h = absurd (omega arith)
@@ -30,7 +32,8 @@ pub drop_words_of : (place : ℕ) (bytes : List ℕ) → words_of (drop (2 * pla
 unfolding words_of
 drop_words_of zero bytes = refl
 drop_words_of (suc place) [] = let moved : 2 * suc place ≡ suc (suc (2 * place)) = omega arith in ap (λ (k : ℕ). words_of (drop {A = ℕ} k [])) moved
-drop_words_of (suc place) (high ∷ []) = let moved : 2 * suc place ≡ suc (suc (2 * place)) = omega arith in ap (λ (k : ℕ). words_of (drop k (high ∷ []))) moved
+drop_words_of (suc place) (high ∷ []) = let moved : 2 * suc place ≡ suc (suc (2 * place)) = omega arith in
+    ap (λ (k : ℕ). words_of (drop k (high ∷ []))) moved
 drop_words_of (suc place) (high ∷ low ∷ rest) =
     let moved : 2 * suc place ≡ suc (suc (2 * place)) = omega arith in
     ap (λ (k : ℕ). words_of (drop k (high ∷ low ∷ rest))) moved ∙ drop_words_of place rest
@@ -41,7 +44,8 @@ unfolding words_of
 spelled_words [] even fits = refl
 spelled_words (high ∷ []) even fits = absurd (omega arith)
 spelled_words (high ∷ low ∷ rest) even fits =
-    let back : big_bytes 2 (high * 256 + low) ≡ high ∷ low ∷ [] = ap (big_bytes 2) (omega arith) ∙ big_bytes-big_number 2 (high ∷ low ∷ rest) (omega arith) fits in
+    let back : big_bytes 2 (high * 256 + low) ≡ high ∷ low ∷ [] =
+        ap (big_bytes 2) (omega arith) ∙ big_bytes-big_number 2 (high ∷ low ∷ rest) (omega arith) fits in
     let others = spelled_words rest (omega arith) (λ i. fits (suc (suc i))) in
     ap (λ (front : List ℕ). front ++ flat_map (big_bytes 2) (words_of rest)) back ∙ ap (λ (tail : List ℕ). high ∷ low ∷ tail) others
 

@@ -29,7 +29,8 @@ loop-place-preserved c =
     (slice_get-get_or c.args.files.now place c.index-files-place.result within ∙ ap Some (sym c.index-files-place.is))
     (omega arith) c.loop-place.invariant
 
-at_end : (rules : Rules) (files : List Twice) (place : ℕ) (g : Gathered) → IsSorted rules files place g → place ≡ length files → IsSorted rules files (length files) g
+at_end : (rules : Rules) (files : List Twice) (place : ℕ) (g : Gathered) → IsSorted rules files place g → place ≡ length files
+    → IsSorted rules files (length files) g
 at_end rules files place g is same = subst (λ (n : ℕ). IsSorted rules files n g) same is
 
 pub returns-in-None-clause-gathered : goal.returns-in-None-clause-gathered
@@ -37,10 +38,12 @@ returns-in-None-clause-gathered c =
     let end : c.loop-place.place ≡ length c.args.files.now = omega (arith, c.loop-place-test.false, c.loop-place.auto.place-end) in
     let four : c.args.game.now.players ≤ 4 = omega (arith, c.players-players.ensures.value, c.players-players.ensures.greatest) in
     let none = c.in-None.ensures.none in
-    all_gathered c.args.game.now c.args.files.now c.loop-place.gathered (at_end c.args.game.now c.args.files.now c.loop-place.place c.loop-place.gathered c.loop-place.invariant end) four none.1.0 none.1.1
+    all_gathered c.args.game.now c.args.files.now c.loop-place.gathered
+        (at_end c.args.game.now c.args.files.now c.loop-place.place c.loop-place.gathered c.loop-place.invariant end) four none.1.0 none.1.1
 
 pub returns-in-None-clause-one_match : goal.returns-in-None-clause-one_match
 returns-in-None-clause-one_match c =
     let end : c.loop-place.place ≡ length c.args.files.now = omega (arith, c.loop-place-test.false, c.loop-place.auto.place-end) in
     let none = c.in-None.ensures.none in
-    all_one_match c.args.game.now c.args.files.now c.loop-place.gathered (at_end c.args.game.now c.args.files.now c.loop-place.place c.loop-place.gathered c.loop-place.invariant end) none.0 none.1.0 none.1.1
+    all_one_match c.args.game.now c.args.files.now c.loop-place.gathered
+        (at_end c.args.game.now c.args.files.now c.loop-place.place c.loop-place.gathered c.loop-place.invariant end) none.0 none.1.0 none.1.1

@@ -15,6 +15,7 @@ returns-then-not-is_same c =
 
 pub returns : goal.returns
 returns c = (
-  λ e. begins_by_items (List ℕ) (kept c.args.first.now) (kept c.args.later.now) (omega arith) (λ k below. c.loop-n.invariant k (omega (arith, below, c.loop-n-test.false, c.kept_len-count.ensures))),
+  λ e. begins_by_items (List ℕ) (kept c.args.first.now) (kept c.args.later.now) (omega arith)
+      (λ k below. c.loop-n.invariant k (omega (arith, below, c.loop-n-test.false, c.kept_len-count.ensures))),
   λ begins. refl,
 )

@@ -16,7 +16,8 @@ returns-then-not-has_mark c =
     let frame = c.loop-frame.frame in (
       λ never. absurd cc,
       λ way.
-          let has : HasMark last.frames last.marks frame (mark_of (serial c.args.game.now (rows_below k frame))) = marks_then c.args.game.now k last.frames last.marks (frame + 1) way.marks frame (omega arith) in
+          let has : HasMark last.frames last.marks frame (mark_of (serial c.args.game.now (rows_below k frame))) =
+              marks_then c.args.game.now k last.frames last.marks (frame + 1) way.marks frame (omega arith) in
           c.if-not-has_mark.ensures.1 (subst (λ (s : State). HasMark last.frames last.marks frame (mark_of s)) (sym c.loop-frame.invariant.run) has),
     )
 
@@ -27,8 +28,10 @@ loop-frame-preserved c =
     let last = c.args.last.now in
     let frame = c.loop-frame.frame in
     record {
-      run = c.frame.ensures.serial (rows_below k frame) (row k frame) c.loop-frame.invariant.run (c.joined.ensures ∙ ap (joined rules) c.row.ensures) ∙ ap (serial rules) (sym (row_more k frame));
-      marks = have_more rules k last.frames last.marks frame (state c.loop-frame.machine) c.loop-frame.invariant.run c.loop-frame.invariant.marks (c.if-not-has_mark.ensures.0 refl);
+      run = c.frame.ensures.serial (rows_below k frame) (row k frame) c.loop-frame.invariant.run
+          (c.joined.ensures ∙ ap (joined rules) c.row.ensures) ∙ ap (serial rules) (sym (row_more k frame));
+      marks = have_more rules k last.frames last.marks frame (state c.loop-frame.machine) c.loop-frame.invariant.run
+          c.loop-frame.invariant.marks (c.if-not-has_mark.ensures.0 refl);
     }
 
 pub returns-then-has_mark : goal.returns-then-has_mark
@@ -57,6 +60,7 @@ returns-else-has_mark c =
     let run : state c.loop-frame.machine ≡ serial rules (rows_below k last.frames) = rw end at c.loop-frame.invariant.run in (
       λ has. absurd cc,
       λ way.
-          let has : HasMark last.frames last.marks last.frames (mark_of (serial rules (rows_below k last.frames))) = marks_then rules k last.frames last.marks (last.frames + 1) way.marks last.frames (omega arith) in
+          let has : HasMark last.frames last.marks last.frames (mark_of (serial rules (rows_below k last.frames))) =
+              marks_then rules k last.frames last.marks (last.frames + 1) way.marks last.frames (omega arith) in
           c.has_mark-2.ensures.1 (subst (λ (s : State). HasMark last.frames last.marks last.frames (mark_of s)) (sym run) has),
     )

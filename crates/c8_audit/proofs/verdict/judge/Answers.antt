@@ -14,4 +14,5 @@ of_game rules all None agreed first = agreed rules
 of_game rules all (Some fault) agreed first = first
 
 pub returns-clause-agree : goal.returns-clause-agree
-returns-clause-agree c = of_game c.args.game.now (all_seen c.args.journals.now) c.difference.result c.difference.ensures.agreed c.difference.ensures.first
+returns-clause-agree c = of_game c.args.game.now (all_seen c.args.journals.now) c.difference.result c.difference.ensures.agreed
+    c.difference.ensures.first

@@ -6,7 +6,8 @@ use Rattle.c8_audit_command.proofs.command.judge_all.Goals as goal
 pub returns-in-Some-clause-judged : goal.returns-in-Some-clause-judged
 returns-in-Some-clause-judged g c =
     let told = c.in_ok-fault.ensures in
-    told_no c.args.game.now (all_seen c.args.gathered.now.journals) c.tell_at.result c.in-Some.fault told.0 told.1 (sym c.in-Some.is ∙ told.2) c.tell_at.ensures
+    told_no c.args.game.now (all_seen c.args.gathered.now.journals) c.tell_at.result c.in-Some.fault told.0 told.1
+        (sym c.in-Some.is ∙ told.2) c.tell_at.ensures
 
 pub returns-in-None-clause-judged : goal.returns-in-None-clause-judged
 returns-in-None-clause-judged g c =

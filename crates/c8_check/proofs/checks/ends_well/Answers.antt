@@ -11,4 +11,5 @@ returns-in-Some c =
     let apart = c.if-piece-eq-LAST_OF_STATE.false in
     let long = c.requires ∙ ap (λ (b : Bool). cond b 68 128) (ne_eqb c.args.piece 34 apart) in
     let all = take_all 128 c.args.bytes.now (omega (arith, long)) in
-    rw (ne_eqb c.args.piece 34 apart) (rw (eq-eqb c.args.piece 35 c.if-piece-eq-PIECE_OF_MARKS.true) (c.are_marks.ensures ∙ ap (are_marks c.args.frames) (c.in-Some.ensures.cases.same ∙ all)))
+    rw (ne_eqb c.args.piece 34 apart) (rw (eq-eqb c.args.piece 35 c.if-piece-eq-PIECE_OF_MARKS.true)
+        (c.are_marks.ensures ∙ ap (are_marks c.args.frames) (c.in-Some.ensures.cases.same ∙ all)))

@@ -3,7 +3,8 @@ use Rattle.c8_check.proofs.CheckLemmas.{machine_read}
 use Rattle.c8_check.proofs.checks.machine_in.Goals as goal
 
 pub returns-clause-found : goal.returns-clause-found
-returns-clause-found c = machine_read c.read_state.result _ _ c.in-Some.ensures.cases.same c.read_state.ensures.range c.read_state.ensures.found c.read_state.ensures.state
+returns-clause-found c = machine_read c.read_state.result _ _ c.in-Some.ensures.cases.same c.read_state.ensures.range
+    c.read_state.ensures.found c.read_state.ensures.state
 
 pub returns-clause-none : goal.returns-clause-none
 returns-clause-none c = λ none s is same. c.read_state.ensures.none none s is (same ∙ sym c.in-Some.ensures.cases.same)

@@ -9,6 +9,7 @@ pub returns-clause-bytes : goal.returns-clause-bytes
 returns-clause-bytes c =
     let memory : List ℕ = map (slice_index c.memory.result.now) (range_with_len 0 4096) in
     c.put_after_memory.ensures.bytes
-    ∙ ap (λ (items : List ℕ). items ++ after_memory (state c.args.machine.now)) (c.put_memory.ensures.bytes ∙ ap (λ (items : List ℕ). items ++ memory) c.new-bytes.ensures)
+    ∙ ap (λ (items : List ℕ). items ++ after_memory (state c.args.machine.now))
+    (c.put_memory.ensures.bytes ∙ ap (λ (items : List ℕ). items ++ memory) c.new-bytes.ensures)
     ∙ (λ i. map (c.memory.ensures i) (range_with_len 0 4096) ++ after_memory (state c.args.machine.now))
     ∙ sym (memory_first (state c.args.machine.now))

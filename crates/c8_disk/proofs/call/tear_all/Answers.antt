@@ -12,7 +12,10 @@ loop-call-preserved c =
     let call = get_or calls i (Write 0 0 []) in
     let left : drop i calls ≡ call ∷ drop (i + 1) calls = rest calls i call c.loop-call-test.true refl in
     record {
-      rest = λ new torn. c.loop-call.invariant.rest new (subst (λ (l : List Call). TornBy l c.loop-call.file.items new) (sym left) (torn_cons call (drop (i + 1) calls) c.loop-call.file.items c.tear_one.new.file.items new c.tear_one.ensures.torn torn));
-      fits = others_fit (vec_capacity c.args.file.now) call (drop (i + 1) calls) (ap (fit (vec_capacity c.args.file.now)) (sym left) ∙ c.loop-call.invariant.fits);
+      rest = λ new torn. c.loop-call.invariant.rest new
+          (subst (λ (l : List Call). TornBy l c.loop-call.file.items new) (sym left)
+          (torn_cons call (drop (i + 1) calls) c.loop-call.file.items c.tear_one.new.file.items new c.tear_one.ensures.torn torn));
+      fits = others_fit (vec_capacity c.args.file.now) call (drop (i + 1) calls)
+          (ap (fit (vec_capacity c.args.file.now)) (sym left) ∙ c.loop-call.invariant.fits);
       capacity = omega arith;
     }

@@ -12,7 +12,8 @@ returns-clause-decided c = λ from to.
       (record {
         reply = c.decide.result;
         called = record {
-          answered = subst (λ (n : ℕ). IsAnswered disk c.session.result.now.engine.peer (Decide n) (Decided c.decide.result) c.decide.new.self.peer) same c.decide.ensures.answered;
+          answered = subst (λ (n : ℕ). IsAnswered disk c.session.result.now.engine.peer (Decide n) (Decided c.decide.result)
+              c.decide.new.self.peer) same c.decide.ensures.answered;
           steps = c.decide.ensures.steps;
           depth = c.decide.ensures.depth;
         };

@@ -12,7 +12,8 @@ returns-clause-left c = λ from to.
       (record {
         reply = c.leave.result;
         called = record {
-          answered = subst (λ (n : ℕ). IsAnswered disk c.session.result.now.engine.peer (Leave n) (Left c.leave.result) c.leave.new.self.peer) same c.leave.ensures.answered;
+          answered = subst (λ (n : ℕ). IsAnswered disk c.session.result.now.engine.peer (Leave n) (Left c.leave.result)
+              c.leave.new.self.peer) same c.leave.ensures.answered;
           steps = c.leave.ensures.steps;
           depth = c.leave.ensures.depth;
         };

@@ -13,5 +13,6 @@ loop-place-preserved c =
     let sets = c.loop-place.invariant.sets in
     record {
       found = one_more_set line n c.loop-place.invariant.found c.in_ok-sets.ensures.0;
-      sets = ap (λ before. slice_set before n c.in_ok-sets.field-0) sets ∙ ap (slice_set _ n) c.in_ok-sets.ensures.1 ∙ next_set (keys_at line) (record { 0 = 0 }) n (omega arith);
+      sets = ap (λ before. slice_set before n c.in_ok-sets.field-0) sets ∙ ap (slice_set _ n) c.in_ok-sets.ensures.1
+          ∙ next_set (keys_at line) (record { 0 = 0 }) n (omega arith);
     }

@@ -6,4 +6,5 @@ use Rattle.c8_keys.proofs.report.write_screen.Given as goal
 
 -- the rows so far were added
 abbrev pub invariant-loop-y : goal.invariant-loop-y
-invariant-loop-y g l = Appends (g.W.Write.contents l.initial.out) (g.W.Write.contents l.out) (flat_map (row_text (points_of l.screen)) (range_with_len 0 l.y))
+invariant-loop-y g l = Appends (g.W.Write.contents l.initial.out) (g.W.Write.contents l.out)
+    (flat_map (row_text (points_of l.screen)) (range_with_len 0 l.y))

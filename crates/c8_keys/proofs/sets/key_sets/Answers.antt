@@ -14,7 +14,8 @@ loop-line-preserved c =
     record {
       seen = before.seen ++ line ∷ [];
       cut = before.cut ∙ ap (λ left. before.seen ++ left) c.in-Some.ensures.steps ∙ sym (append_assoc before.seen (line ∷ []) _);
-      spelled = list_all-append is_keys_text before.seen (line ∷ []) ∙ ap (λ b. b && (is_keys_text line && true)) before.spelled ∙ ap (λ b. b && true) spelt.0;
+      spelled = list_all-append is_keys_text before.seen (line ∷ []) ∙ ap (λ b. b && (is_keys_text line && true)) before.spelled
+          ∙ ap (λ b. b && true) spelt.0;
       taken = c.in-Ok.ensures.items ∙ ap (λ sets. sets ++ c.in-Some-from_hex.set ∷ []) before.taken
           ∙ ap (λ set. map set_of before.seen ++ set ∷ []) same ∙ sym (map-append set_of before.seen (line ∷ []));
     }

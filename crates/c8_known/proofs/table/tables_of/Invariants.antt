@@ -3,4 +3,5 @@ use Rattle.c8_known.specs.Tables.{table_value, HasRoom}
 use Rattle.c8_known.proofs.table.tables_of.Given as goal
 
 abbrev pub invariant-loop : goal.invariant-loop
-invariant-loop l = (map table_value l.tables.items ≡ replicate l.counter (record { held = replicate l.delay 0; frozen = false; leaving = false; cut = None })) × HasRoom l.limit l.tables.items
+invariant-loop l = (map table_value l.tables.items
+    ≡ replicate l.counter (record { held = replicate l.delay 0; frozen = false; leaving = false; cut = None })) × HasRoom l.limit l.tables.items

@@ -8,10 +8,13 @@ pub returns-clause-none : goal.returns-clause-none
 returns-clause-none g c what old new other done = entered_other g.D.Disk what old new other done
 
 pub returns-clause-once : goal.returns-clause-once
-returns-clause-once g c old new call reply is answered = entered_once g.D.Disk old new call reply answered (c.calls_are_deeds.ensures.answered old new call reply is answered)
+returns-clause-once g c old new call reply is answered =
+    entered_once g.D.Disk old new call reply answered (c.calls_are_deeds.ensures.answered old new call reply is answered)
 
 pub returns-clause-joined : goal.returns-clause-joined
-returns-clause-joined g c words others first middle last one two = entered_joined g.D.Disk c.runs_join.ensures.run words others first middle last one two
+returns-clause-joined g c words others first middle last one two =
+    entered_joined g.D.Disk c.runs_join.ensures.run words others first middle last one two
 
 pub returns-clause-through : goal.returns-clause-through
-returns-clause-through g c words first before after last one handed two = entered_through g.D.Disk c.runs_join.ensures.run words first before after last one handed two
+returns-clause-through g c words first before after last one handed two =
+    entered_through g.D.Disk c.runs_join.ensures.run words first before after last one handed two

@@ -16,15 +16,18 @@ returns-clause-opened g c disk rules room me p opened are =
     let from = subst (λ (n : ℕ). 1 ≤ n) opened.me_is sound.plays.0 in
     let low = subst (λ (n : ℕ). n < 2 ^ 64) opened.room_is sound.low in
     opened_tells g.D.Disk disk rules room me p opened
-    (c.openings_are_lawful.ensures.checks rules me room (records_of (bodies_found g.D.Disk disk)) range from opened.may.2 low opened.may.0 opened.may.1 are)
+    (c.openings_are_lawful.ensures.checks rules me room (records_of (bodies_found g.D.Disk disk)) range from opened.may.2 low opened.may.0
+        opened.may.1 are)
 
 pub returns-clause-stays : goal.returns-clause-stays
 returns-clause-stays g c old new sound tells ran =
     subst (λ (rules : Rules). TellsTruly rules new.me new.state) (sym ran.rules)
     (subst (λ (me : ℕ). TellsTruly old.rules me new.state) (sym ran.me)
-    (c.a_word_stands_from_any_journal.ensures.checks old.rules old.room old.me old.state new.state (map does ran.calls) ran.answers sound.range sound.plays.0 sound.plays.1 sound.low
+    (c.a_word_stands_from_any_journal.ensures.checks old.rules old.room old.me old.state new.state (map does ran.calls) ran.answers
+        sound.range sound.plays.0 sound.plays.1 sound.low
     (c.a_word_stands_from_any_journal.ensures.sound old sound) tells ran.run))
 
 pub returns-clause-serial : goal.returns-clause-serial
 unfolding roll_since roll_of
-returns-clause-serial g c p are = ap (λ (v : RollValue). v.base) (c.a_run_may_begin_on_the_way.ensures.roll p.rules (known_by p) (begun_by p) are.begun)
+returns-clause-serial g c p are = ap (λ (v : RollValue). v.base)
+    (c.a_run_may_begin_on_the_way.ensures.roll p.rules (known_by p) (begun_by p) are.begun)

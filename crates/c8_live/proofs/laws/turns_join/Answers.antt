@@ -6,4 +6,5 @@ pub returns-clause-none : goal.returns-clause-none
 returns-clause-none g c p before = (refl, refl, refl)
 
 pub returns-clause-more : goal.returns-clause-more
-returns-clause-more g c n old middle new before between after turns turn = turns_more g.D.Disk g.W.Wire n old middle new before between after turns turn
+returns-clause-more g c n old middle new before between after turns turn =
+    turns_more g.D.Disk g.W.Wire n old middle new before between after turns turn

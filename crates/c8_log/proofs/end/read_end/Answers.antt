@@ -16,12 +16,14 @@ block_to_gate : (image : List ℕ) (k : ℕ) → AreOpen image (32 * k) → 4608
 block_to_gate image k below there = let le = few image (32 * k) below in omega (arith, le, there)
 
 -- and the last of them, where it ends the kept slots
-last_to_gate : (image : List ℕ) (k : ℕ) → 4608 * k < length image → 32 * k ≤ kept_count image → kept_count image < 32 * k + 32 → k + 1 ≡ blocks_to_gate image
+last_to_gate : (image : List ℕ) (k : ℕ) → 4608 * k < length image → 32 * k ≤ kept_count image → kept_count image < 32 * k + 32
+    → k + 1 ≡ blocks_to_gate image
 last_to_gate image k there le ends = omega (arith, there, le, ends)
 
 -- where all blocks are wholly open, nothing stands after them
 all_kept : (image : List ℕ) (k : ℕ) → AreOpen image (32 * k) → length image ≤ 4608 * k → 32 * k ≡ kept_count image
-all_kept image k below end = front_unique image (32 * k) (kept_count image) (record { below = below; at = shut_by_end image (32 * k) (omega (arith, end)) }) (front_of image)
+all_kept image k below end = front_unique image (32 * k) (kept_count image)
+    (record { below = below; at = shut_by_end image (32 * k) (omega (arith, end)) }) (front_of image)
 
 pub loop-number-init : goal.loop-number-init
 loop-number-init g c = record {
@@ -40,7 +42,8 @@ loop-number-preserved g c =
       below = all_open image k c.loop-number.invariant.below (omega (arith, there, c.if-end.false));
       reads = reads_then g.D.Disk c.args.disk.now c.loop-number.disk c.end_in.new.disk c.loop-number.invariant.reads c.end_in.ensures.reads;
       asks = asks_reads g.D.Disk c.args.disk.now c.loop-number.disk c.end_in.new.disk k 1 (Ok tt) c.loop-number.invariant.asks
-          (asks_as g.D.Disk (Reads 1) c.loop-number.disk c.end_in.new.disk (answer_of c.end_in.result) (Ok tt) (ap answer_of c.in_ok-end.was) c.end_in.ensures.asks);
+          (asks_as g.D.Disk (Reads 1) c.loop-number.disk c.end_in.new.disk (answer_of c.end_in.result) (Ok tt)
+              (ap answer_of c.in_ok-end.was) c.end_in.ensures.asks);
       unfailed = search rules;
     }
 
@@ -77,9 +80,11 @@ returns-in_err-end-clause-asks g c =
     let blocks = c.div_ceil-number-end.ensures in
     let here = c.loop-number-test.true in
     rw (error.1, error.2)
-    (asks_cut g.D.Disk c.args.disk.now c.end_in.new.disk (k + 1) (blocks_to_gate image) why (block_to_gate image k c.loop-number.invariant.below (omega (arith, long, blocks, here)))
+    (asks_cut g.D.Disk c.args.disk.now c.end_in.new.disk (k + 1) (blocks_to_gate image) why
+        (block_to_gate image k c.loop-number.invariant.below (omega (arith, long, blocks, here)))
     (asks_reads g.D.Disk c.args.disk.now c.loop-number.disk c.end_in.new.disk k 1 (Err why) c.loop-number.invariant.asks
-    (asks_as g.D.Disk (Reads 1) c.loop-number.disk c.end_in.new.disk (answer_of c.end_in.result) (Err why) (ap answer_of c.in_err-end.was) c.end_in.ensures.asks)))
+    (asks_as g.D.Disk (Reads 1) c.loop-number.disk c.end_in.new.disk (answer_of c.end_in.result) (Err why) (ap answer_of c.in_err-end.was)
+        c.end_in.ensures.asks)))
 
 pub returns-then-end-clause-asks : goal.returns-then-end-clause-asks
 returns-then-end-clause-asks g c =
@@ -93,7 +98,8 @@ returns-then-end-clause-asks g c =
     subst (λ (n : ℕ). Asks g.D.Disk (Reads n) (Ok tt) c.args.disk.now c.end_in.new.disk)
     (last_to_gate image k (omega (arith, long, blocks, here)) (omega (arith, count)) (omega (arith, count, c.if-end.true)))
     (asks_reads g.D.Disk c.args.disk.now c.loop-number.disk c.end_in.new.disk k 1 (Ok tt) c.loop-number.invariant.asks
-    (asks_as g.D.Disk (Reads 1) c.loop-number.disk c.end_in.new.disk (answer_of c.end_in.result) (Ok tt) (ap answer_of c.in_ok-end.was) c.end_in.ensures.asks))
+    (asks_as g.D.Disk (Reads 1) c.loop-number.disk c.end_in.new.disk (answer_of c.end_in.result) (Ok tt) (ap answer_of c.in_ok-end.was)
+        c.end_in.ensures.asks))
 
 pub returns-clause-count : goal.returns-clause-count
 returns-clause-count g c =

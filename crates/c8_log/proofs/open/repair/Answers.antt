@@ -25,7 +25,8 @@ returns-clause-any_moment g c =
     let torn_here = subst (λ (l : List ℕ). Torn (144 * c.args.end.count) 1 l new) (c.requires.durable torn.0 torn.1) torn.2 in
     let torn_there = subst (λ (n : ℕ). Torn (144 * n) 1 image new) c.requires.count torn_here in
     repair_keeps image new (sym c.requires.closed ∙ c.if-end.false) torn_there) in
-    weaker g.D.Disk c.args.disk.now c.write_and_sync.new.disk (IsBeforeOrTorn (144 * c.args.end.count) 1 images) (λ new. kept new ≡ kept image) c.write_and_sync.ensures.any_moment keeps
+    weaker g.D.Disk c.args.disk.now c.write_and_sync.new.disk (IsBeforeOrTorn (144 * c.args.end.count) 1 images)
+        (λ new. kept new ≡ kept image) c.write_and_sync.ensures.any_moment keeps
 
 pub returns-clause-up : goal.returns-clause-up
 returns-clause-up g c =
@@ -36,7 +37,8 @@ returns-clause-up g c =
     on_ok_both c.write_and_sync.result written c.write_and_sync.ensures.durable (λ holds only.
     let gate : new ≡ closed = holds ∙ ap (λ (n : ℕ). overwritten old (144 * n) (0 ∷ [])) c.requires.count in
     let is : new ≡ repaired old = gate ∙ sym (cond-false (has_closed_gate old) old closed (sym c.requires.closed ∙ c.if-end.false)) in
-    up_from_repair c.writes_keep_the_rest.ensures.whole g.D.Disk c.write_and_sync.new.disk c.args.end.count old is c.requires.count only c.requires.fits)
+    up_from_repair c.writes_keep_the_rest.ensures.whole g.D.Disk c.write_and_sync.new.disk c.args.end.count old is c.requires.count only
+        c.requires.fits)
 
 pub returns-clause-full : goal.returns-clause-full
 returns-clause-full g c is =
@@ -55,5 +57,6 @@ returns-then-end-clause-asks g c =
 pub returns-clause-asks : goal.returns-clause-asks
 returns-clause-asks g c =
     let open_gate = sym c.requires.closed ∙ c.if-end.false in
-    let asks = subst (λ (n : ℕ). Asks g.D.Disk (WriteAndSync (144 * n) (0 ∷ [])) c.write_and_sync.result c.args.disk.now c.write_and_sync.new.disk) c.requires.count c.write_and_sync.ensures.asks in
+    let asks = subst (λ (n : ℕ). Asks g.D.Disk (WriteAndSync (144 * n) (0 ∷ [])) c.write_and_sync.result c.args.disk.now
+        c.write_and_sync.new.disk) c.requires.count c.write_and_sync.ensures.asks in
     record { calls = asks.calls; led = asks.led; is = inr (open_gate, asks.is) }

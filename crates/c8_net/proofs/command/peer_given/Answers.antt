@@ -2,7 +2,9 @@ use Rattle.c8_net.proofs.OutcomeLemmas.{ends_match, ends_by_mistake}
 use Rattle.c8_net.proofs.command.peer_given.Goals as goal
 
 pub returns-in-Some-mistake_in : goal.returns-in-Some-mistake_in
-returns-in-Some-mistake_in g c = ends_by_mistake (g.W.Write.contents c.args.out.now) (g.W.Write.contents c.args.out.now) c.refuse_line.result c.refuse_line.ensures
+returns-in-Some-mistake_in g c = ends_by_mistake (g.W.Write.contents c.args.out.now) (g.W.Write.contents c.args.out.now)
+    c.refuse_line.result c.refuse_line.ensures
 
 pub returns-after-terminals : goal.returns-after-terminals
-returns-after-terminals g c = ends_match c.in-Some.asked.room c.in-Some.asked.player.number (g.W.Write.contents c.args.out.now) (g.W.Write.contents c.peer.new.out) c.peer.result c.peer.ensures
+returns-after-terminals g c = ends_match c.in-Some.asked.room c.in-Some.asked.player.number (g.W.Write.contents c.args.out.now)
+    (g.W.Write.contents c.peer.new.out) c.peer.result c.peer.ensures

@@ -11,14 +11,16 @@ pub returns-in-Some-clause-words : goal.returns-in-Some-clause-words
 returns-in-Some-clause-words t c =
     let first = c.in-Some.first in
     let past : first.times ≤ c.args.place = omega (arith, c.if-first-place.true) in
-    c.begun_at.ensures.words ∙ sym (ap (λ (pairs : List Pair). drop c.args.place (words_in pairs)) c.in-Some.ensures.pair ∙ drop_past c.args.place first.times first.keys (words_in (pairs_at first.rest.now)) past)
+    c.begun_at.ensures.words ∙ sym (ap (λ (pairs : List Pair). drop c.args.place (words_in pairs)) c.in-Some.ensures.pair
+        ∙ drop_past c.args.place first.times first.keys (words_in (pairs_at first.rest.now)) past)
 
 pub returns-in-Some-clause-slice : goal.returns-in-Some-clause-slice
 returns-in-Some-clause-slice t c =
     let pairs = c.begun_at.ensures.slice.0 in
     let all : 3 + 3 * pairs ≡ 3 * (pairs + 1) = omega arith in (
       pairs + 1,
-      c.begun_at.ensures.slice.1 ∙ ap (drop (3 * pairs)) c.in-Some.ensures.rest ∙ drop-drop (3 * pairs) 3 c.args.bytes.now ∙ ap (λ (n : ℕ). drop n c.args.bytes.now) all,
+      c.begun_at.ensures.slice.1 ∙ ap (drop (3 * pairs)) c.in-Some.ensures.rest ∙ drop-drop (3 * pairs) 3 c.args.bytes.now
+          ∙ ap (λ (n : ℕ). drop n c.args.bytes.now) all,
     )
 
 pub returns-in-Some-clause-sets : goal.returns-in-Some-clause-sets

@@ -15,14 +15,16 @@ loop-frame-preserved g c =
     let begun = c.begin-keys in
     let row : Row = record { sets = replicate 4 begun.result } in
     let machine = c.frame.ensures.serial before.rows row before.machine c.joined.ensures in
-    let points : points_of c.screen.result.now ≡ (serial c.args.game.now (before.rows ++ row ∷ [])).screen = c.screen.ensures ∙ ap (λ (m : State). m.screen) machine in
+    let points : points_of c.screen.result.now ≡ (serial c.args.game.now (before.rows ++ row ∷ [])).screen =
+        c.screen.ensures ∙ ap (λ (m : State). m.screen) machine in
     record {
       rows = before.rows ++ row ∷ [];
       counted = refl;
       frames = omega (arith, before.frames, before.counted, length-append before.rows (row ∷ []));
       few = omega (arith, c.if-from-frames.false, c.from.ensures);
       machine = machine;
-      frames_are = alone_more g.C.Console c.args.game.now c.loop-frame.frame before.rows row c.args.desk.now c.loop-frame.desk c.sit_out.new.self c.show.new.self before.frames_are c.sit_out.ensures
+      frames_are = alone_more g.C.Console c.args.game.now c.loop-frame.frame before.rows row c.args.desk.now c.loop-frame.desk
+          c.sit_out.new.self c.show.new.self before.frames_are c.sit_out.ensures
           (record {
             read = typing g.C.Console begun.new.self;
             keys = begun.result;

@@ -1,4 +1,5 @@
 use Rattle.c8_play.proofs.live.play_frame.Goals as goal
 
 pub returns-clause-frame : goal.returns-clause-frame
-returns-clause-frame g c = rw c.show.ensures.peer (record { between = c.enter.new.desk; played = c.in_ok-entry.ensures.played; seen = c.show.ensures.seen })
+returns-clause-frame g c = rw c.show.ensures.peer
+    (record { between = c.enter.new.desk; played = c.in_ok-entry.ensures.played; seen = c.show.ensures.seen })

@@ -11,5 +11,6 @@ invariant-loop-turn g l = record {
   counted : l.made ≡ l.turn;
   window : window_of l.lead ≡ l.initial.session.peer.rules.window;
   patience : patience_of l.lead ≡ l.rate;
-  frames : AreFrames g.D.Disk g.W.Wire g.C.Console l.initial.session.peer.rules.window l.rate l.made l.initial.session.peer l.session.peer l.initial.wire l.wire l.fn.desk l.desk 0 (frames_of l.lead);
+  frames : AreFrames g.D.Disk g.W.Wire g.C.Console l.initial.session.peer.rules.window l.rate l.made l.initial.session.peer l.session.peer
+      l.initial.wire l.wire l.fn.desk l.desk 0 (frames_of l.lead);
 }

@@ -6,4 +6,5 @@ use Rattle.c8_program.specs.checked.Blocks.{field_text}
 use Rattle.c8_program.proofs.text.add_fields.Given as goal
 
 abbrev pub invariant-loop-field : goal.invariant-loop-field
-invariant-loop-field l = (l.field-items ≡ fields) × (l.text.items ≡ l.initial.text.items ++ flat_map (field_text (rules_of l.settings [])) (take l.field-index fields))
+invariant-loop-field l = (l.field-items ≡ fields)
+    × (l.text.items ≡ l.initial.text.items ++ flat_map (field_text (rules_of l.settings [])) (take l.field-index fields))

@@ -11,4 +11,5 @@ pub returns-clause-still : goal.returns-clause-still
 returns-clause-still c = journal_grows
 
 pub returns-clause-rows : goal.returns-clause-rows
-returns-clause-rows c = λ rules me room journal rest range from to is. rows_stay (known_of rules me journal) (known_of rules me (journal ++ rest)) (journal_grows rules me room journal rest range from to is)
+returns-clause-rows c = λ rules me room journal rest range from to is. rows_stay (known_of rules me journal)
+    (known_of rules me (journal ++ rest)) (journal_grows rules me room journal rest range from to is)

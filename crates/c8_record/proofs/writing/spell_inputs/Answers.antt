@@ -18,4 +18,5 @@ returns-clause-body c =
     ∙ ap (λ (rest : List ℕ). words_bytes inputs ++ drop (2 * length inputs) rest) c.split_at_mut-head.ensures.back
     ∙ ap (λ (rest : List ℕ). words_bytes inputs ++ rest) (drop-replicate {X = ℕ} (2 * length inputs) 131 0 ∙ ap (λ (n : ℕ). replicate n 0) left) in
     (λ i. head i ++ tail i)
-    ∙ ap (λ (n : ℕ). c.args.kind ∷ c.args.player.number ∷ big_bytes 4 c.args.number ++ big_bytes 4 c.args.start ++ big_bytes 2 n ++ words_bytes inputs ++ replicate (131 - length (words_bytes inputs)) 0) count
+    ∙ ap (λ (n : ℕ). c.args.kind ∷ c.args.player.number ∷ big_bytes 4 c.args.number ++ big_bytes 4 c.args.start ++ big_bytes 2 n ++
+    words_bytes inputs ++ replicate (131 - length (words_bytes inputs)) 0) count

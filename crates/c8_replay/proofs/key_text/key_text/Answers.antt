@@ -13,10 +13,12 @@ loop-frame-preserved c =
     let added = rw (all, c.row-row.ensures) at c.in_ok-add_line.ensures.line in
     let sets = rw (all, c.row-row.ensures) at c.in_ok-add_line.ensures.sets in
     record {
-      text = added ∙ ap (λ (text : List ℕ). text ++ (line_of players (row k frame) ++ 10 ∷ [])) c.loop-frame.invariant.text ∙ sym (text_more players k frame);
+      text = added ∙ ap (λ (text : List ℕ). text ++ (line_of players (row k frame) ++ 10 ∷ [])) c.loop-frame.invariant.text
+          ∙ sym (text_more players k frame);
       spell =
           spell_more players k frame c.loop-frame.invariant.spell
-          (known_row k frame players c.requires.of_game.players (omega (arith, c.players.ensures.least, c.players.ensures.value)) (omega (arith, c.players.ensures.greatest, c.players.ensures.value)) sets);
+          (known_row k frame players c.requires.of_game.players (omega (arith, c.players.ensures.least, c.players.ensures.value))
+              (omega (arith, c.players.ensures.greatest, c.players.ensures.value)) sets);
     }
 
 pub returns-clause-spell : goal.returns-clause-spell

@@ -2,4 +2,5 @@ use Rattle.c8_replay.proofs.OutcomeLemmas.{outcome_of}
 use Rattle.c8_replay.proofs.showing.show_journal.Goals as goal
 
 pub returns : goal.returns
-returns c = outcome_of c.args.game.now c.args.image.now c.args.wish.now c.read.result c.show_read.result c.read.ensures.game c.read.ensures.refused c.show_read.ensures
+returns c = outcome_of c.args.game.now c.args.image.now c.args.wish.now c.read.result c.show_read.result c.read.ensures.game
+    c.read.ensures.refused c.show_read.ensures

@@ -16,7 +16,8 @@ returns g c =
       ether = worked.entry.0;
       player = worked.entry.1;
       plays = worked.peer;
-      led = subst (λ (journal : List Record). IfSome c.rig_worker-entry.result.1 (λ q. Leads c.args.game.now 0 c.args.job.entry.player (away_with journal) c.rig_worker-entry.result.0.notes q.state))
+      led = subst (λ (journal : List Record). IfSome c.rig_worker-entry.result.1
+          (λ q. Leads c.args.game.now 0 c.args.job.entry.player (away_with journal) c.rig_worker-entry.result.0.notes q.state))
           (ap (λ (v : MemValue). records_of (kept v.bytes)) c.requires.disk ∙ kept_none) worked.led;
       played = worked.played;
     }

@@ -9,4 +9,5 @@ returns-clause-once c old new came seat none are =
     once_over seat came old new (subst (λ (taken : List GivenValue). AreOnce (counters_of seat taken)) (sym none) tt) are
 
 pub returns-clause-sealed : goal.returns-clause-sealed
-returns-clause-sealed c old new came given none are has = elim (sealed_over given came old new are has) [ inl before ↦ absurd (unless_none given old.taken none before) | inr later ↦ later ]
+returns-clause-sealed c old new came given none are has =
+    elim (sealed_over given came old new are has) [ inl before ↦ absurd (unless_none given old.taken none before) | inr later ↦ later ]

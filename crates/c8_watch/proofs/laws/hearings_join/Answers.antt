@@ -5,10 +5,12 @@ pub returns-clause-none : goal.returns-clause-none
 returns-clause-none g c w wire = heard_none g.W.Wire w wire
 
 pub returns-clause-more : goal.returns-clause-more
-returns-clause-more g c most first middle before between after bytes heard received sent = heard_more g.W.Wire most first middle before between after bytes heard received sent
+returns-clause-more g c most first middle before between after bytes heard received sent =
+    heard_more g.W.Wire most first middle before between after bytes heard received sent
 
 pub returns-clause-still : goal.returns-clause-still
-returns-clause-still g c most first last before between after heard received sent = heard_still g.W.Wire most first last before between after heard received sent
+returns-clause-still g c most first last before between after heard received sent =
+    heard_still g.W.Wire most first last before between after heard received sent
 
 pub returns-clause-fewer : goal.returns-clause-fewer
 returns-clause-fewer g c few most first last before after within heard = heard_fewer g.W.Wire few most first last before after within heard

@@ -9,4 +9,5 @@ pub invariant_of-viewer : goal.invariant_of-viewer
 invariant_of-viewer c = still_viewer c.viewer.inside.seat.me _ _ c.viewer.invariant c.load.ensures.2
 
 pub returns : goal.returns
-returns c = sees _ _ c.viewer.inside.seat.me _ _ _ _ c.viewer.invariant c.viewer.view_is c.load.ensures.2 c.load.ensures.0 c.of.ensures.count c.of.ensures.bits
+returns c = sees _ _ c.viewer.inside.seat.me _ _ _ _ c.viewer.invariant c.viewer.view_is c.load.ensures.2 c.load.ensures.0
+    c.of.ensures.count c.of.ensures.bits

@@ -21,8 +21,10 @@ returns c =
     let digest = (bytes_eq-Decides c.args.digest.now c.as_slice.result.now).0 (not-false _ (sym c.ne.ensures ∙ c.if-ne.false)) ∙ same in (
       λ some.
           let found = some_machine c.machine_in.result _ c.is_some.result c.is_some.ensures some c.machine_in.ensures.found in
-          may_check c.args.self.now c.args.frames c.args.digest.now found.0 (omega (arith, c.if-self-ne-PIECES.false)) (omega arith) (omega (arith, c.if-frames-self.false)) digest found.1,
+          may_check c.args.self.now c.args.frames c.args.digest.now found.0 (omega (arith, c.if-self-ne-PIECES.false)) (omega arith)
+              (omega (arith, c.if-frames-self.false)) digest found.1,
       λ may.
           let whole = is_whole c.args.self.now c.args.frames c.args.digest.now (omega arith) may in
-          not_none c.machine_in.result c.is_some.result c.is_some.ensures (λ none. c.machine_in.ensures.none none whole.machine whole.machine_is whole.spelled),
+          not_none c.machine_in.result c.is_some.result c.is_some.ensures
+              (λ none. c.machine_in.ensures.none none whole.machine whole.machine_is whole.spelled),
     )

@@ -11,4 +11,5 @@ pub loop-n-preserved : goal.loop-n-preserved
 loop-n-preserved c =
     let here : slice_get c.self.inside.ring.items c.loop-n.n ≡ Some c.in-Some.kept.now = sym c.get.ensures ∙ ap option_copied c.in-Some.is in
     c.later-found.ensures
-    ∙ mark_next c.args.frame c.args.self.now c.loop-n.n c.in-Some.kept.now c.loop-n.found (subst (λ marks. slice_get marks c.loop-n.n ≡ Some c.in-Some.kept.now) c.self.view_is here) c.loop-n.invariant
+    ∙ mark_next c.args.frame c.args.self.now c.loop-n.n c.in-Some.kept.now c.loop-n.found
+    (subst (λ marks. slice_get marks c.loop-n.n ≡ Some c.in-Some.kept.now) c.self.view_is here) c.loop-n.invariant

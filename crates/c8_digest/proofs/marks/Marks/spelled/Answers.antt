@@ -9,11 +9,14 @@ loop-n-preserved c =
     let inside : slice_get c.self.inside.ring.items c.loop-n.n ≡ Some c.in-Some.kept.now = sym c.get.ensures ∙ ap option_copied c.in-Some.is in
     let here = subst (λ marks. slice_get marks c.loop-n.n ≡ Some c.in-Some.kept.now) c.self.view_is inside in
     record {
-      items = bytes_next c.args.self.now c.loop-n.n c.in-Some.kept.now c.loop-n.bytes.items c.put.new.out.items here c.loop-n.invariant.items c.put.ensures.bytes;
+      items = bytes_next c.args.self.now c.loop-n.n c.in-Some.kept.now c.loop-n.bytes.items c.put.new.out.items here
+          c.loop-n.invariant.items c.put.ensures.bytes;
       size = omega (arith, c.put.ensures.size, c.loop-n.invariant.size);
     }
 
 pub returns-clause-bytes : goal.returns-clause-bytes
 returns-clause-bytes c =
-    bytes_end c.args.self.now c.loop-n.n _ c.loop-n.bytes.items c.put-2.new.out.items (omega (arith, c.loop-n-test.false, c.len-n-end.ensures.len, ap length c.self.view_is)) (omega (arith, c.loop-n.auto.n-end, c.len-n-end.ensures.len, ap length c.self.view_is))
+    bytes_end c.args.self.now c.loop-n.n _ c.loop-n.bytes.items c.put-2.new.out.items
+        (omega (arith, c.loop-n-test.false, c.len-n-end.ensures.len, ap length c.self.view_is))
+        (omega (arith, c.loop-n.auto.n-end, c.len-n-end.ensures.len, ap length c.self.view_is))
     (omega (arith, c.len-room.ensures.value, c.loop-n.invariant.size)) c.loop-n.invariant.items c.put-2.ensures.bytes

@@ -24,7 +24,8 @@ returns c =
               keys = c.of.ensures;
               seat = c.from.ensures ∙ c.me.ensures ∙ ap (λ (p : PeerValue (FileDisk Medium)). p.me) peer;
               session_is = refl;
-              next = c.of_epoch-counters.ensures.next ∙ ap (λ (n : ℕ). n * 2 ^ 32) (c.epoch.ensures ∙ ap (λ (p : PeerValue (FileDisk Medium)). epoch p.state.journal) later);
+              next = c.of_epoch-counters.ensures.next ∙ ap (λ (n : ℕ). n * 2 ^ 32)
+                  (c.epoch.ensures ∙ ap (λ (p : PeerValue (FileDisk Medium)). epoch p.state.journal) later);
               left = c.of_epoch-counters.ensures.left;
               taken = refl;
             }),

@@ -19,7 +19,8 @@ loop-frame-init g c =
     let fits = c.self.invariant.1 in
     let capacity = c.truncate.ensures.capacity in
     record {
-      given = c.truncate.ensures.items ∙ subst (λ (s : StepsValue). take from s.given ≡ best_rows_below k from) (sym c.self.view_is) c.first_change-from.ensures.same;
+      given = c.truncate.ensures.items ∙ subst (λ (s : StepsValue). take from s.given ≡ best_rows_below k from) (sym c.self.view_is)
+          c.first_change-from.ensures.same;
       within = omega arith;
       room = ap (λ (s : StepsValue). s.room) c.self.view_is;
       fits = omega (arith, fits, capacity);
@@ -28,7 +29,8 @@ loop-frame-init g c =
 pub give-requires : goal.give-requires
 give-requires g c =
     let k = known_by c.args.peer.now in
-    let long : length c.loop-frame.self-inside.given.items ≡ c.loop-frame.frame = ap (λ (rows : List Row). length rows) c.loop-frame.invariant.given ∙ best_length k c.loop-frame.frame in
+    let long : length c.loop-frame.self-inside.given.items ≡ c.loop-frame.frame =
+        ap (λ (rows : List Row). length rows) c.loop-frame.invariant.given ∙ best_length k c.loop-frame.frame in
     let test = c.loop-frame-test.true in
     let now = c.now.ensures ∙ ticked c.args.peer.now.rules c.args.peer.now.me c.args.peer.now.state.journal in
     let within = c.first_change-from.ensures.ticked in
@@ -55,7 +57,8 @@ loop-frame-preserved g c =
 
 pub invariant_of-self : goal.invariant_of-self
 invariant_of-self g c =
-    let long : length c.loop-frame.self-inside.given.items ≡ c.loop-frame.frame = ap (λ (rows : List Row). length rows) c.loop-frame.invariant.given ∙ best_length (known_by c.args.peer.now) c.loop-frame.frame in
+    let long : length c.loop-frame.self-inside.given.items ≡ c.loop-frame.frame =
+        ap (λ (rows : List Row). length rows) c.loop-frame.invariant.given ∙ best_length (known_by c.args.peer.now) c.loop-frame.frame in
     let within = c.loop-frame.invariant.within in
     let now = c.now.ensures ∙ ticked c.args.peer.now.rules c.args.peer.now.me c.args.peer.now.state.journal in
     let from = c.first_change-from.ensures.ticked in
@@ -89,16 +92,19 @@ returns-clause-true_to g c =
     let settled = c.min-self-inside.ensures in
     let confirmed_is = c.confirmed.ensures.value in
     let over = c.loop-frame-test.false in
-    let long : length c.loop-frame.self-inside.given.items ≡ c.loop-frame.frame = ap (λ (rows : List Row). length rows) c.loop-frame.invariant.given ∙ best_length k c.loop-frame.frame in
+    let long : length c.loop-frame.self-inside.given.items ≡ c.loop-frame.frame =
+        ap (λ (rows : List Row). length rows) c.loop-frame.invariant.given ∙ best_length k c.loop-frame.frame in
     record {
       confirmed_is = omega (arith, settled, confirmed_is);
       within = omega (arith, settled, over, long);
-      settled_is = ap (λ (rows : List Row). take c.min-self-inside.result rows) c.loop-frame.invariant.given ∙ best_take k c.min-self-inside.result c.loop-frame.frame (omega (arith, settled, over));
+      settled_is = ap (λ (rows : List Row). take c.min-self-inside.result rows) c.loop-frame.invariant.given
+          ∙ best_take k c.min-self-inside.result c.loop-frame.frame (omega (arith, settled, over));
     }
 
 pub returns-clause-counted : goal.returns-clause-counted
 returns-clause-counted g c =
     let over = c.loop-frame-test.false in
     let within = c.loop-frame.invariant.within in
-    let long : length c.loop-frame.self-inside.given.items ≡ c.loop-frame.frame = ap (λ (rows : List Row). length rows) c.loop-frame.invariant.given ∙ best_length (known_by c.args.peer.now) c.loop-frame.frame in
+    let long : length c.loop-frame.self-inside.given.items ≡ c.loop-frame.frame =
+        ap (λ (rows : List Row). length rows) c.loop-frame.invariant.given ∙ best_length (known_by c.args.peer.now) c.loop-frame.frame in
     omega (arith, over, within, long)

@@ -23,4 +23,5 @@ returns-clause-stopped g c why is =
     }
 
 pub returns-clause-entered : goal.returns-clause-entered
-returns-clause-entered g c = c.entries_join.ensures.once c.args.self.now.peer c.tick.new.self (Tick c.args.keys.0) (Ticked c.tick.result) (omega arith) c.tick.ensures
+returns-clause-entered g c = c.entries_join.ensures.once c.args.self.now.peer c.tick.new.self (Tick c.args.keys.0) (Ticked c.tick.result)
+    (omega arith) c.tick.ensures

@@ -5,5 +5,6 @@ use Rattle.c8_live.proofs.session.Session.say.Goals as goal
 
 pub returns-in-Ok : goal.returns-in-Ok
 returns-in-Ok g c = record {
-  spoke = c.sayings_join.ensures.once c.args.self.now.peer c.args.wire.now c.send.new.self (Say c.args.to.number (saying_of c.args.kind)) (take c.in-Ok.size c.say.new.out) tt refl c.in-Ok.ensures.said c.send.ensures.sent c.send.ensures.received;
+  spoke = c.sayings_join.ensures.once c.args.self.now.peer c.args.wire.now c.send.new.self (Say c.args.to.number (saying_of c.args.kind))
+      (take c.in-Ok.size c.say.new.out) tt refl c.in-Ok.ensures.said c.send.ensures.sent c.send.ensures.received;
 }

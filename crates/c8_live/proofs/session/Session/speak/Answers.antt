@@ -6,7 +6,8 @@ loop-number-preserved g c =
     let peer = c.args.self.now.peer in
     elim c.match-other.branch [
       | in-Some+in_ok-speak_to w ↦ record {
-        spoke = rw w.wire-is (c.sayings_join.ensures.joined peer c.args.wire.now c.loop-number.wire w.speak_to.new.wire c.loop-number.invariant.spoke w.in_ok-speak_to.ensures.spoke);
+        spoke = rw w.wire-is (c.sayings_join.ensures.joined peer c.args.wire.now c.loop-number.wire w.speak_to.new.wire
+            c.loop-number.invariant.spoke w.in_ok-speak_to.ensures.spoke);
       }
       | in_default w ↦ record { spoke = rw w.wire-is c.loop-number.invariant.spoke }
     ]

@@ -21,7 +21,8 @@ invariant_of-result c =
     }
 
 pub returns-clause-spells : goal.returns-clause-spells
-returns-clause-spells c = (run_is_spelled c.args.bytes.now c.args.count c.requires.whole (λ i. omega (arith, c.type_inv.bytes i)) c.requires.run).spells
+returns-clause-spells c = (run_is_spelled c.args.bytes.now c.args.count c.requires.whole (λ i. omega (arith, c.type_inv.bytes i))
+    c.requires.run).spells
 
 pub returns-clause-count : goal.returns-clause-count
 returns-clause-count c = (run_is_spelled c.args.bytes.now c.args.count c.requires.whole (λ i. omega (arith, c.type_inv.bytes i)) c.requires.run).many

@@ -30,10 +30,12 @@ loop-byte-preserved g c =
       press =
           λ key within.
           taken.press key within
-          ∙ ap (λ (h : ℕ). after_signals h (with_told (step b (read_by c.loop-byte.self.decoder)).told []) key (press_at c.loop-byte.self.held key)) before.hold
+          ∙ ap (λ (h : ℕ). after_signals h (with_told (step b (read_by c.loop-byte.self.decoder)).told []) key
+          (press_at c.loop-byte.self.held key)) before.hold
           ∙ ap (λ (r : Decoding). after_signals hold (with_told (step b r).told []) key (press_at c.loop-byte.self.held key)) before.read
           ∙ ap (λ (p : Press). after_signals hold (with_told (step b (read_after (take i bytes) d)).told []) key p) (before.press key within)
-          ∙ sym (signals-append hold (told_by (take i bytes) d) (with_told (step b (read_after (take i bytes) d)).told []) key (press_at c.args.self.now.held key))
+          ∙ sym (signals-append hold (told_by (take i bytes) d) (with_told (step b (read_after (take i bytes) d)).told []) key
+          (press_at c.args.self.now.held key))
           ∙ ap (λ (signals : List Signal). after_signals hold signals key (press_at c.args.self.now.held key)) (sym told);
       seen = forgets_more c.args.self.now c.loop-byte.self c.take_byte.new.self before.seen taken.seen;
       console = taken.console ∙ before.console;

@@ -12,7 +12,8 @@ invariant-loop-byte g l = record {
   read : read_by l.self.decoder ≡ read_after (take l.byte-index l.bytes) (read_by l.initial.self.decoder);
   hold : hold_of l.self.held ≡ hold_of l.initial.self.held;
   press : (key : ℕ) → key < 16 → press_at l.self.held key
-      ≡ after_signals (hold_of l.initial.self.held) (told_by (take l.byte-index l.bytes) (read_by l.initial.self.decoder)) key (press_at l.initial.self.held key);
+      ≡ after_signals (hold_of l.initial.self.held) (told_by (take l.byte-index l.bytes) (read_by l.initial.self.decoder)) key
+      (press_at l.initial.self.held key);
   seen : MayForget l.initial.self l.self;
   console : l.self.console ≡ l.initial.self.console;
 }

@@ -14,7 +14,8 @@ loop-place-preserved g c =
     let at = c.index_mut.ensures.value ∙ ap (λ (es : List EntryValue). slice_index_or es c.loop-place.place entry) was.0 in (
       written_back c.loop-place.entries.items c.loop-place.place entry c.is_part.new.entry c.index_mut.ensures.value c.is_part.ensures.entry ∙ was.0,
       c.is_part.ensures.log ∙ was.1,
-      parts_more c.into_inner-book.result entries c.loop-place.place entry (slice_get_read entries (length entries) c.loop-place.place entry (λ i. length entries) within at)
+      parts_more c.into_inner-book.result entries c.loop-place.place entry
+          (slice_get_read entries (length entries) c.loop-place.place entry (λ i. length entries) within at)
           (subst (λ (log : List NoteValue). entry.notes ≡ part_of entry.player log) was.1 c.is_part.ensures.part) was.2,
     )
 

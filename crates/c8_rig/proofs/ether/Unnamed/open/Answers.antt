@@ -7,4 +7,5 @@ pub loop-number-preserved : goal.loop-number-preserved
 loop-number-preserved c =
     let new : EntryValue = record { ether = c.in_ok-tokens.keeper.ether; player = c.loop-number.number + 1; notes = [] } in
     let pushed : c.push.new.self.items ≡ c.loop-number.entries.items ++ new ∷ [] = search rules in
-    (search rules, search rules, search rules, pushed ∙ ap (λ entries. entries ++ new ∷ []) c.loop-number.invariant.3 ∙ sym (entry_more c.in_ok-tokens.keeper.ether c.loop-number.number))
+    (search rules, search rules, search rules,
+        pushed ∙ ap (λ entries. entries ++ new ∷ []) c.loop-number.invariant.3 ∙ sym (entry_more c.in_ok-tokens.keeper.ether c.loop-number.number))

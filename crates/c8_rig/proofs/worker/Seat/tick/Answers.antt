@@ -5,4 +5,5 @@ use Rattle.c8_rig.proofs.Playing.{with_entry}
 use Rattle.c8_rig.proofs.worker.Seat.tick.Goals as goal
 
 pub returns : goal.returns
-returns g c = with_entry _ _ _ _ _ (with_note c.args.self.now.entry (Tick c.args.self.now.peer.me c.args.keys.0) []) (search rules) (c.peers_play_on.ensures.ticks _ _ _ _ _ _ (search rules) c.tick-ticked.ensures)
+returns g c = with_entry _ _ _ _ _ (with_note c.args.self.now.entry (Tick c.args.self.now.peer.me c.args.keys.0) []) (search rules)
+    (c.peers_play_on.ensures.ticks _ _ _ _ _ _ (search rules) c.tick-ticked.ensures)

@@ -14,6 +14,7 @@ invariant-loop-frame l = record {
   within : (n : ℕ) → l.initial.self.ticks ≤ n → confirmed l.known ≤ n → l.self.ticks ≤ n;
   counted : l.self.last_run + l.initial.self.ticks ≡ l.initial.self.last_run + l.self.ticks;
   run : (from : Origin) → IsRunOf from l.known l.initial.self → IsRunOf from l.known l.self;
-  marks : (from : Origin) → IsRunOf from l.known l.initial.self → l.frame ≤ confirmed l.known → l.initial.marks ≡ marks_since l.initial.self.rules from l.known l.initial.self.first
+  marks : (from : Origin) → IsRunOf from l.known l.initial.self → l.frame ≤ confirmed l.known
+      → l.initial.marks ≡ marks_since l.initial.self.rules from l.known l.initial.self.first
       → l.marks ≡ marks_since l.initial.self.rules from l.known l.frame;
 }

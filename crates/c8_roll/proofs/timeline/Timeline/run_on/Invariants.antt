@@ -13,5 +13,6 @@ invariant-loop-frame l = record {
   ticks : l.self.ticks ≡ l.frame;
   counted : l.self.last_run + l.initial.self.ticks ≡ l.initial.self.last_run + l.self.ticks;
   run : (from : Origin) → IsRunOf from l.known l.initial.self → IsRunOf from l.known l.self;
-  shown : (from : Origin) → IsRunOf from l.known l.initial.self → state l.self.shown ≡ run_since l.initial.self.rules from (best_rows_below l.known l.frame);
+  shown : (from : Origin) → IsRunOf from l.known l.initial.self
+      → state l.self.shown ≡ run_since l.initial.self.rules from (best_rows_below l.known l.frame);
 }

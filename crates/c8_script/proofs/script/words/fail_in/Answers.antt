@@ -1,4 +1,5 @@
-use Rattle.std.proofs.Common.{◌≡◌, ℕ, ◌<◌, ◌≤◌, true, List, [], ◌∷◌, length, get_or, take, drop, ◌-◌, map, codes, Option, None, Some, refl, sym, ap, ◌∙◌, arith, rules, Bor}
+use Rattle.std.proofs.Common.{◌≡◌, ℕ, ◌<◌, ◌≤◌, true, List, [], ◌∷◌, length, get_or, take, drop, ◌-◌, map, codes, Option, None, Some, refl,
+  sym, ap, ◌∙◌, arith, rules, Bor}
 use Rattle.std.proofs.lemmas.Bool.{cond-true}
 use Rattle.std.proofs.lemmas.List.{take_all}
 use Rattle.std.specs.Str.{bytes_eq}
@@ -18,12 +19,14 @@ returns-in_default c = sym (too_few c.args.words.now c.in_default.len_below)
 
 -- the parts of a failure are its second word and the rest
 parts : (words : List (Bor (List ℕ))) (d : Bor (List ℕ)) → 2 ≤ length words → bytes_eq (get_or words 0 d).now (codes "fail") ≡ true
-    → fail_in (map (λ word. word.now) words) ≡ fail_of (held_in (act_in (map (λ word. word.now) (take (length words - 2) (drop 2 words))))) (number_in (get_or words 1 d).now)
+    → fail_in (map (λ word. word.now) words) ≡ fail_of (held_in (act_in (map (λ word. word.now) (take (length words - 2) (drop 2 words)))))
+    (number_in (get_or words 1 d).now)
 parts [] d many verb = absurd (omega arith)
 parts (one ∷ []) d many verb = absurd (omega arith)
 parts (one ∷ calls ∷ act) d many verb =
     cond-true (bytes_eq one.now (codes "fail")) _ _ verb
-    ∙ ap (λ rest. fail_of (held_in (act_in (map (λ word. word.now) rest))) (number_in calls.now)) (sym (take_all (length (one ∷ calls ∷ act) - 2) act (omega arith)))
+    ∙ ap (λ rest. fail_of (held_in (act_in (map (λ word. word.now) rest))) (number_in calls.now))
+    (sym (take_all (length (one ∷ calls ∷ act) - 2) act (omega arith)))
 
 no_act : (act : Option Act) (calls : Option ℕ) → act ≡ None → fail_of act calls ≡ None
 no_act act calls none = rw none refl
@@ -34,9 +37,11 @@ its_parts found k act calls is calls_are = rw (is, calls_are) refl
 pub returns-in_err-held_in : goal.returns-in_err-held_in
 returns-in_err-held_in c =
     c.from_residual.ensures
-    ∙ sym (parts c.args.words.now (record { ref_ptr = (0, 0); now = [] }) c.in-len2-up.len_at_least (search rules) ∙ no_act _ _ (sym c.held_in.ensures ∙ c.in_err-held_in.was))
+    ∙ sym (parts c.args.words.now (record { ref_ptr = (0, 0); now = [] }) c.in-len2-up.len_at_least (search rules)
+    ∙ no_act _ _ (sym c.held_in.ensures ∙ c.in_err-held_in.was))
 
 pub returns : goal.returns
 returns c =
     sym (parts c.args.words.now _ c.in-len2-up.len_at_least (search rules)
-    ∙ its_parts c.in_ok-held_in.field-0 c.in_ok-number_in.field-0 _ _ (sym c.held_in.ensures ∙ c.in_ok-held_in.was) (sym c.number_in.ensures ∙ c.in_ok-number_in.was))
+    ∙ its_parts c.in_ok-held_in.field-0 c.in_ok-number_in.field-0 _ _ (sym c.held_in.ensures ∙ c.in_ok-held_in.was)
+    (sym c.number_in.ensures ∙ c.in_ok-number_in.was))

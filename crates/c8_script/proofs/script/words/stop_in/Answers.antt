@@ -1,4 +1,5 @@
-use Rattle.std.proofs.Common.{◌≡◌, ℕ, ◌<◌, ◌≤◌, true, List, [], ◌∷◌, length, get_or, take, drop, ◌-◌, map, codes, Option, None, Some, refl, sym, ap, ◌∙◌, arith, rules, Bor}
+use Rattle.std.proofs.Common.{◌≡◌, ℕ, ◌<◌, ◌≤◌, true, List, [], ◌∷◌, length, get_or, take, drop, ◌-◌, map, codes, Option, None, Some, refl,
+  sym, ap, ◌∙◌, arith, rules, Bor}
 use Rattle.std.proofs.lemmas.Bool.{cond-true}
 use Rattle.std.proofs.lemmas.List.{take_all}
 use Rattle.std.specs.Str.{bytes_eq}
@@ -19,13 +20,15 @@ returns-in_default c = sym (too_few c.args.words.now c.in_default.len_below)
 
 -- the parts of a stop are its second word, its third and the rest
 parts : (words : List (Bor (List ℕ))) (d : Bor (List ℕ)) → 3 ≤ length words → bytes_eq (get_or words 0 d).now (codes "stop") ≡ true
-    → stop_in (map (λ word. word.now) words) ≡ stop_of (held_in (act_in (map (λ word. word.now) (take (length words - 3) (drop 3 words))))) (number_in (get_or words 1 d).now) (number_in (get_or words 2 d).now)
+    → stop_in (map (λ word. word.now) words) ≡ stop_of (held_in (act_in (map (λ word. word.now) (take (length words - 3) (drop 3 words)))))
+    (number_in (get_or words 1 d).now) (number_in (get_or words 2 d).now)
 parts [] d many verb = absurd (omega arith)
 parts (one ∷ []) d many verb = absurd (omega arith)
 parts (one ∷ two ∷ []) d many verb = absurd (omega arith)
 parts (one ∷ calls ∷ pick ∷ act) d many verb =
     cond-true (bytes_eq one.now (codes "stop")) _ _ verb
-    ∙ ap (λ rest. stop_of (held_in (act_in (map (λ word. word.now) rest))) (number_in calls.now) (number_in pick.now)) (sym (take_all (length (one ∷ calls ∷ pick ∷ act) - 3) act (omega arith)))
+    ∙ ap (λ rest. stop_of (held_in (act_in (map (λ word. word.now) rest))) (number_in calls.now) (number_in pick.now))
+    (sym (take_all (length (one ∷ calls ∷ pick ∷ act) - 3) act (omega arith)))
 
 no_act : (act : Option Act) (calls pick : Option ℕ) → act ≡ None → stop_of act calls pick ≡ None
 no_act act calls pick none = rw none refl
@@ -33,20 +36,25 @@ no_act act calls pick none = rw none refl
 no_calls : (found : Act) (act : Option Act) (calls pick : Option ℕ) → act ≡ Some found → calls ≡ None → stop_of act calls pick ≡ None
 no_calls found act calls pick is none = rw (is, none) refl
 
-its_parts : (found : Act) (k n : ℕ) (act : Option Act) (calls pick : Option ℕ) → act ≡ Some found → calls ≡ Some k → pick ≡ Some n → stop_of act calls pick ≡ Some (Stop found k n)
+its_parts : (found : Act) (k n : ℕ) (act : Option Act) (calls pick : Option ℕ) → act ≡ Some found → calls ≡ Some k → pick ≡ Some n
+    → stop_of act calls pick ≡ Some (Stop found k n)
 its_parts found k n act calls pick is calls_are pick_is = rw (is, calls_are, pick_is) refl
 
 pub returns-in_err-held_in : goal.returns-in_err-held_in
 returns-in_err-held_in c =
     c.from_residual.ensures
-    ∙ sym (parts c.args.words.now (record { ref_ptr = (0, 0); now = [] }) c.in-len3-up.len_at_least (search rules) ∙ no_act _ _ _ (sym c.held_in.ensures ∙ c.in_err-held_in.was))
+    ∙ sym (parts c.args.words.now (record { ref_ptr = (0, 0); now = [] }) c.in-len3-up.len_at_least (search rules)
+    ∙ no_act _ _ _ (sym c.held_in.ensures ∙ c.in_err-held_in.was))
 
 pub returns-in_err-number_in : goal.returns-in_err-number_in
 returns-in_err-number_in c =
     c.from_residual-in_err-number_in.ensures
-    ∙ sym (parts c.args.words.now _ c.in-len3-up.len_at_least (search rules) ∙ no_calls c.in_ok-held_in.field-0 _ _ _ (sym c.held_in.ensures ∙ c.in_ok-held_in.was) (sym c.number_in.ensures ∙ c.in_err-number_in.was))
+    ∙ sym (parts c.args.words.now _ c.in-len3-up.len_at_least (search rules)
+    ∙ no_calls c.in_ok-held_in.field-0 _ _ _ (sym c.held_in.ensures ∙ c.in_ok-held_in.was) (sym c.number_in.ensures ∙ c.in_err-number_in.was))
 
 pub returns : goal.returns
 returns c =
     sym (parts c.args.words.now _ c.in-len3-up.len_at_least (search rules)
-    ∙ its_parts c.in_ok-held_in.field-0 c.in_ok-number_in.field-0 c.in_ok-number_in-2.field-0 _ _ _ (sym c.held_in.ensures ∙ c.in_ok-held_in.was) (sym c.number_in.ensures ∙ c.in_ok-number_in.was) (sym c.number_in-2.ensures ∙ c.in_ok-number_in-2.was))
+    ∙ its_parts c.in_ok-held_in.field-0 c.in_ok-number_in.field-0 c.in_ok-number_in-2.field-0 _ _ _
+    (sym c.held_in.ensures ∙ c.in_ok-held_in.was) (sym c.number_in.ensures ∙ c.in_ok-number_in.was)
+    (sym c.number_in-2.ensures ∙ c.in_ok-number_in-2.was))

@@ -10,23 +10,28 @@ use Rattle.c8_sealed.proofs.sealer.Sealer.open.Goals as goal
 
 pub returns-in_default-clause-taken : goal.returns-in_default-clause-taken
 returns-in_default-clause-taken c = (
-  subst (λ (old : SealerValue). (given : GivenValue) → IsFor old.seal c.args.packet.now given → ⊥) c.self.view_is (λ given is. c.in_default.ensures given.counter given.datagram is.sealing),
+  subst (λ (old : SealerValue). (given : GivenValue) → IsFor old.seal c.args.packet.now given → ⊥) c.self.view_is
+      (λ given is. c.in_default.ensures given.counter given.datagram is.sealing),
   refl,
 )
 
 pub returns-in_default-sender_of-clause-taken : goal.returns-in_default-sender_of-clause-taken
 returns-in_default-sender_of-clause-taken c = (
   subst (λ (old : SealerValue). (given : GivenValue) → IsFor old.seal c.args.packet.now given → ⊥) c.self.view_is
-      (λ given is. c.in_default-sender_of.ensures given.from (subst (IsAddressed _ _ given.from) (same_datagram _ c.args.packet.now _ _ _ _ is.sealing c.in-Some.ensures) is.addressed)),
+      (λ given is. c.in_default-sender_of.ensures given.from
+          (subst (IsAddressed _ _ given.from) (same_datagram _ c.args.packet.now _ _ _ _ is.sealing c.in-Some.ensures) is.addressed)),
   refl,
 )
 
 pub returns-in_default-take_from-clause-taken : goal.returns-in_default-take_from-clause-taken
 returns-in_default-take_from-clause-taken c = (
-  subst (λ (old : SealerValue). (given : GivenValue) × IsFor old.seal c.args.packet.now given × (IsNew (counters_of given.from old.taken) given.counter → ⊥)) c.self.view_is (
+  subst (λ (old : SealerValue). (given : GivenValue) × IsFor old.seal c.args.packet.now given
+      × (IsNew (counters_of given.from old.taken) given.counter → ⊥)) c.self.view_is (
     record { from = c.in-Some-sender_of.from.number; counter = c.in-Some.opened.counter; datagram = c.in-Some.opened.datagram.now },
     record { sealing = c.in-Some.ensures; addressed = c.in-Some-sender_of.ensures },
-    λ new. c.in_default-take_from.ensures.taken.0 (subst (λ (taken : List ℕ). IsNew taken c.in-Some.opened.counter) (sym (c.self.invariant.seen_are c.in-Some-sender_of.from.number c.in-Some-sender_of.from.from_one c.in-Some-sender_of.from.to_six)) new),
+    λ new. c.in_default-take_from.ensures.taken.0
+        (subst (λ (taken : List ℕ). IsNew taken c.in-Some.opened.counter)
+        (sym (c.self.invariant.seen_are c.in-Some-sender_of.from.number c.in-Some-sender_of.from.from_one c.in-Some-sender_of.from.to_six)) new),
   ),
   c.self.view_is,
 )
@@ -39,7 +44,8 @@ invariant_of-self-2 c =
       within = c.self.invariant.within;
       seen_are = λ seat some few.
           ap (λ (seen : List (List ℕ)). slice_index_or seen (seat - 1) []) c.in-Some-take_from.ensures.taken.2
-          ∙ seen_more c.self.inside.seen c.self.inside.taken.items given c.take_from.ensures.size from.from_one from.to_six c.self.invariant.seen_are seat some few
+          ∙ seen_more c.self.inside.seen c.self.inside.taken.items given c.take_from.ensures.size from.from_one from.to_six
+          c.self.invariant.seen_are seat some few
           ∙ sym (ap (counters_of seat) (c.and-self-inside.ensures ∙ ap (λ (g : GivenValue). c.self.inside.taken.items ++ g ∷ []) c.of-given.ensures));
     }
 
@@ -47,11 +53,14 @@ pub returns-clause-taken : goal.returns-clause-taken
 returns-clause-taken c =
     let from = c.in-Some-sender_of.from in
     let given : GivenValue = record { from = from.number; counter = c.in-Some.opened.counter; datagram = c.in-Some.opened.datagram.now } in
-    subst (λ (old : SealerValue). IsTaking old c.args.packet.now (Ok given) (record { seal = c.self.inside.seal; next = c.self.inside.counters.next; left = c.self.inside.counters.left; taken = c.and-self-inside.result.items }))
+    subst (λ (old : SealerValue). IsTaking old c.args.packet.now (Ok given)
+        (record { seal = c.self.inside.seal; next = c.self.inside.counters.next; left = c.self.inside.counters.left;
+        taken = c.and-self-inside.result.items }))
     c.self.view_is
     (takes (the_view c.self.inside) c.args.packet.now given c.and-self-inside.result.items
     (record { sealing = c.in-Some.ensures; addressed = c.in-Some-sender_of.ensures })
-    (subst (λ (taken : List ℕ). IsNew taken c.in-Some.opened.counter) (c.self.invariant.seen_are from.number from.from_one from.to_six) c.in-Some-take_from.ensures.taken.0)
+    (subst (λ (taken : List ℕ). IsNew taken c.in-Some.opened.counter) (c.self.invariant.seen_are from.number from.from_one from.to_six)
+        c.in-Some-take_from.ensures.taken.0)
     (c.and-self-inside.ensures ∙ ap (λ (g : GivenValue). c.self.inside.taken.items ++ g ∷ []) c.of-given.ensures))
 
 pub returns-clause-newest : goal.returns-clause-newest

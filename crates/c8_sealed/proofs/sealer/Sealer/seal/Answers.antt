@@ -9,7 +9,9 @@ returns-clause-sealed c =
     let few = c.if-datagram-gt-LONGEST_OPEN.false in
     let some = c.if-self-eq0.false in
     let within = c.self.invariant.within in
-    subst (λ (old : SealerValue). HasSealed old c.args.datagram.now c.seal-size.new.out c.seal-size.result (record { seal = c.self.inside.seal; next = c.rest-self-inside.result.next; left = c.rest-self-inside.result.left; taken = c.self.inside.taken.items }))
+    subst (λ (old : SealerValue). HasSealed old c.args.datagram.now c.seal-size.new.out c.seal-size.result
+        (record { seal = c.self.inside.seal; next = c.rest-self-inside.result.next; left = c.rest-self-inside.result.left;
+        taken = c.self.inside.taken.items }))
     c.self.view_is
     (record {
       key = c.in-Some.key.now;
@@ -19,5 +21,6 @@ returns-clause-sealed c =
       within = omega (arith, within);
       packet = c.seal-size.ensures.sealed;
       size_is = c.seal-size.ensures.size;
-      used = has_used (the_view c.self.inside) c.rest-self-inside.result.next c.rest-self-inside.result.left c.rest-self-inside.ensures.next c.rest-self-inside.ensures.left;
+      used = has_used (the_view c.self.inside) c.rest-self-inside.result.next c.rest-self-inside.result.left c.rest-self-inside.ensures.next
+          c.rest-self-inside.ensures.left;
     })

@@ -8,5 +8,6 @@ pub returns-in-Some : goal.returns-in-Some
 returns-in-Some c =
     let at = subst (λ (o : Option ℕ). HasSeen o c.self.inside.marks c.self.inside.taken.items) c.in-Some.is c.self.invariant in (
       λ above n has. let most = at.upper n (subst (λ (taken : List ℕ). Contains taken n) (sym c.self.view_is) has) in grind (arith, nat_tests, most),
-      λ newest. let less = newest c.in-Some.greatest (subst (λ (taken : List ℕ). Contains taken c.in-Some.greatest) c.self.view_is at.reached) in grind (arith, nat_tests, less),
+      λ newest. let less = newest c.in-Some.greatest
+          (subst (λ (taken : List ℕ). Contains taken c.in-Some.greatest) c.self.view_is at.reached) in grind (arith, nat_tests, less),
     )

@@ -13,10 +13,12 @@ pub returns-in-Single-clause-keys : goal.returns-in-Single-clause-keys
 returns-in-Single-clause-keys c = of_keypad_in decoding.Single c.args.byte c.args.self.now.exact c.in_single.result c.in_single.ensures.told
 
 pub returns-in-Control-clause-keys : goal.returns-in-Control-clause-keys
-returns-in-Control-clause-keys c = of_keypad_in (decoding.Control (numbers_of c.in-Control.numbers)) c.args.byte c.args.self.now.exact c.in_control.result c.in_control.ensures.told
+returns-in-Control-clause-keys c = of_keypad_in (decoding.Control (numbers_of c.in-Control.numbers)) c.args.byte c.args.self.now.exact
+    c.in_control.result c.in_control.ensures.told
 
 pub returns-in-Answer-clause-keys : goal.returns-in-Answer-clause-keys
-returns-in-Answer-clause-keys c = of_keypad_in (decoding.Answer c.in-Answer.flags) c.args.byte c.args.self.now.exact c.in_answer.result c.in_answer.ensures.told
+returns-in-Answer-clause-keys c = of_keypad_in (decoding.Answer c.in-Answer.flags) c.args.byte c.args.self.now.exact c.in_answer.result
+    c.in_answer.ensures.told
 
 pub returns-in-Foreign-clause-keys : goal.returns-in-Foreign-clause-keys
 returns-in-Foreign-clause-keys c = of_keypad_in decoding.Foreign c.args.byte c.args.self.now.exact c.in_foreign.result c.in_foreign.ensures.told

@@ -15,7 +15,8 @@ loop-key-preserved c =
     let by : (k : ℕ) → known (slice_set ps i c.after_frame.result) k ≡ cond (i == k) (after_frame (known ps k)) (known ps k) =
     changed ps i c.after_frame.result after_frame within c.after_frame.ensures in
     let apart : (k : ℕ) → k ≢ i → known (slice_set ps i c.after_frame.result) k ≡ known ps k =
-    λ k differs. let no : (i == k) ≡ false = grind (arith, nat_tests, differs) in by k ∙ ap (λ (b : Bool). cond b (after_frame (known ps k)) (known ps k)) no in
+    λ k differs. let no : (i == k) ≡ false = grind (arith, nat_tests, differs) in
+        by k ∙ ap (λ (b : Bool). cond b (after_frame (known ps k)) (known ps k)) no in
     record {
       hold = search rules;
       size = search rules;
@@ -25,7 +26,8 @@ loop-key-preserved c =
             | inl before ↦ apart k (omega (arith, before)) ∙ c.loop-key.invariant.before k before
             | inr here ↦
                 let same : i ≡ k = omega (arith, here, below) in
-                by k ∙ ap (λ (b : Bool). cond b (after_frame (known ps k)) (known ps k)) (eq-eqb i k same) ∙ ap after_frame (c.loop-key.invariant.after k (omega (arith, here)))
+                by k ∙ ap (λ (b : Bool). cond b (after_frame (known ps k)) (known ps k)) (eq-eqb i k same)
+                    ∙ ap after_frame (c.loop-key.invariant.after k (omega (arith, here)))
           ];
       after = λ k above. apart k (omega (arith, above)) ∙ c.loop-key.invariant.after k (omega (arith, above));
     }

@@ -8,5 +8,6 @@ returns-clause-crash c =
     let is = c.crash.ensures in (
       c.crash.result,
       refl,
-      subst (λ (disk : MemDisk). IsDiskCrash c.args.pick disk c.crash.result) c.into_disk.ensures.disk (record { image = is.image; synced = is.synced; read = is.read; value = is.value }),
+      subst (λ (disk : MemDisk). IsDiskCrash c.args.pick disk c.crash.result) c.into_disk.ensures.disk
+          (record { image = is.image; synced = is.synced; read = is.read; value = is.value }),
     )

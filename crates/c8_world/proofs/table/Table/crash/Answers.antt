@@ -13,8 +13,10 @@ returns-clause-crashed c =
     let inside = subst (λ (t : TableValue). p ≤ t.rules.players) (sym c.self.view_is) within in
     let plays : IsPlayer c.self.inside.game.now p = record { from_one = c.in-Some.player.from_one; in_game = omega (arith, inside) } in
     rw (← c.in-Some.ensures.0) (record {
-      moves = node_moves (IsNodeCrash c.args.pick) _ c.args.self.now c.place.result p c.index_mut.result.now c.crash_node.new.place c.self.view_is c.place.ensures.next (omega arith)
+      moves = node_moves (IsNodeCrash c.args.pick) _ c.args.self.now c.place.result p c.index_mut.result.now c.crash_node.new.place
+          c.self.view_is c.place.ensures.next (omega arith)
           c.index_mut.ensures.value c.crash_node.ensures.crash;
-      crashed = crash_happens _ c.args.self.now c.place.result p c.index_mut.result.now c.crash_node.new.place c.self.view_is c.place.ensures.next (omega arith) plays c.index_mut.ensures.value
+      crashed = crash_happens _ c.args.self.now c.place.result p c.index_mut.result.now c.crash_node.new.place c.self.view_is
+          c.place.ensures.next (omega arith) plays c.index_mut.ensures.value
           c.crash_node.ensures.crashed;
     })

@@ -10,9 +10,12 @@ pub loop-preserved : goal.loop-preserved
 loop-preserved c = record {
   few = omega arith;
   room = omega arith;
-  nodeed = node_more IsNodeed c.loop.nodes.items c.push_reserved.new.self.items c.in_ok-node.node c.push_reserved.ensures.items c.loop.invariant.nodeed c.in_ok-node.ensures.full;
-  untouched = node_more IsUntouched c.loop.nodes.items c.push_reserved.new.self.items c.in_ok-node.node c.push_reserved.ensures.items c.loop.invariant.untouched c.in_ok-node.ensures.untouched;
-  disks = node_more (IsNewDisk c.args.capacity c.args.calls) c.loop.nodes.items c.push_reserved.new.self.items c.in_ok-node.node c.push_reserved.ensures.items c.loop.invariant.disks c.in_ok-node.ensures.disk;
+  nodeed = node_more IsNodeed c.loop.nodes.items c.push_reserved.new.self.items c.in_ok-node.node c.push_reserved.ensures.items
+      c.loop.invariant.nodeed c.in_ok-node.ensures.full;
+  untouched = node_more IsUntouched c.loop.nodes.items c.push_reserved.new.self.items c.in_ok-node.node c.push_reserved.ensures.items
+      c.loop.invariant.untouched c.in_ok-node.ensures.untouched;
+  disks = node_more (IsNewDisk c.args.capacity c.args.calls) c.loop.nodes.items c.push_reserved.new.self.items c.in_ok-node.node
+      c.push_reserved.ensures.items c.loop.invariant.disks c.in_ok-node.ensures.disk;
 }
 
 pub returns-clause-holds : goal.returns-clause-holds

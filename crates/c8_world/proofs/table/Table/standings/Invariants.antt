@@ -11,5 +11,6 @@ invariant-loop-number l = record {
   from_one : 1 ≤ l.number;
   count : vec_len l.standings + 1 ≡ l.number;
   room : l.players ≤ vec_capacity l.standings;
-  known : (w : World) → Holds l.self w → (p : ℕ) (other : Standing) → 1 ≤ p → p < l.number → IsStanding l.self.rules p (peer_of w p) (node_of l.self p) (slice_index_or l.standings.items (p - 1) other);
+  known : (w : World) → Holds l.self w → (p : ℕ) (other : Standing) → 1 ≤ p → p < l.number
+      → IsStanding l.self.rules p (peer_of w p) (node_of l.self p) (slice_index_or l.standings.items (p - 1) other);
 }

@@ -6,7 +6,8 @@ use Rattle.c8_world.proofs.TurnLemmas.{no_turns}
 use Rattle.c8_world.proofs.world.World.run.Goals as goal
 
 pub returns-in-Err-clause-memory : goal.returns-in-Err-clause-memory
-returns-in-Err-clause-memory c w holds = run_out_first c.args.self.now.table w c.args.events.now c.new-answers.result.items (λ none. cc (c.in-Err.ensures.succeeds none)) c.new-answers.ensures.items holds
+returns-in-Err-clause-memory c w holds = run_out_first c.args.self.now.table w c.args.events.now c.new-answers.result.items
+    (λ none. cc (c.in-Err.ensures.succeeds none)) c.new-answers.ensures.items holds
 
 pub returns-in-Err-clause-headline : goal.returns-in-Err-clause-headline
 returns-in-Err-clause-headline c =

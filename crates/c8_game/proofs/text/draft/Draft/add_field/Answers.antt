@@ -4,6 +4,7 @@ use Rattle.c8_game.proofs.text.draft.Draft.add_field.Goals as goal
 
 pub invariant_of-self : goal.invariant_of-self
 invariant_of-self c = record {
-  ranges = λ f n has. ranges_kept c.args.self.now.values c.args.field c.in_ok-number.number (omega arith) c.args.self.now.ranges c.in_ok-number.ensures.within f n (rw c.index.ensures.value at has);
+  ranges = λ f n has. ranges_kept c.args.self.now.values c.args.field c.in_ok-number.number (omega arith) c.args.self.now.ranges
+      c.in_ok-number.ensures.within f n (rw c.index.ensures.value at has);
   bytes = c.args.self.now.bytes;
 }
