@@ -25,8 +25,8 @@ use Rattle.c8_audit.specs.Honest.{IsHonest}
 use Rattle.c8_audit.specs.Verdicts.{IsEntered, AreEntered, AreTrue, AreAgreed}
 use Rattle.c8_audit.specs.checked.Below.{AreWorldsLawful}
 use Rattle.c8_audit.proofs.AgreedLemmas.{same_up_to}
-use Rattle.c8_audit.proofs.HonestLemmas.{reached_later, reached_regular, settled_at, settled_reached, settled_here, adopt, adopt_reached,
-  adopt_is, IsBacked, backed}
+use Rattle.c8_audit.proofs.HonestLemmas.{reached_later, reached_regular, settled_at, settled_reached, settled_here, adopt, adopt_reached}
+use Rattle.c8_audit.proofs.HonestLemmas.{adopt_is, IsBacked, backed}
 
 some_same : {X : Type 0} (x y : X) → Some x ≡ Some y → x ≡ y
 some_same x y same = cc
@@ -49,7 +49,7 @@ still_by : (rules : Rules) (room p : ℕ) (early late : List Record) → AreInRa
 still_by rules room p early late range plays valid begins =
     subst (λ (j : List Record). IsStillKnown (known_of rules p early) (known_of rules p j)) (sym begins.is)
     (journal_grows rules p room early begins.rest range plays.from_one plays.in_game
-        (subst (λ (j : List Record). IsJournal rules p room j) begins.is valid))
+    (subst (λ (j : List Record). IsJournal rules p room j) begins.is valid))
 
 -- which pending records the reads at the moment between find
 choose : (rules : Rules) (room : ℕ) (e : Evidence) (honest : IsHonest rules room e) (p : ℕ) (o : Option Readings) → e p ≡ o
@@ -75,14 +75,14 @@ pub first_journal : (laws : AreWorldsLawful) (rules : Rules) (room : ℕ) (e : E
 first_journal laws rules room e range few honest p r is =
     let was = honest.read p r is in
     subst (λ (j : List Record). IsJournal rules p room j) (sym was.first_is)
-        (laws.journals rules room was.first_at p was.finds range few was.first_reached (honest.players p r is))
+    (laws.journals rules room was.first_at p was.finds range few was.first_reached (honest.players p r is))
 
 pub later_journal : (laws : AreWorldsLawful) (rules : Rules) (room : ℕ) (e : Evidence) → AreInRange rules → room < 2 ^ 64
     → (honest : IsHonest rules room e) (p : ℕ) (r : Readings) → e p ≡ Some r → IsJournal rules p room r.later
 later_journal laws rules room e range few honest p r is =
     let was = honest.read p r is in
     subst (λ (j : List Record). IsJournal rules p room j) (sym was.later_is)
-        (laws.journals rules room was.later_at p was.later_finds range few (later_reached rules room e honest p r is) (honest.players p r is))
+    (laws.journals rules room was.later_at p was.later_finds range few (later_reached rules room e honest p r is) (honest.players p r is))
 
 stands_in : (laws : AreWorldsLawful) (rules : Rules) (room : ℕ) (w : World) (p : ℕ) (r : Readings) (before : List Record) → AreInRange rules
     → room < 2 ^ 64 → IsReached rules room w → IsPlayer rules p
@@ -111,11 +111,11 @@ common laws rules room e range few honest =
           let back = (choose rules room e honest p (e p) refl).1 r is in
           let nodes = (reached_regular rules room p honest.between plays between).nodes in
           let at : journal_of w p ≡ found (peer_of honest.between p) (finds p) =
-              adopt_is rules honest.between finds rules.players p nodes (omega arith) plays.in_game plays in (
+          adopt_is rules honest.between finds rules.players p nodes (omega arith) plays.in_game plays in (
             plays,
             stands_in laws rules room w p r back.before range few reached plays (later_journal laws rules room e range few honest p r is) back.known
                 (subst (λ (j : List Record). Begins back.before j) (sym at) back.begins)
-                    (subst (λ (j : List Record). Begins j r.later) (sym at) back.ends),
+                (subst (λ (j : List Record). Begins j r.later) (sym at) back.ends),
           );
     }
 
@@ -160,12 +160,12 @@ later_entered : (rules : Rules) (w : World) (q frame word : ℕ) (own one : Read
     ⊎ ((word ≡ 0) × (K : ℕ) × ((player_in (known_of rules 1 one.later) q).cut ≡ Some K) × (K ≤ frame))
 later_entered rules w q frame word own one plays own_stands one_stands (inl has) =
     let here : (player_in (known_by rules w q) q).held ≡ held rules q (journal_of w q) =
-        ap (λ (v : PlayerValue). v.held) (player_known rules q q (journal_of w q) plays.from_one plays.in_game) in
+    ap (λ (v : PlayerValue). v.held) (player_known rules q q (journal_of w q) plays.from_one plays.in_game) in
     inl (begins_get (player_in (known_by rules w q) q).held (player_in (known_of rules q own.later) q).held frame word
-        (own_stands.later.each q).held (ap (λ (xs : List ℕ). slice_get xs frame) here ∙ has))
+    (own_stands.later.each q).held (ap (λ (xs : List ℕ). slice_get xs frame) here ∙ has))
 later_entered rules w q frame word own one plays own_stands one_stands (inr past) =
     let here : (player_in (known_by rules w 1) q).cut ≡ cut_of q (journal_of w 1) =
-        ap (λ (v : PlayerValue). v.cut) (player_known rules 1 q (journal_of w 1) plays.from_one plays.in_game) in
+    ap (λ (v : PlayerValue). v.cut) (player_known rules 1 q (journal_of w 1) plays.from_one plays.in_game) in
     inr (past.0, past.1, (one_stands.later.each q).cut past.1 (here ∙ past.2), past.3)
 
 entered_of : (laws : AreWorldsLawful) (rules : Rules) (room : ℕ) (w : World) (p q frame : ℕ) (by own one : Readings) → AreInRange rules
@@ -198,12 +198,12 @@ honest_entered laws rules room e range few honest p q frame s t s_given t_given 
     let at_one = c.stand 1 honest.one honest.one_given in
     let counts : frame < confirmed (known_of rules p by.readings.first) = subst (λ (x : Seen). frame < confirmed x.first) by.seen below in
     let is = entered_of laws rules room c.world p q frame by.readings own.readings honest.one range few c.reached at_p.0 at_q.0 at_p.1
-        at_q.1 at_one.1 counts in
+    at_q.1 at_one.1 counts in
     subst (λ (o : Option ℕ). IsEntered o t.later q frame (input_of (player_in s.first q) frame)) (sym (cut_is rules e honest.one q honest.one_given))
     (subst (λ (x : Seen). IsEntered (player_in (known_of rules 1 honest.one.later) q).cut t.later q frame
-        (input_of (player_in x.first q) frame)) (sym by.seen)
+    (input_of (player_in x.first q) frame)) (sym by.seen)
     (subst (λ (x : Seen). IsEntered (player_in (known_of rules 1 honest.one.later) q).cut x.later q frame
-        (input_of (player_in (known_of rules p by.readings.first) q) frame)) (sym own.seen) is))
+    (input_of (player_in (known_of rules p by.readings.first) q) frame)) (sym own.seen) is))
 
 -- ---- checkpoints
 
@@ -217,9 +217,9 @@ honest_true laws rules room e range few honest p s given from last =
     let reached : IsReached rules room w = settled_reached rules room was.first_at p was.finds plays was.first_reached in
     let nodes = (reached_regular rules room p was.first_at plays was.first_reached).nodes in
     let at : journal_of w p ≡ by.readings.first =
-        ap (λ (x : State). x.journal) (settled_here rules was.first_at p was.finds plays nodes) ∙ sym was.first_is in
+    ap (λ (x : State). x.journal) (settled_here rules was.first_at p was.finds plays nodes) ∙ sym was.first_is in
     let true_last : HasTrueLast rules p by.readings.first =
-        subst (λ (j : List Record). HasTrueLast rules p j) at (laws.checks rules room w p range few reached plays).last in
+    subst (λ (j : List Record). HasTrueLast rules p j) at (laws.checks rules room w p range few reached plays).last in
     subst (λ (x : Seen). IsOnTheWay rules x.first from) (sym by.seen) (true_last from (subst (λ (x : Seen). x.last ≡ Some from) by.seen last))
 
 -- ---- agreement
@@ -232,9 +232,9 @@ undropped_there : (rules : Rules) (w : World) (q : ℕ) (one : Readings) → IsP
     → (player_in (known_of rules 1 one.later) q).leaving ≡ false → has_leave q (journal_of w 1) ≡ false
 undropped_there rules w q one plays stands none =
     let here : (player_in (known_by rules w 1) q).leaving ≡ has_leave q (journal_of w 1) =
-        ap (λ (v : PlayerValue). v.leaving) (player_known rules 1 q (journal_of w 1) plays.from_one plays.in_game) in
+    ap (λ (v : PlayerValue). v.leaving) (player_known rules 1 q (journal_of w 1) plays.from_one plays.in_game) in
     sym here ∙ not_true (player_in (known_by rules w 1) q).leaving (player_in (known_of rules 1 one.later) q).leaving
-        (stands.later.each q).leaving none
+    (stands.later.each q).leaving none
 
 -- the rows that a first reading confirms are confirmed there
 first_rows : (a b : KnownValue) (n : ℕ) → IsStillKnown a b → n ≤ confirmed a → rows_below a n ≡ rows_below b n
@@ -249,10 +249,10 @@ agreed_of laws rules room w p r n a b range few reached p_plays r_plays a_stands
     let p_rises = confirmed_rises (known_of rules p a.first) (known_by rules w p) a_stands.first in
     let r_rises = confirmed_rises (known_of rules r b.first) (known_by rules w r) b_stands.first in
     let there = laws.agree rules room w w [] [] p r range few reached refl p_plays r_plays p_stays r_stays n
-        (omega (arith, p_counts, p_rises)) (omega (arith, r_counts, r_rises)) in
+    (omega (arith, p_counts, p_rises)) (omega (arith, r_counts, r_rises)) in
     same_up_to rules (known_of rules p a.first) (known_of rules r b.first) n
     (first_rows (known_of rules p a.first) (known_by rules w p) n a_stands.first p_counts ∙ there.rows
-        ∙ sym (first_rows (known_of rules r b.first) (known_by rules w r) n b_stands.first r_counts))
+    ∙ sym (first_rows (known_of rules r b.first) (known_by rules w r) n b_stands.first r_counts))
 
 pub honest_agreed : (laws : AreWorldsLawful) (rules : Rules) (room : ℕ) (e : Evidence) → AreInRange rules → room < 2 ^ 64
     → IsHonest rules room e → AreAgreed rules (seen_in rules e)
@@ -264,10 +264,10 @@ honest_agreed laws rules room e range few honest p r s t s_stays t_stays n p_cou
     let at_r = c.stand r b.readings b.is in
     let at_one = c.stand 1 honest.one honest.one_given in
     let p_stays = undropped_there rules c.world p honest.one at_p.0 at_one.1
-        (sym (dropped_is rules e honest.one p honest.one_given) ∙ s_stays.undropped) in
+    (sym (dropped_is rules e honest.one p honest.one_given) ∙ s_stays.undropped) in
     let r_stays = undropped_there rules c.world r honest.one at_r.0 at_one.1
-        (sym (dropped_is rules e honest.one r honest.one_given) ∙ t_stays.undropped) in
+    (sym (dropped_is rules e honest.one r honest.one_given) ∙ t_stays.undropped) in
     let is = agreed_of laws rules room c.world p r n a.readings b.readings range few c.reached at_p.0 at_r.0 at_p.1 at_r.1 p_stays r_stays
     (subst (λ (x : Seen). n ≤ confirmed x.first) a.seen p_counts) (subst (λ (x : Seen). n ≤ confirmed x.first) b.seen r_counts) in
     subst (λ (x : Seen). AreSameUpTo rules x.first t.first n) (sym a.seen)
-        (subst (λ (x : Seen). AreSameUpTo rules (known_of rules p a.readings.first) x.first n) (sym b.seen) is)
+    (subst (λ (x : Seen). AreSameUpTo rules (known_of rules p a.readings.first) x.first n) (sym b.seen) is)

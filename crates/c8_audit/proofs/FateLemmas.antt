@@ -1,6 +1,6 @@
 -- What becomes of the pending record that a reading found.
-use Rattle.std.proofs.Common.{◌≡◌, ◌≢◌, ℕ, ◌+◌, ◌⊎◌, inl, inr, ⊎_elim, List, [], ◌∷◌, ◌++◌, length, Bool, true, false, Option, Some, None,
-  refl, sym, subst, ◌∙◌, arith, length-append}
+use Rattle.std.proofs.Common.{◌≡◌, ◌≢◌, ℕ, ◌+◌, ◌⊎◌, inl, inr, ⊎_elim, List, [], ◌∷◌, ◌++◌, length, Bool, true, false, Option, Some, None}
+use Rattle.std.proofs.Common.{refl, sym, subst, ◌∙◌, arith, length-append}
 use Rattle.std.specs.Prelude.{option_to_list}
 use Rattle.std.specs.List.{slice_get}
 use Rattle.std.proofs.lemmas.List.{append-nil}
@@ -61,8 +61,10 @@ opened_grows rules room me s journal Spent begins = away_grows s journal None be
 pub all_grow : (rules : Rules) (room p : ℕ) → HoldsForSteps rules room p Grows
 all_grow rules room p = record {
   same = λ s. record { grown = begins_same s.journal; settled = λ was. was };
-  more = λ s u t one two. record { grown = begins_more s.journal u.journal t.journal one.grown two.grown;
-      settled = λ was. two.settled (one.settled was) };
+  more = λ s u t one two. record {
+    grown = begins_more s.journal u.journal t.journal one.grown two.grown;
+    settled = λ was. two.settled (one.settled was);
+  };
   called = λ s call on_disk up. step_grows rules p s call on_disk;
   opens = λ s finds o down. opened_grows rules room p s (found s finds) o (found_grows s finds);
   crashes = λ s finds. away_grows s (found s finds) None (found_grows s finds);
@@ -120,14 +122,20 @@ pending_read : (me : ℕ) (before journal : List Record) (pending : Option Recor
     → HasOpening me before (journal ++ option_to_list pending) ⊎ (journal ++ option_to_list pending ≡ before)
 pending_read me before journal None same opening = inr (append-nil journal ∙ same)
 pending_read me before journal (Some r) same opening =
-    inl (record { record_is = r; opening = opening;
-    begins = subst (λ (j : List Record). Begins (before ++ r ∷ []) (j ++ r ∷ [])) (sym same) (begins_same (before ++ r ∷ [])) })
+    inl (record {
+      record_is = r;
+      opening = opening;
+      begins = subst (λ (j : List Record). Begins (before ++ r ∷ []) (j ++ r ∷ [])) (sym same) (begins_same (before ++ r ∷ []));
+    })
 
 pub lacks_read : (me : ℕ) (before : List Record) (s : State) (finds : Bool) → Lacks me before s
     → HasOpening me before (found s finds) ⊎ (found s finds ≡ before)
 lacks_read me before s finds (inr has) = inl
-    (record { record_is = has.record_is; opening = has.opening;
-    begins = begins_more (before ++ has.record_is ∷ []) s.journal (found s finds) has.begins (found_grows s finds) })
+    (record {
+      record_is = has.record_is;
+      opening = has.opening;
+      begins = begins_more (before ++ has.record_is ∷ []) s.journal (found s finds) has.begins (found_grows s finds);
+    })
 lacks_read me before s true (inl without) = pending_read me before s.journal s.pending without.journal without.pending
 lacks_read me before s false (inl without) = inr without.journal
 
@@ -175,8 +183,11 @@ stands_keeps rules room me before x s journal (inr same) = inr (inr (next_openin
 stands_lacks : (rules : Rules) (room me : ℕ) (before : List Record) (s : State) (journal : List Record)
     → HasOpening me before journal ⊎ (journal ≡ before) → Lacks me before (opened rules room me s journal Stands).state
 stands_lacks rules room me before s journal (inl has) =
-    inr (record { record_is = has.record_is; opening = has.opening;
-        begins = begins_longer (before ++ has.record_is ∷ []) journal (opening_record rules room me journal ∷ []) has.begins })
+    inr (record {
+      record_is = has.record_is;
+      opening = has.opening;
+      begins = begins_longer (before ++ has.record_is ∷ []) journal (opening_record rules room me journal ∷ []) has.begins;
+    })
 stands_lacks rules room me before s journal (inr same) = inr (next_opening rules room me before journal same)
 
 unwritten_keeps : (rules : Rules) (room me : ℕ) (before : List Record) (x : Record) (s : State) (journal : List Record)
@@ -185,16 +196,22 @@ unwritten_keeps : (rules : Rules) (room me : ℕ) (before : List Record) (x : Re
     ⊎ Lacks me before (away s journal (Some (opening_record rules room me journal)))
 unwritten_keeps rules room me before x s journal (inl begins) = inl (inr begins)
 unwritten_keeps rules room me before x s journal (inr same) =
-    inr (inl (record { journal = same; pending = opening_is rules room me journal;
-        mode = away_open s journal (Some (opening_record rules room me journal)) }))
+    inr (inl (record {
+      journal = same;
+      pending = opening_is rules room me journal;
+      mode = away_open s journal (Some (opening_record rules room me journal));
+    }))
 
 unwritten_lacks : (rules : Rules) (room me : ℕ) (before : List Record) (s : State) (journal : List Record)
     → HasOpening me before journal ⊎ (journal ≡ before)
     → Lacks me before (away s journal (Some (opening_record rules room me journal)))
 unwritten_lacks rules room me before s journal (inl has) = inr has
 unwritten_lacks rules room me before s journal (inr same) =
-    inl (record { journal = same; pending = opening_is rules room me journal;
-        mode = away_open s journal (Some (opening_record rules room me journal)) })
+    inl (record {
+      journal = same;
+      pending = opening_is rules room me journal;
+      mode = away_open s journal (Some (opening_record rules room me journal));
+    })
 
 opened_keeps : (rules : Rules) (room me : ℕ) (before : List Record) (x : Record) (s : State) (finds : Bool) (o : Opening) → Keeps before x s
     → Keeps before x (opened rules room me s (found s finds) o).state ⊎ Lacks me before (opened rules room me s (found s finds) o).state
@@ -248,10 +265,14 @@ all_fare rules room p before x = record {
     kept = λ keeps. ⊎_elim (λ still. two.kept still) (λ lacks. inr (two.lost lacks)) (one.kept keeps);
     lost = λ lacks. two.lost (one.lost lacks);
   };
-  called = λ s call on_disk up. record { kept = λ keeps. inl (step_keeps rules p before x s call on_disk up keeps);
-      lost = λ lacks. step_lacks rules p before s call on_disk up lacks };
-  opens = λ s finds o down. record { kept = λ keeps. opened_keeps rules room p before x s finds o keeps;
-      lost = λ lacks. opened_lacks rules room p before s finds o lacks };
+  called = λ s call on_disk up. record {
+    kept = λ keeps. inl (step_keeps rules p before x s call on_disk up keeps);
+    lost = λ lacks. step_lacks rules p before s call on_disk up lacks;
+  };
+  opens = λ s finds o down. record {
+    kept = λ keeps. opened_keeps rules room p before x s finds o keeps;
+    lost = λ lacks. opened_lacks rules room p before s finds o lacks;
+  };
   crashes = λ s finds. record {
     kept = λ keeps. crash_keeps p before x s (found s finds) (keeps_read before x s finds keeps);
     lost = λ lacks. crash_lacks p before s (found s finds) (lacks_read p before s finds lacks);

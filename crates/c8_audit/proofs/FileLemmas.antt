@@ -1,6 +1,7 @@
 -- The journals of all files, file by file.
-use Rattle.std.proofs.Common.{◌≡◌, ◌≢◌, ℕ, zero, suc, ◌+◌, ◌-◌, ◌<◌, ◌≤◌, ◌⊎◌, inl, inr, ⊎_elim, List, [], ◌∷◌, ◌++◌, length, map, take,
-  min, length-take, Bool, true, false, Option, Some, None, refl, sym, ap, subst, ◌∙◌, arith, slice_set, slice_index_or}
+use Rattle.std.proofs.Common.{◌≡◌, ◌≢◌, ℕ, zero, suc, ◌+◌, ◌-◌, ◌<◌, ◌≤◌, ◌⊎◌, inl, inr, ⊎_elim, List, [], ◌∷◌, ◌++◌, length, map, take}
+use Rattle.std.proofs.Common.{min, length-take, Bool, true, false, Option, Some, None, refl, sym, ap, subst, ◌∙◌, arith, slice_set}
+use Rattle.std.proofs.Common.{slice_index_or}
 use Rattle.std.specs.Prelude.{◌==◌, option_map}
 use Rattle.std.specs.List.{slice_get}
 use Rattle.std.proofs.lemmas.Bool.{eqb-true}
@@ -72,8 +73,8 @@ put_view X view journals place p j next within none from =
           let same : j.first.me ≡ p = yes_it.1 in
           let at : p - 1 ≡ place = omega (arith, same, next) in
           let now : view_at view (slice_get (slice_set journals place (Some j)) (p - 1)) ≡ Some (view j) =
-              ap (λ (n : ℕ). view_at view (slice_get (slice_set journals place (Some j)) n)) at
-              ∙ ap (view_at view) (set_here journals place (Some j) within) in
+          ap (λ (n : ℕ). view_at view (slice_get (slice_set journals place (Some j)) n)) at
+          ∙ ap (view_at view) (set_here journals place (Some j) within) in
           let before : view_at view (slice_get journals (p - 1)) ≡ None = ap (λ (n : ℕ). view_at view (slice_get journals n)) at ∙ none in
           let test : (j.first.me == p) ≡ true = yes_it.0 in
           now ∙ sym (ap (λ (o : Option X). view_or o (j.first.me == p) (view j)) before ∙ ap (λ (b : Bool). view_or None b (view j)) test)
@@ -81,10 +82,10 @@ put_view X view journals place p j next within none from =
           let apart : j.first.me ≢ p = no_it.1 in
           let other : p - 1 ≢ place = λ e. apart (omega (arith, e, next, from)) in
           let now : view_at view (slice_get (slice_set journals place (Some j)) (p - 1)) ≡ view_at view (slice_get journals (p - 1)) =
-              ap (view_at view) (set_there journals place (p - 1) (Some j) other) in
+          ap (view_at view) (set_there journals place (p - 1) (Some j) other) in
           let test : (j.first.me == p) ≡ false = no_it.0 in
           now ∙ sym (ap (λ (b : Bool). view_or (view_at view (slice_get journals (p - 1))) b (view j)) test
-              ∙ kept_same (view_at view (slice_get journals (p - 1))) (view j))
+          ∙ kept_same (view_at view (slice_get journals (p - 1))) (view j))
     ]
   where
     kept_same : (o : Option X) (x : X) → view_or o false x ≡ o
@@ -101,10 +102,10 @@ view_stays X view journals place p j old next taken from =
           let same = yes_it.1 in
           let at : p - 1 ≡ place = omega (arith, same, next) in
           let before : view_at view (slice_get journals (p - 1)) ≡ Some (view old) =
-              ap (λ (n : ℕ). view_at view (slice_get journals n)) at ∙ ap (view_at view) taken in
+          ap (λ (n : ℕ). view_at view (slice_get journals n)) at ∙ ap (view_at view) taken in
           before ∙ sym (ap (λ (o : Option X). view_or o (j.first.me == p) (view j)) before)
       | inr no_it ↦ sym (ap (λ (b : Bool). view_or (view_at view (slice_get journals (p - 1))) b (view j)) no_it.0
-      ∙ kept_same (view_at view (slice_get journals (p - 1))) (view j))
+          ∙ kept_same (view_at view (slice_get journals (p - 1))) (view j))
     ]
   where
     kept_same : (o : Option X) (x : X) → view_or o false x ≡ o
@@ -154,11 +155,11 @@ put_by : (before after : List (Option Journal)) (j : Journal)
 put_by before after j views = record {
   seen = λ p from.
       as_seen (slice_get after (p - 1)) ∙ views Seen seen p from
-          ∙ ap (λ (o : Option Seen). view_or o (j.first.me == p) (seen j)) (sym (as_seen (slice_get before (p - 1))))
+      ∙ ap (λ (o : Option Seen). view_or o (j.first.me == p) (seen j)) (sym (as_seen (slice_get before (p - 1))))
       ∙ as_seen_or (all_seen before p) (j.first.me == p) (seen j);
   named = λ p from.
       as_named (slice_get after (p - 1)) ∙ views Named (λ j. j.named) p from
-          ∙ ap (λ (o : Option Named). view_or o (j.first.me == p) j.named) (sym (as_named (slice_get before (p - 1))))
+      ∙ ap (λ (o : Option Named). view_or o (j.first.me == p) j.named) (sym (as_named (slice_get before (p - 1))))
       ∙ as_named_or (all_named before p) (j.first.me == p) j.named;
 }
 
@@ -166,7 +167,7 @@ pub put_free : (journals : List (Option Journal)) (place : ℕ) (j : Journal) �
     → named_at (slice_get journals place) ≡ None → IsPut journals (slice_set journals place (Some j)) j
 put_free journals place j next within free =
     put_by journals (slice_set journals place (Some j)) j
-        (λ X view p from. put_view X view journals place p j next within (free_view X view (slice_get journals place) free) from)
+    (λ X view p from. put_view X view journals place p j next within (free_view X view (slice_get journals place) free) from)
 
 pub put_taken : (journals : List (Option Journal)) (place : ℕ) (j : Journal) (n : Named) → place + 1 ≡ j.first.me
     → named_at (slice_get journals place) ≡ Some n → IsPut journals journals j
@@ -207,9 +208,9 @@ pub gathered_next : (rules : Rules) (firsts laters : List (List ℕ)) (i : ℕ) 
 gathered_next rules firsts laters i a b journals at_a at_b same is =
     let long : length (take i firsts) ≡ length (take i laters) = length-take i firsts ∙ ap (λ (n : ℕ). min i n) same ∙ sym (length-take i laters) in
     gathered_same rules (with_file (evidence_in (take i firsts) (take i laters)) a b)
-        (evidence_in (take (i + 1) firsts) (take (i + 1) laters)) journals
+    (evidence_in (take (i + 1) firsts) (take (i + 1) laters)) journals
     (λ p. ap (λ (xs : List (List ℕ)). evidence_in xs (take (i + 1) laters) p) (take_next (List ℕ) firsts i a at_a)
-        ∙ ap (λ (ys : List (List ℕ)). evidence_in (take i firsts ++ a ∷ []) ys p) (take_next (List ℕ) laters i b at_b)
+    ∙ ap (λ (ys : List (List ℕ)). evidence_in (take i firsts ++ a ∷ []) ys p) (take_next (List ℕ) laters i b at_b)
     ∙ evidence_more (take i firsts) (take i laters) a b p long) is
 
 none_at : (n : ℕ) → seen_at (slice_get (None ∷ None ∷ None ∷ None ∷ []) n) ≡ None
@@ -268,9 +269,11 @@ one_in rules e first later before after j room is read same names put = record {
   read = λ p r from at. ⊎_elim
       (λ old. is.read p r from old)
       (λ new.
-      let here : j.first.me ≡ p = eqb-true j.first.me p new.0 in
-      (room, subst (λ (x : Readings). IsReadTwice rules room p x) new.1
-          (subst (λ (q : ℕ). IsReadTwice rules room q (readings_of first later)) here read)))
+      let here : j.first.me ≡ p = eqb-true j.first.me p new.0 in (
+        room,
+        subst (λ (x : Readings). IsReadTwice rules room p x) new.1
+            (subst (λ (q : ℕ). IsReadTwice rules room q (readings_of first later)) here read),
+      ))
       (read_or (e p) (j.first.me == p) (readings_of first later) r
       (ap (or_else (e p)) (sym (only_is (records_of (kept first)) j.first.me p (readings_of first later) names)) ∙ at));
 }
@@ -287,7 +290,7 @@ pub gathered_all : (rules : Rules) (e : Evidence) (journals : List (Option Journ
     → (s : Seen) → all_seen journals 1 ≡ Some s → AreGathered rules e journals
 gathered_all rules e journals four is s first =
     let of = λ (p : ℕ) (t : Seen) (given : IsGiven (all_seen journals) p t). of_reading_at rules e p t (e p) refl
-        (sym (is.seen_is p given.from_one) ∙ given.is) in
+    (sym (is.seen_is p given.from_one) ∙ given.is) in
     let read = λ (p : ℕ) (t : Seen) (given : IsGiven (all_seen journals) p t). is.read p (of p t given).readings given.from_one (of p t given).is in
     let one : IsGiven (all_seen journals) 1 s = record { from_one = omega arith; is = first } in
     record {

@@ -1,6 +1,6 @@
 -- The files of an honest match are gathered, and each verdict on them is yes.
-use Rattle.std.proofs.Common.{◌≡◌, ℕ, ◌+◌, ◌^◌, ◌<◌, ◌⊎◌, inl, inr, ⊎_elim, List, [], ◌∷◌, ◌++◌, length, map, slice_index_or, Bool, true,
-  false, Option, Some, None, refl, sym, ap, subst, ◌∙◌, arith, zero, suc, get_or}
+use Rattle.std.proofs.Common.{◌≡◌, ℕ, ◌+◌, ◌^◌, ◌<◌, ◌⊎◌, inl, inr, ⊎_elim, List, [], ◌∷◌, ◌++◌, length, map, slice_index_or, Bool, true}
+use Rattle.std.proofs.Common.{false, Option, Some, None, refl, sym, ap, subst, ◌∙◌, arith, zero, suc, get_or}
 use Rattle.std.specs.Prelude.{◌==◌, option_map, MatchOption}
 use Rattle.std.specs.List.{slice_get}
 use Rattle.std.proofs.lemmas.Bool.{eqb-true}
@@ -82,7 +82,7 @@ one_head : (bodies : List (List ℕ)) (p q : ℕ) (id other : List ℕ) (room na
 one_head bodies p q id other room named x y =
     let body : x.0 ≡ y.0 = some_same x.0 y.0 (sym x.2 ∙ y.2) in
     let same : Head p x.1 id room ≡ Head q y.1 other named =
-        sym (reads_back x.0 (Head p x.1 id room) x.3) ∙ ap record_of body ∙ reads_back y.0 (Head q y.1 other named) y.3 in
+    sym (reads_back x.0 (Head p x.1 id room) x.3) ∙ ap record_of body ∙ reads_back y.0 (Head q y.1 other named) y.3 in
     let player : p ≡ q = cc in
     let there : room ≡ named = cc in
     (player, there)
@@ -94,7 +94,7 @@ no_bad rules p room bodies n are bad =
     let place : slice_get (records_of bodies) n ≡ Some (record_of body) = slice_get-map record_of bodies n ∙ ap (option_map record_of) here in
     bad.bad body (record_of body) here (are.spelled n [] bad.within)
     (subst (λ (before : List Record). IsAllowed rules p room before (record_of body)) (take-map record_of n bodies)
-        (are.journal n (record_of body) place))
+    (are.journal n (record_of body) place))
 
 -- a journal is refused only if memory runs out
 only_memory : (rules : Rules) (p room : ℕ) (asked : Option ℕ) (bodies : List (List ℕ)) (error : JournalError)
@@ -110,7 +110,7 @@ only_memory rules p room asked bodies (errors.BadRecord n why) are some is (inl 
 only_memory rules p room asked bodies (errors.BadRecord n why) are some is (inr (me, named, head, wanted, bad)) =
     let same = one_head bodies me p (id_of rules) (id_of rules) named room head (begins_with_head rules p room bodies are some) in
     absurd (no_bad rules p room bodies n are (subst (λ (q : ℕ). IsFirstBad rules q room bodies n) same.0
-        (subst (λ (r : ℕ). IsFirstBad rules me r bodies n) same.1 bad)))
+    (subst (λ (r : ℕ). IsFirstBad rules me r bodies n) same.1 bad)))
 only_memory rules p room asked bodies errors.Memory are some is memory = refl
 
 -- ---- one file
@@ -128,17 +128,17 @@ in_order laws rules room p between file range few is =
     let was = is.read in
     let reached : IsReached rules room between = reached_later rules room was.first_at between was.events was.answers was.first_reached was.before in
     let after : IsReached rules room was.later_at =
-        reached_later rules room between was.later_at was.more_events was.more_answers reached was.after in
+    reached_later rules room between was.later_at was.more_events was.more_answers reached was.after in
     let first : IsJournal rules p room is.readings.first =
-        subst (λ (j : List Record). IsJournal rules p room j) (sym was.first_is)
-        (laws.journals rules room was.first_at p was.finds range few was.first_reached is.plays) in
+    subst (λ (j : List Record). IsJournal rules p room j) (sym was.first_is)
+    (laws.journals rules room was.first_at p was.finds range few was.first_reached is.plays) in
     let later : IsJournal rules p room is.readings.later =
-        subst (λ (j : List Record). IsJournal rules p room j) (sym was.later_is)
-        (laws.journals rules room was.later_at p was.later_finds range few after is.plays) in
+    subst (λ (j : List Record). IsJournal rules p room j) (sym was.later_is)
+    (laws.journals rules room was.later_at p was.later_finds range few after is.plays) in
     let one : records_of (kept (first_bytes file)) ≡ is.readings.first =
-        ap records_of is.first_is ∙ journal_back rules p room is.readings.first first in
+    ap records_of is.first_is ∙ journal_back rules p room is.readings.first first in
     let two : records_of (kept (later_bytes file)) ≡ is.readings.later =
-        ap records_of is.later_is ∙ journal_back rules p room is.readings.later later in
+    ap records_of is.later_is ∙ journal_back rules p room is.readings.later later in
     record {
       first = subst (λ (b : List (List ℕ)). AreJournalBodies rules p room b) (sym is.first_is) (journal_bodies rules p room is.readings.first first);
       later = subst (λ (b : List (List ℕ)). AreJournalBodies rules p room b) (sym is.later_is) (journal_bodies rules p room is.readings.later later);
@@ -170,7 +170,7 @@ module _ (laws : AreWorldsLawful) (rules : Rules) (room : ℕ) (files : List Twi
       let order = file_in_order n.place names.file names.file_is in
       let some : 0 < length (kept (first_bytes names.file)) = slice_get_within (kept (first_bytes names.file)) 0 names.head.0 names.head.2 in
       one_head (kept (first_bytes names.file)) n.player.number (honest.owner n.place) (id_of rules) (id_of rules) n.room room names.head
-          (begins_with_head rules (honest.owner n.place) room (kept (first_bytes names.file)) order.first some)
+      (begins_with_head rules (honest.owner n.place) room (kept (first_bytes names.file)) order.first some)
 
   one_keeps : 0 < length (kept (first_bytes honest.one_file))
   one_keeps = some_kept (kept (first_bytes honest.one_file)) honest.one_keeps
@@ -179,7 +179,7 @@ module _ (laws : AreWorldsLawful) (rules : Rules) (room : ℕ) (files : List Twi
   one_head_is =
       subst (λ (p : ℕ). BeginsWithHead (kept (first_bytes honest.one_file)) p (id_of rules) room) honest.one_owner
       (begins_with_head rules (honest.owner honest.one) room (kept (first_bytes honest.one_file))
-          (file_in_order honest.one honest.one_file honest.one_given).first one_keeps)
+      (file_in_order honest.one honest.one_file honest.one_given).first one_keeps)
 
   no_mismatch : (why : Mismatch) → IsMismatch rules files why → ⊥
   no_mismatch (SamePlayer a b) wrong =
@@ -197,14 +197,14 @@ module _ (laws : AreWorldsLawful) (rules : Rules) (room : ℕ) (files : List Twi
       → IsUnread rules (first_bytes file) (later_bytes file) why → why ≡ Journal errors.Memory
   only_memory_in n file at (Journal error) some (inl first) =
       ap Journal (only_memory rules (honest.owner n) room None (kept (first_bytes file)) error (file_in_order n file at).first
-          (some_kept (kept (first_bytes file)) some) tt first)
+      (some_kept (kept (first_bytes file)) some) tt first)
   only_memory_in n file at (Journal error) some (inr again) =
       let order = file_in_order n file at in
       let more : 0 < length (kept (first_bytes file)) = some_kept (kept (first_bytes file)) some in
       let same = one_head (kept (first_bytes file)) again.0 (honest.owner n) (id_of rules) (id_of rules) again.1 room again.2
-          (begins_with_head rules (honest.owner n) room (kept (first_bytes file)) order.first more) in
+      (begins_with_head rules (honest.owner n) room (kept (first_bytes file)) order.first more) in
       ap Journal (only_memory rules (honest.owner n) room (Some again.1) (kept (later_bytes file)) error order.later
-          (begun_longer (kept (first_bytes file)) (kept (later_bytes file)) order.continues more) same.1 again.3)
+      (begun_longer (kept (first_bytes file)) (kept (later_bytes file)) order.continues more) same.1 again.3)
   only_memory_in n file at Changed some again = absurd (again.3 (file_in_order n file at).continues)
 
   pub gathered_honestly : (error : GatherError) → IsNotGathered rules files error → IsOutOfMemory error
@@ -254,7 +254,7 @@ is_given [] n p file at named = absurd cc
 is_given (f ∷ files) zero p file at named =
     let same : f ≡ file = some_same f file at in
     some_in (evidence_of files p) (names_player p (records_of (kept (first_bytes f)))) (readings_of (first_bytes f) (later_bytes f))
-        (ap (λ (x : Twice). names_player p (records_of (kept (first_bytes x)))) same ∙ named)
+    (ap (λ (x : Twice). names_player p (records_of (kept (first_bytes x)))) same ∙ named)
 is_given (f ∷ files) (suc n) p file at named =
     let rest = is_given files n p file at named in
     or_more (names_player p (records_of (kept (first_bytes f)))) (readings_of (first_bytes f) (later_bytes f)) rest.0 (evidence_of files p) rest.1
@@ -273,9 +273,9 @@ module _ (laws : AreWorldsLawful) (rules : Rules) (room : ℕ) (files : List Twi
   owner_is p r from =
       let order = in_order laws rules room (honest.owner from.place) honest.between from.file range few (honest.each from.place from.file from.at) in
       let head = begins_with_head rules (honest.owner from.place) room (kept (first_bytes from.file)) order.first
-          (names_some (kept (first_bytes from.file)) p from.named) in
+      (names_some (kept (first_bytes from.file)) p from.named) in
       names_one (records_of (kept (first_bytes from.file))) (honest.owner from.place) p
-          (head_names (kept (first_bytes from.file)) (honest.owner from.place) (id_of rules) room head) from.named
+      (head_names (kept (first_bytes from.file)) (honest.owner from.place) (id_of rules) room head) from.named
 
   file_of : (p : ℕ) (r : Readings) (from : IsFrom files p r) → IsPlayer rules p × WasReadTwice rules room honest.between p r
   file_of p r from =
@@ -283,17 +283,17 @@ module _ (laws : AreWorldsLawful) (rules : Rules) (room : ℕ) (files : List Twi
       let order = in_order laws rules room (honest.owner from.place) honest.between from.file range few is in
       let same : is.readings ≡ r = sym order.same ∙ from.same in
       subst (λ (q : ℕ). IsPlayer rules q × WasReadTwice rules room honest.between q r) (owner_is p r from)
-          (is.plays, subst (λ (x : Readings). WasReadTwice rules room honest.between (honest.owner from.place) x) same is.read)
+      (is.plays, subst (λ (x : Readings). WasReadTwice rules room honest.between (honest.owner from.place) x) same is.read)
 
   one_given_is : (r : Readings) × (evidence_of files 1 ≡ Some r)
   one_given_is =
       let order = in_order laws rules room (honest.owner honest.one) honest.between honest.one_file range few
-          (honest.each honest.one honest.one_file honest.one_given) in
+      (honest.each honest.one honest.one_file honest.one_given) in
       let head = begins_with_head rules (honest.owner honest.one) room (kept (first_bytes honest.one_file)) order.first
-          (some_kept (kept (first_bytes honest.one_file)) honest.one_keeps) in
+      (some_kept (kept (first_bytes honest.one_file)) honest.one_keeps) in
       is_given files honest.one 1 honest.one_file honest.one_given
       (subst (λ (p : ℕ). names_player p (records_of (kept (first_bytes honest.one_file))) ≡ true) honest.one_owner
-          (head_names (kept (first_bytes honest.one_file)) (honest.owner honest.one) (id_of rules) room head))
+      (head_names (kept (first_bytes honest.one_file)) (honest.owner honest.one) (id_of rules) room head))
 
   pub honest_evidence : IsHonest rules room (evidence_of files)
   honest_evidence = record {
@@ -320,9 +320,9 @@ row_at : (a b : KnownValue) (frame : ℕ) → rows_below a (frame + 1) ≡ rows_
 row_at a b frame same =
     let d = row a frame in
     let one : get_or (rows_below a (frame + 1)) frame d ≡ row a frame =
-        get_or-map-range_with_len (row a) 0 (frame + 1) frame frame d (omega arith) (omega arith) in
+    get_or-map-range_with_len (row a) 0 (frame + 1) frame frame d (omega arith) (omega arith) in
     let two : get_or (rows_below b (frame + 1)) frame d ≡ row b frame =
-        get_or-map-range_with_len (row b) 0 (frame + 1) frame frame d (omega arith) (omega arith) in
+    get_or-map-range_with_len (row b) 0 (frame + 1) frame frame d (omega arith) (omega arith) in
     sym one ∙ ap (λ (rows : List Row). get_or rows frame d) same ∙ two
 
 never_different : (rules : Rules) (all : AllSeen) → AreAgreed rules all → (frame p r : ℕ) → IsDifference all frame p r → ⊥
@@ -330,7 +330,7 @@ never_different rules all agreed frame p r wrong =
     let one = wrong.one_counts in
     let other = wrong.other_counts in
     wrong.rows (row_at wrong.one.first wrong.other.first frame
-        (agreed p r wrong.one wrong.other wrong.one_stays wrong.other_stays (frame + 1) (omega (arith, one)) (omega (arith, other))).rows)
+    (agreed p r wrong.one wrong.other wrong.one_stays wrong.other_stays (frame + 1) (omega (arith, one)) (omega (arith, other))).rows)
 
 pub honest_yes : (laws : AreWorldsLawful) (rules : Rules) (room : ℕ) (files : List Twice) (given : List (Option journals.Journal))
     (verdicts : Verdicts) → AreInRange rules → room < 2 ^ 64 → AreHonestFiles rules room files
@@ -340,11 +340,11 @@ honest_yes laws rules room files given verdicts range few honest gathered judged
     let is = honest_evidence laws rules room files range few honest in
     let same : AreSame (seen_in rules e) (all_seen given) = record { each = λ p from. sym (gathered.gathered.seen_is p from) } in
     let entered : AreEntered (all_seen given) =
-        entered_same (seen_in rules e) (all_seen given) same (honest_entered laws rules room e range few is) in
+    entered_same (seen_in rules e) (all_seen given) same (honest_entered laws rules room e range few is) in
     let checks : AreTrue rules (all_seen given) =
-        true_same (seen_in rules e) (all_seen given) same rules (honest_true laws rules room e range few is) in
+    true_same (seen_in rules e) (all_seen given) same rules (honest_true laws rules room e range few is) in
     let agreed : AreAgreed rules (all_seen given) =
-        agreed_same (seen_in rules e) (all_seen given) same rules (honest_agreed laws rules room e range few is) in
+    agreed_same (seen_in rules e) (all_seen given) same rules (honest_agreed laws rules room e range few is) in
     record {
       entered = none_of (AreEntered (all_seen given)) _ verdicts.unentered judged.entered
           (λ fault wrong. never_unentered (all_seen given) entered fault.frame fault.one.number fault.other.number wrong.is);

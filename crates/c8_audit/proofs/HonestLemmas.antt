@@ -1,6 +1,6 @@
 -- An honest match is never accused: all its readings have a place in one world.
-use Rattle.std.proofs.Common.{◌≡◌, ◌≢◌, ℕ, zero, suc, ◌-◌, ◌<◌, ◌≤◌, ◌⊎◌, inl, inr, List, [], ◌∷◌, ◌++◌, length, Bool, true, false, Option,
-  Some, None, refl, sym, ap, subst, ◌∙◌, arith}
+use Rattle.std.proofs.Common.{◌≡◌, ◌≢◌, ℕ, zero, suc, ◌-◌, ◌<◌, ◌≤◌, ◌⊎◌, inl, inr, List, [], ◌∷◌, ◌++◌, length, Bool, true, false, Option}
+use Rattle.std.proofs.Common.{Some, None, refl, sym, ap, subst, ◌∙◌, arith}
 use Rattle.std.specs.Prelude.{if◌then◌else◌, option_to_list}
 use Rattle.std.specs.List.{slice_get}
 use Rattle.std.proofs.lemmas.Bool.{cases_eq, cases_lt}
@@ -16,14 +16,14 @@ use Rattle.c8_record.specs.Allowed.{IsOpening}
 use Rattle.c8_peer.specs.State.{State}
 use Rattle.c8_peer.specs.Steps.{Works}
 use Rattle.c8_peer.specs.Opening.{NoMemory, found, away}
-use Rattle.c8_world.specs.World.{World, never_opened, start, is_player, peer_of, journal_of, with_peer, Give, Event, Stop, Happening,
-  Answer, Stopped, After, give_to, acted, crashed, CanHappen, Chain, IsReached}
+use Rattle.c8_world.specs.World.{World, never_opened, start, is_player, peer_of, journal_of, with_peer, Give, Event, Stop, Happening}
+use Rattle.c8_world.specs.World.{Answer, Stopped, After, give_to, acted, crashed, CanHappen, Chain, IsReached}
 use Rattle.c8_world.specs.Agreement.{IsPlayer}
 use Rattle.c8_audit.specs.Journals.{Readings}
 use Rattle.c8_audit.specs.Honest.{WasReadTwice}
 use Rattle.c8_audit.proofs.StepLemmas.{moved_chain}
-use Rattle.c8_audit.proofs.FateLemmas.{IsSettled, Grows, all_grow, found_grows, IsOpeningOf, Waits, Keeps, Lacks, HasOpening, lacks_read,
-  Fares, all_fare, same_next, never_shorter}
+use Rattle.c8_audit.proofs.FateLemmas.{IsSettled, Grows, all_grow, found_grows, IsOpeningOf, Waits, Keeps, Lacks, HasOpening, lacks_read}
+use Rattle.c8_audit.proofs.FateLemmas.{Fares, all_fare, same_next, never_shorter}
 
 -- ---- reached worlds
 
@@ -69,7 +69,7 @@ pub record IsRegular (rules : Rules) (p : ℕ) (w : World) : Type 0 where
 pub reached_regular : (rules : Rules) (room p : ℕ) (w : World) → IsPlayer rules p → IsReached rules room w → IsRegular rules p w
 reached_regular rules room p w plays reached =
     let moved = moved_chain rules room p Grows (start rules) w reached.events reached.answers (all_grow rules room p) (nodes_at_start rules)
-        plays reached.chain in
+    plays reached.chain in
     record {
       nodes = moved.nodes ∙ nodes_at_start rules;
       settled = moved.moved.settled (subst (λ (s : State). IsSettled s) (sym (peer_at_start rules p)) never_settled);
@@ -134,7 +134,7 @@ unfolding adopt
 adopt_reached rules room w finds zero reached within = reached
 adopt_reached rules room w finds (suc n) reached within =
     settled_reached rules room (adopt w finds n) (suc n) (finds (suc n)) (record { from_one = omega arith; in_game = within })
-        (adopt_reached rules room w finds n reached (omega (arith, within)))
+    (adopt_reached rules room w finds n reached (omega (arith, within)))
 
 adopt_nodes : (rules : Rules) (w : World) (finds : ℕ → Bool) (n : ℕ) → length w.peers ≡ rules.players → length (adopt w finds n).peers ≡ rules.players
 unfolding adopt
@@ -147,7 +147,7 @@ adopt_past rules w finds zero q past plays = refl
 adopt_past rules w finds (suc n) q past plays =
     let within = plays.in_game in
     settled_there rules (adopt w finds n) (suc n) q (finds (suc n))
-        (record { from_one = omega arith; in_game = omega (arith, within, past) }) plays (λ e. omega (arith, e, past))
+    (record { from_one = omega arith; in_game = omega (arith, within, past) }) plays (λ e. omega (arith, e, past))
     ∙ adopt_past rules w finds n q (omega (arith, past)) plays
 
 pub adopt_is : (rules : Rules) (w : World) (finds : ℕ → Bool) (n q : ℕ) → length w.peers ≡ rules.players → n ≤ rules.players → q ≤ n
@@ -161,7 +161,7 @@ adopt_is rules w finds (suc n) q nodes within few plays =
           let old : peer_of (adopt w finds n) (suc n) ≡ peer_of w (suc n) = adopt_past rules w finds n (suc n) (omega arith) here in
           subst (λ (x : ℕ). journal_of (adopt w finds (suc n)) x ≡ found (peer_of w x) (finds x)) (sym same)
           (ap (λ (s : State). s.journal) (settled_here rules (adopt w finds n) (suc n) (finds (suc n)) here
-              (adopt_nodes rules w finds n nodes)) ∙ ap (λ (s : State). found s (finds (suc n))) old)
+          (adopt_nodes rules w finds n nodes)) ∙ ap (λ (s : State). found s (finds (suc n))) old)
       | inr apart ↦
           ap (λ (s : State). s.journal) (settled_there rules (adopt w finds n) (suc n) q (finds (suc n)) here plays apart)
           ∙ adopt_is rules w finds n q nodes (omega (arith, within)) (omega (arith, few, apart)) plays
@@ -213,7 +213,7 @@ by_pending : (rules : Rules) (p : ℕ) (between : World) (r : Readings) (before 
 by_pending rules p between r before x first continues waits =
     let read : found (peer_of between p) true ≡ r.first =
     ap (λ (o : Option Record). (peer_of between p).journal ++ option_to_list o) waits.pending
-        ∙ ap (λ (j : List Record). j ++ x ∷ []) waits.journal ∙ sym first in (
+    ∙ ap (λ (j : List Record). j ++ x ∷ []) waits.journal ∙ sym first in (
       true,
       record {
         before = r.first;
@@ -230,12 +230,12 @@ by_opening : (rules : Rules) (p : ℕ) (between : World) (r : Readings) (before 
     → Backed rules p between r
 by_opening rules p between r before x plays first continues begins ends (inl has) =
     let same : x ≡ has.record_is = same_next before r.later x has.record_is (subst (λ (j : List Record). Begins j r.later) first continues)
-        has.begins in
+    has.begins in
     let opening : IsOpeningOf p x = subst (λ (y : Record). IsOpeningOf p y) (sym same) has.opening in
     by_journal rules p between r before (ap (known_of rules p) first ∙ opening_adds_nothing rules p before x plays opening) begins ends
 by_opening rules p between r before x plays first continues begins ends (inr none) =
     absurd (never_shorter before x (subst (λ (j : List Record). Begins (before ++ x ∷ []) j) none
-        (subst (λ (j : List Record). Begins j r.later) first continues)))
+    (subst (λ (j : List Record). Begins j r.later) first continues)))
 
 by_fate : (rules : Rules) (room p : ℕ) (between : World) (r : Readings) (before : List Record) (x : Record)
     (was : WasReadTwice rules room between p r) → IsPlayer rules p → length between.peers ≡ rules.players
@@ -247,7 +247,7 @@ by_fate rules room p between r before x was plays nodes first begins ends (inl (
     by_journal rules p between r (before ++ x ∷ []) (ap (known_of rules p) first) stands ends
 by_fate rules room p between r before x was plays nodes first begins ends (inr lacks) =
     let fares = moved_chain rules room p (Fares p before x) between was.later_at was.more_events was.more_answers
-        (all_fare rules room p before x) nodes plays was.after in
+    (all_fare rules room p before x) nodes plays was.after in
     let read = lacks_read p before (peer_of was.later_at p) was.later_finds (fares.moved.lost lacks) in
     by_opening rules p between r before x plays first was.continues begins ends
     (subst (λ (j : List Record). HasOpening p before j ⊎ (j ≡ before)) (sym was.later_is) read)
@@ -262,10 +262,13 @@ by_reading rules room p between r was s true None plays nodes pending first sett
     let same : r.first ≡ s.journal = first ∙ ap (λ (x : Option Record). s.journal ++ option_to_list x) pending ∙ append-nil s.journal in
     by_journal rules p between r s.journal (ap (known_of rules p) same) begins ends
 by_reading rules room p between r was s true (Some x) plays nodes pending first settled begins ends fares =
-    let waits : Waits s.journal x s = record { journal = refl; pending = pending;
-        mode = λ up. let both : None ≡ Some x = sym (settled up) ∙ pending in cc } in
+    let waits : Waits s.journal x s = record {
+      journal = refl;
+      pending = pending;
+      mode = λ up. let both : None ≡ Some x = sym (settled up) ∙ pending in cc;
+    } in
     by_fate rules room p between r s.journal x was plays nodes (first ∙ ap (λ (y : Option Record). s.journal ++ option_to_list y) pending)
-        begins ends (fares x waits)
+    begins ends (fares x waits)
 
 pub backed : (rules : Rules) (room p : ℕ) (between : World) (r : Readings) → IsPlayer rules p → WasReadTwice rules room between p r
     → Backed rules p between r
@@ -274,12 +277,12 @@ backed rules room p between r plays was =
     let regular = reached_regular rules room p was.first_at plays was.first_reached in
     let early = moved_chain rules room p Grows was.first_at between was.events was.answers (all_grow rules room p) regular.nodes plays was.before in
     let late = moved_chain rules room p Grows between was.later_at was.more_events was.more_answers (all_grow rules room p)
-        (early.nodes ∙ regular.nodes) plays was.after in
+    (early.nodes ∙ regular.nodes) plays was.after in
     let ends : Begins (journal_of between p) r.later =
     subst (λ (j : List Record). Begins (journal_of between p) j) (sym was.later_is)
     (begins_more (journal_of between p) (journal_of was.later_at p) (found (peer_of was.later_at p) was.later_finds) late.moved.grown
-        (found_grows (peer_of was.later_at p) was.later_finds)) in
+    (found_grows (peer_of was.later_at p) was.later_finds)) in
     by_reading rules room p between r was s was.finds s.pending plays (early.nodes ∙ regular.nodes) refl was.first_is regular.settled
-        early.moved.grown ends
+    early.moved.grown ends
     (λ x waits. (moved_chain rules room p (Fares p s.journal x) was.first_at between was.events was.answers
-        (all_fare rules room p s.journal x) regular.nodes plays was.before).moved.kept (inl waits))
+    (all_fare rules room p s.journal x) regular.nodes plays was.before).moved.kept (inl waits))

@@ -86,7 +86,7 @@ pub marks_then : (rules : Rules) (k : KnownValue) (frames : ℕ) (bytes : List �
 unfolding marks_in
 marks_then rules k frames bytes end same frame within i below at =
     let each = map_unshift _ (λ m. mark_after rules k (mark_step * m)) 0 (forgotten_after frames) (marks_after frames)
-        (same ∙ up_to_is rules k frames) i below in
+    (same ∙ up_to_is rules k frames) i below in
     let here : 0 + i ≡ i = omega arith in
     let mark = ap (λ (m : FrameMark). m.mark) (rw here at each) in
     mark ∙ ap (λ (n : ℕ). mark_of (serial rules (rows_below k n))) at

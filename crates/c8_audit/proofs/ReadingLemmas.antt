@@ -54,7 +54,7 @@ same_owner first later p q id other room there begins one two =
     let at = begins_get first later 0 one.0 begins one.2 in
     let same : two.0 ≡ one.0 = some_same two.0 one.0 (sym two.2 ∙ at) in
     sym (ap player_of (reads_back two.0 (Head q two.1 other there) two.3)) ∙ ap (λ (b : List ℕ). player_of (record_of b)) same
-        ∙ ap player_of (reads_back one.0 (Head p one.1 id room) one.3)
+    ∙ ap player_of (reads_back one.0 (Head p one.1 id room) one.3)
 
 -- ---- two readings
 
@@ -79,7 +79,7 @@ read_is rules first later room one (Some two) checks is (again, begins) known of
     let in_game = me.in_game in
     let players = of.players in
     let mine : again.me ≡ one.me = same_owner (kept first) (kept later) one.me again.me (id_of rules) (id_of rules) room again.room begins
-        is.head again.head in
+    is.head again.head in
     record {
       from_one = me.from_one;
       in_game = omega (arith, in_game, players);
@@ -94,13 +94,13 @@ pub seen_is : (rules : Rules) (first later : List ℕ) (room : ℕ) (one : Known
     → (let s : Seen = record { first = one; later = later_of one two; last = checks.last } in s) ≡ seen_of rules one.me (readings_of first later)
 seen_is rules first later room one None checks is same =
     let late : one ≡ known_of rules one.me (records_of (kept later)) =
-        is.known_is ∙ ap (λ (bytes : List ℕ). known_of rules one.me (records_of (kept bytes))) same in
+    is.known_is ∙ ap (λ (bytes : List ℕ). known_of rules one.me (records_of (kept bytes))) same in
     λ i. record { first = is.known_is i; later = late i; last = (is.checks_is i).last }
 seen_is rules first later room one (Some two) checks is (again, begins) =
     let mine : again.me ≡ one.me = same_owner (kept first) (kept later) one.me again.me (id_of rules) (id_of rules) room again.room begins
-        is.head again.head in
+    is.head again.head in
     let late : two ≡ known_of rules one.me (records_of (kept later)) =
-        again.known_is ∙ ap (λ (p : ℕ). known_of rules p (records_of (kept later))) mine in
+    again.known_is ∙ ap (λ (p : ℕ). known_of rules p (records_of (kept later))) mine in
     λ i. record { first = is.known_is i; later = late i; last = (is.checks_is i).last }
 
 -- a second reading that is refused, in the room of the first

@@ -1,6 +1,6 @@
 -- Which files name which players and rooms.
-use Rattle.std.proofs.Common.{◌≡◌, ℕ, ◌+◌, ◌<◌, ◌≤◌, ◌⊎◌, inl, inr, ⊎_elim, List, length, Bool, true, false, Option, Some, None, refl, sym,
-  ap, subst, ◌∙◌, arith, if◌then◌else◌, eq-eqb}
+use Rattle.std.proofs.Common.{◌≡◌, ℕ, ◌+◌, ◌<◌, ◌≤◌, ◌⊎◌, inl, inr, ⊎_elim, List, length, Bool, true, false, Option, Some, None, refl, sym}
+use Rattle.std.proofs.Common.{ap, subst, ◌∙◌, arith, if◌then◌else◌, eq-eqb}
 use Rattle.std.specs.Prelude.{◌==◌, unwrap_or, is_some}
 use Rattle.std.specs.List.{slice_get}
 use Rattle.std.proofs.lemmas.Bool.{eqb-true}
@@ -33,10 +33,10 @@ pub names_same : (rules : Rules) (files : List Twice) (a b : Named) → Names ru
 names_same rules files a b x y at =
     let file : x.file ≡ y.file = some_same x.file y.file (sym x.file_is ∙ ap (slice_get files) at ∙ y.file_is) in
     let body : x.head.0 ≡ y.head.0 = some_same x.head.0 y.head.0
-        (sym x.head.2 ∙ ap (λ (f : Twice). slice_get (kept (first_bytes f)) 0) file ∙ y.head.2) in
+    (sym x.head.2 ∙ ap (λ (f : Twice). slice_get (kept (first_bytes f)) 0) file ∙ y.head.2) in
     head_same a.player.number b.player.number x.head.1 y.head.1 (id_of rules) a.room b.room
     (sym (reads_back x.head.0 (Head a.player.number x.head.1 (id_of rules) a.room) x.head.3) ∙ ap record_of body
-        ∙ reads_back y.head.0 (Head b.player.number y.head.1 (id_of rules) b.room) y.head.3)
+    ∙ reads_back y.head.0 (Head b.player.number y.head.1 (id_of rules) b.room) y.head.3)
 
 -- a file without a record names nobody
 pub names_nothing : (rules : Rules) (files : List Twice) (file : Twice) (n : Named) → slice_get files n.place ≡ Some file
@@ -73,7 +73,7 @@ clash_is rules files n (Some a) None why one other names is =
       | inl yes_it ↦ absurd (let wrong : None ≡ Some why = ap (λ (b : Bool). if b then None else Some (TwoRooms a n)) (sym yes_it.0) ∙ is in cc)
       | inr no_it ↦
           let same : TwoRooms a n ≡ why = some_same (TwoRooms a n) why
-              (ap (λ (b : Bool). if b then None else Some (TwoRooms a n)) (sym no_it.0) ∙ is) in
+          (ap (λ (b : Bool). if b then None else Some (TwoRooms a n)) (sym no_it.0) ∙ is) in
           let it = one a refl in
           subst (IsMismatch rules files) same (it.0, names, it.1, no_it.1)
     ]
@@ -81,12 +81,12 @@ clash_is rules files n (Some a) (Some b) why one other names is =
     elim (eqb_tells a.room n.room) [
       | inl yes_it ↦
           let same : SamePlayer b n ≡ why = some_same (SamePlayer b n) why
-              (ap (λ (t : Bool). if t then Some (SamePlayer b n) else Some (TwoRooms a n)) (sym yes_it.0) ∙ is) in
+          (ap (λ (t : Bool). if t then Some (SamePlayer b n) else Some (TwoRooms a n)) (sym yes_it.0) ∙ is) in
           let it = other b refl in
           subst (IsMismatch rules files) same (it.0, names, it.1, it.2)
       | inr no_it ↦
           let same : TwoRooms a n ≡ why = some_same (TwoRooms a n) why
-              (ap (λ (t : Bool). if t then Some (SamePlayer b n) else Some (TwoRooms a n)) (sym no_it.0) ∙ is) in
+          (ap (λ (t : Bool). if t then Some (SamePlayer b n) else Some (TwoRooms a n)) (sym no_it.0) ∙ is) in
           let it = one a refl in
           subst (IsMismatch rules files) same (it.0, names, it.1, no_it.1)
     ]
@@ -102,15 +102,15 @@ no_clash (Some f) None n is = (
       elim (eqb_tells f.room n.room) [
         | inl yes_it ↦ ap (λ (m : Named). m.room) (sym same) ∙ yes_it.1
         | inr no_it ↦ absurd (let wrong : Some (TwoRooms f n) ≡ None =
-        ap (λ (t : Bool). if t then None else Some (TwoRooms f n)) (sym no_it.0) ∙ is in cc)
+            ap (λ (t : Bool). if t then None else Some (TwoRooms f n)) (sym no_it.0) ∙ is in cc)
       ],
 )
 no_clash (Some f) (Some b) n is =
     elim (eqb_tells f.room n.room) [
       | inl yes_it ↦ absurd (let wrong : Some (SamePlayer b n) ≡ None =
-      ap (λ (t : Bool). if t then Some (SamePlayer b n) else Some (TwoRooms f n)) (sym yes_it.0) ∙ is in cc)
+          ap (λ (t : Bool). if t then Some (SamePlayer b n) else Some (TwoRooms f n)) (sym yes_it.0) ∙ is in cc)
       | inr no_it ↦ absurd (let wrong : Some (TwoRooms f n) ≡ None =
-      ap (λ (t : Bool). if t then Some (SamePlayer b n) else Some (TwoRooms f n)) (sym no_it.0) ∙ is in cc)
+          ap (λ (t : Bool). if t then Some (SamePlayer b n) else Some (TwoRooms f n)) (sym no_it.0) ∙ is in cc)
     ]
 
 earlier_some : (found next : Option Mismatch) (why : Mismatch) → earlier_mismatch found next ≡ Some why → (found ≡ Some why) ⊎ (next ≡ Some why)
@@ -135,7 +135,7 @@ module _ (rules : Rules) (files : List Twice) where
       → IsRoster rules files (end + 1) journals first mismatch
   roster_skip end journals first mismatch is none =
       let below = λ (n : Named) (within : n.place < end + 1) (names : Names rules files n). let it : n.place < end =
-          earlier_place n.place end within (λ at. none n at names) in it in
+      earlier_place n.place end within (λ at. none n at names) in it in
       record {
         nobody = λ empty n within names. is.nobody empty n (below n within names) names;
         somebody = λ a some. let it = is.somebody a some in (it.0, omega (arith, it.1));
@@ -161,7 +161,7 @@ module _ (rules : Rules) (files : List Twice) where
     next_seats p a from at = ⊎_elim
         (λ old. let it = is.seats p a from old in (it.0, omega (arith, it.1), it.2))
         (λ new. subst (λ (m : Named). Names rules files m × (m.place < n.place + 1) × (m.player.number ≡ p)) new.2
-            (names, omega arith, eqb-true n.player.number p new.1))
+        (names, omega arith, eqb-true n.player.number p new.1))
         (named_or_cases (all_named before p) (n.player.number == p) n a (sym (put p from) ∙ at))
 
     next_clash : (why : Mismatch) → earlier_mismatch mismatch (clash_of first (all_named before n.player.number) n) ≡ Some why
@@ -169,7 +169,7 @@ module _ (rules : Rules) (files : List Twice) where
     next_clash why at = ⊎_elim
         (is.clash why)
         (λ new. clash_is rules files n first (all_named before n.player.number) why is.somebody
-            (λ b some. is.seats n.player.number b n.player.from_one some) names new)
+        (λ b some. is.seats n.player.number b n.player.from_one some) names new)
         (earlier_some mismatch (clash_of first (all_named before n.player.number) n) why at)
 
     next_rooms : earlier_mismatch mismatch (clash_of first (all_named before n.player.number) n) ≡ None → (a m : Named)
@@ -198,13 +198,19 @@ module _ (rules : Rules) (files : List Twice) where
         (λ at.
         let number = (names_same rules files m n has names at).0 in
         let empty : all_named before m.player.number ≡ None = ap (all_named before) number ∙ clear.0 in
-        let test : (n.player.number == m.player.number) ≡ true = eq-eqb n.player.number m.player.number (sym number) in
-        (n, put m.player.number m.player.from_one ∙ ap (λ (o : Option Named). named_or o (n.player.number == m.player.number) n) empty
-            ∙ ap (λ (b : Bool). named_or None b n) test, sym at))
+        let test : (n.player.number == m.player.number) ≡ true = eq-eqb n.player.number m.player.number (sym number) in (
+          n,
+          put m.player.number m.player.from_one ∙ ap (λ (o : Option Named). named_or o (n.player.number == m.player.number) n) empty
+              ∙ ap (λ (b : Bool). named_or None b n) test,
+          sym at,
+        ))
         (λ below.
-        let it = is.players free.0 m below has in
-        (it.0, put m.player.number m.player.from_one
-            ∙ named_stays (all_named before m.player.number) (n.player.number == m.player.number) n it.0 it.1, it.2))
+        let it = is.players free.0 m below has in (
+          it.0,
+          put m.player.number m.player.from_one
+              ∙ named_stays (all_named before m.player.number) (n.player.number == m.player.number) n it.0 it.1,
+          it.2,
+        ))
         (at_or_below m.place n.place within)
 
     -- a file that names a player and a room

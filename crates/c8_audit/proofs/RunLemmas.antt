@@ -28,5 +28,5 @@ have_more rules k frames marks frame machine run before here at below =
       | inr more ↦
           let same : frame ≡ at = omega (arith, below, more) in
           subst (λ (n : ℕ). HasMark frames marks n (mark_of (serial rules (rows_below k n)))) same
-              (subst (λ (s : State). HasMark frames marks frame (mark_of s)) run here)
+          (subst (λ (s : State). HasMark frames marks frame (mark_of s)) run here)
     ]

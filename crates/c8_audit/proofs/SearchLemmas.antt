@@ -44,7 +44,7 @@ least_of_both question all one n least found false test before now =
       subst (λ (x : ℕ). IsFault question all found.frame one x) (sym at) now.2,
       λ frame other below fault. ⊎_elim
           (λ less. inl (⊎_elim (λ earlier. omega (arith, earlier, order)) (λ same. let frames = same.0 in omega (arith, frames, order))
-              (before.3 frame other less fault)))
+          (before.3 frame other less fault)))
           (λ here.
           let after = now.3 frame (subst (λ (x : ℕ). IsFault question all frame one x) here fault) in
           ⊎_elim (λ less. inl less) (λ same. inr (same, omega (arith, at, here))) (up_to found.frame frame after))
@@ -56,7 +56,7 @@ pub least_of_next : (question : Question) (all : AllSeen) (one n : ℕ) (least f
     → IsLeastOf question all one (n + 1) (earlier_of least found)
 least_of_next question all one n None None before now =
     λ frame other below fault. ⊎_elim (λ less. before frame other less fault)
-        (λ here. now frame (subst (λ (x : ℕ). IsFault question all frame one x) here fault)) (below_next other n below)
+    (λ here. now frame (subst (λ (x : ℕ). IsFault question all frame one x) here fault)) (below_next other n below)
 least_of_next question all one n None (Some found) before now =
     let at = now.1 in (
       now.0,
@@ -142,7 +142,7 @@ below_both question all n least found true five test before now =
           (λ less. before.2 frame one other less fault)
           (λ here.
           let after = frames_up_to found.frame found.one.number found.other.number frame one other
-              (own_up_to question all n found five now frame one other here fault) in
+          (own_up_to question all n found five now frame one other here fault) in
           up_to_next least.frame least.one.number least.other.number frame one other (omega (arith, order, after)) (omega (arith, inside, here)))
           (below_next one n below),
     )
@@ -153,7 +153,7 @@ below_both question all n least found false five test before now =
       found_is question all n found now,
       λ frame one other below fault. ⊎_elim
           (λ less. inl (let after = frames_up_to least.frame least.one.number least.other.number frame one other
-              (before.2 frame one other less fault) in omega (arith, order, after)))
+          (before.2 frame one other less fault) in omega (arith, order, after)))
           (λ here. own_up_to question all n found five now frame one other here fault)
           (below_next one n below),
     )

@@ -1,6 +1,6 @@
 -- What is gathered, file by file.
-use Rattle.std.proofs.Common.{◌≡◌, ◌≢◌, ℕ, zero, suc, ◌+◌, ◌-◌, ◌^◌, ◌<◌, ◌≤◌, inl, inr, ⊎_elim, List, [], ◌∷◌, length, length-take, map,
-  take, true, false, Option, Some, None, refl, sym, ap, subst, ◌∙◌, arith, eq-eqb}
+use Rattle.std.proofs.Common.{◌≡◌, ◌≢◌, ℕ, zero, suc, ◌+◌, ◌-◌, ◌^◌, ◌<◌, ◌≤◌, inl, inr, ⊎_elim, List, [], ◌∷◌, length, length-take, map}
+use Rattle.std.proofs.Common.{take, true, false, Option, Some, None, refl, sym, ap, subst, ◌∙◌, arith, eq-eqb}
 use Rattle.std.specs.Prelude.{◌==◌, option_map, unwrap_or}
 use Rattle.std.specs.List.{slice_get, count_by}
 use Rattle.std.proofs.lemmas.Bool.Decides.{eqb_tells}
@@ -57,7 +57,7 @@ evidence_next : (rules : Rules) (files : List Twice) (place : ℕ) (file : Twice
     → IsGathered rules (evidence_in (take (place + 1) (map first_bytes files)) (take (place + 1) (map later_bytes files))) journals
 evidence_next rules files place file journals at is =
     gathered_next rules (map first_bytes files) (map later_bytes files) place (first_bytes file) (later_bytes file) journals
-        (file_at first_bytes files place file at) (file_at later_bytes files place file at)
+    (file_at first_bytes files place file at) (file_at later_bytes files place file at)
     (length-map files first_bytes ∙ sym (length-map files later_bytes)) is
 
 -- a file without a record
@@ -89,18 +89,22 @@ pub sorted_next : (rules : Rules) (files : List Twice) (place : ℕ) (file : Twi
     → j.named.player.number ≡ j.first.me
     → IsPut g.journals after j → IsSorted rules files place g
     → IsSorted rules files (place + 1)
-    (record { journals = after; empty = g.empty; first = Some (unwrap_or g.first j.named);
-        mismatch = earlier_mismatch g.mismatch (clash_of g.first (all_named g.journals j.named.player.number) j.named) })
+    (record {
+      journals = after;
+      empty = g.empty;
+      first = Some (unwrap_or g.first j.named);
+      mismatch = earlier_mismatch g.mismatch (clash_of g.first (all_named g.journals j.named.player.number) j.named);
+    })
 sorted_next rules files place file g after j at some read same names head here mine put is =
     let keeps_it : keeps_nothing file ≡ false =
-        ⊎_elim (λ yes_it. absurd (some yes_it.1)) (λ no_it. no_it.0) (eqb_tells (length (kept (first_bytes file))) 0) in
+    ⊎_elim (λ yes_it. absurd (some yes_it.1)) (λ no_it. no_it.0) (eqb_tells (length (kept (first_bytes file))) 0) in
     let named : Names rules files j.named = record { file = file; file_is = ap (slice_get files) here ∙ at; head = head } in
     let before : IsRoster rules files j.named.place g.journals g.first g.mismatch =
-        subst (λ (n : ℕ). IsRoster rules files n g.journals g.first g.mismatch) (sym here) is.roster in
+    subst (λ (n : ℕ). IsRoster rules files n g.journals g.first g.mismatch) (sym here) is.roster in
     record {
       gathered = evidence_next rules files place file after at
           (one_in rules (evidence_in (take place (map first_bytes files)) (take place (map later_bytes files))) (first_bytes file)
-              (later_bytes file) g.journals after j j.named.room is.gathered read same names put.seen);
+          (later_bytes file) g.journals after j j.named.room is.gathered read same names put.seen);
       sound = sound_next rules files place file is.sound at (inr (j.named.room, j.first.me, read));
       empty = is.empty ∙ sym (count_no files place file at keeps_it);
       roster = subst (λ (n : ℕ). IsRoster rules files (n + 1) after (Some (unwrap_or g.first j.named))
@@ -145,7 +149,7 @@ module _ (rules : Rules) (files : List Twice) (g : Gathered) (is : IsSorted rule
       let here = seen_at_seat (slice_get g.journals 0) one at in
       gathered_all rules (evidence_in firsts laters) g.journals four
       (subst (λ (xs : List (List ℕ)). IsGathered rules (evidence_in xs laters) g.journals) all
-          (subst (λ (ys : List (List ℕ)). IsGathered rules (evidence_in (take (length files) firsts) ys) g.journals) others is.gathered))
+      (subst (λ (ys : List (List ℕ)). IsGathered rules (evidence_in (take (length files) firsts) ys) g.journals) others is.gathered))
       (seen here.0) here.1
 
   pub all_one_match : g.mismatch ≡ None → (one : Named) → all_named g.journals 1 ≡ Some one → AreOneMatch rules files

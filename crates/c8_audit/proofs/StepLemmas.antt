@@ -1,6 +1,6 @@
 -- What each step of one peer keeps, a list of events keeps.
-use Rattle.std.proofs.Common.{◌≡◌, ◌≢◌, ℕ, ◌-◌, inl, inr, List, [], ◌∷◌, ◌++◌, length, Bool, true, false, cond, Option, Some, None, Ok,
-  refl, sym, subst, ◌∙◌, arith, slice_set, slice_index_or}
+use Rattle.std.proofs.Common.{◌≡◌, ◌≢◌, ℕ, ◌-◌, inl, inr, List, [], ◌∷◌, ◌++◌, length, Bool, true, false, cond, Option, Some, None, Ok}
+use Rattle.std.proofs.Common.{refl, sym, subst, ◌∙◌, arith, slice_set, slice_index_or}
 use Rattle.std.specs.Prelude.{nat_le}
 use Rattle.std.specs.List.{slice_get}
 use Rattle.std.proofs.lemmas.Bool.{cases_eq, leb-true, and_parts}
@@ -11,9 +11,9 @@ use Rattle.c8_peer.specs.State as states
 use Rattle.c8_peer.specs.State.{Mode, Down, Away, State, Call}
 use Rattle.c8_peer.specs.Steps.{DiskOutcome, step}
 use Rattle.c8_peer.specs.Opening.{Opening, found, away, opened}
-use Rattle.c8_world.specs.World.{World, never_opened, is_player, peer_of, Act, Open, Tick, Say, Give, Leave, Decide, Check, Show, Hear,
-  Seen, Fresh, Event, Do, Stop, player_of, Happening, Answer, After, call_at_mode, call_at, open_at_mode, give_to, hear_at, acted, crashed,
-  after, Chain}
+use Rattle.c8_world.specs.World.{World, never_opened, is_player, peer_of, Act, Open, Tick, Say, Give, Leave, Decide, Check, Show, Hear}
+use Rattle.c8_world.specs.World.{Seen, Fresh, Event, Do, Stop, player_of, Happening, Answer, After, call_at_mode, call_at, open_at_mode}
+use Rattle.c8_world.specs.World.{give_to, hear_at, acted, crashed, after, Chain}
 use Rattle.c8_world.specs.Agreement.{IsPlayer}
 
 -- A relation between an earlier and a later state of player p's peer that holds for each step of it.
@@ -54,11 +54,11 @@ moved_one rules room p R w q s new holds nodes plays moves own =
       moved = elim (cases_eq q p) [
         | inl same ↦
             let now : slice_index_or (slice_set w.peers (q - 1) s) (q - 1) never_opened ≡ s =
-                get_or-set_same w.peers (q - 1) s never_opened (omega (arith, from, to, nodes)) in
+            get_or-set_same w.peers (q - 1) s never_opened (omega (arith, from, to, nodes)) in
             subst (λ (x : ℕ). R (peer_of w x) (peer_of (placed w q s new) x)) same (subst (λ (t : State). R (peer_of w q) t) (sym now) (moves same))
         | inr apart ↦
             let there : slice_index_or (slice_set w.peers (q - 1) s) (p - 1) never_opened ≡ peer_of w p =
-                get_or-set_other w.peers (q - 1) (p - 1) s never_opened (λ e. apart (omega (arith, e, from, first))) in
+            get_or-set_other w.peers (q - 1) (p - 1) s never_opened (λ e. apart (omega (arith, e, from, first))) in
             subst (λ (t : State). R (peer_of w p) t) (sym there) (holds.same (peer_of w p))
       ];
     }
@@ -144,7 +144,7 @@ moved_crash : (rules : Rules) (room p : ℕ) (R : State → State → Type 0) (w
 moved_crash rules room p R w q leaves holds nodes own =
     world_if (HasMoved p R w) (is_player rules q) _ _
     (λ is. let moved = moved_one rules room p R w q (away (peer_of w q) (found (peer_of w q) leaves) None) [] holds nodes
-        (plays_if rules q is) (λ same. holds.crashes (peer_of w q) leaves) own in
+    (plays_if rules q is) (λ same. holds.crashes (peer_of w q) leaves) own in
     record { nodes = moved.nodes; moved = moved.moved })
     (moved_same rules room p R w holds)
 
@@ -155,7 +155,7 @@ moved_after rules room p R w (Stop act calls pick) h holds nodes own =
     let u : World = (acted rules room w act h).world in
     let one = moved_act rules room p R w act h holds nodes own in
     moved_more rules room p R w u (crashed rules u (player_of act) h.leaves) holds one
-        (moved_crash rules room p R u (player_of act) h.leaves holds (one.nodes ∙ nodes) own)
+    (moved_crash rules room p R u (player_of act) h.leaves holds (one.nodes ∙ nodes) own)
 
 -- ---- any list of events
 
@@ -168,5 +168,5 @@ moved_chain rules room p R w v (event ∷ events) [] holds nodes own chain = abs
 moved_chain rules room p R w v (event ∷ events) (answer ∷ answers) holds nodes own chain =
     let u : World = chain.0 in
     let one : HasMoved p R w u = subst (λ (a : After). HasMoved p R w a.world) chain.1.is
-        (moved_after rules room p R w event chain.1.happening holds nodes own) in
+    (moved_after rules room p R w event chain.1.happening holds nodes own) in
     moved_more rules room p R w u v holds one (moved_chain rules room p R u v events answers holds (one.nodes ∙ nodes) own chain.2)

@@ -33,13 +33,15 @@ module _ (all other : AllSeen) (same : AreSame all other) where
   one_same = same.each 1 (omega arith)
 
   stays_same : (p : ℕ) (s : Seen) → Stays other p s → Stays all p s
-  stays_same p s stays = record { given = given_same p s stays.given;
-      undropped = ap (λ (o : Option Seen). dropped_by o p) one_same ∙ stays.undropped }
+  stays_same p s stays = record {
+    given = given_same p s stays.given;
+    undropped = ap (λ (o : Option Seen). dropped_by o p) one_same ∙ stays.undropped;
+  }
 
   pub entered_same : AreEntered all → AreEntered other
   entered_same is p q frame by own by_given own_given below =
       subst (λ (o : Option Seen). IsEntered (cut_by o q) own.later q frame (input_of (player_in by.first q) frame)) one_same
-          (is p q frame by own (given_same p by by_given) (given_same q own own_given) below)
+      (is p q frame by own (given_same p by by_given) (given_same q own own_given) below)
 
   pub true_same : (rules : Rules) → AreTrue rules all → AreTrue rules other
   true_same rules is p s given = is p s (given_same p s given)
@@ -54,14 +56,14 @@ one_story rules files journals verdicts gathered judged three w v of =
     let e = evidence_of files in
     let same : AreSame (all_seen journals) (seen_in rules e) = record { each = gathered.gathered.seen_is } in
     let entered : AreEntered (seen_in rules e) =
-        entered_same (all_seen journals) (seen_in rules e) same
-        (yes_of (AreEntered (all_seen journals)) _ verdicts.unentered judged.entered three.entered) in
+    entered_same (all_seen journals) (seen_in rules e) same
+    (yes_of (AreEntered (all_seen journals)) _ verdicts.unentered judged.entered three.entered) in
     let checks : AreTrue rules (seen_in rules e) =
-        true_same (all_seen journals) (seen_in rules e) same rules
-        (yes_of (AreTrue rules (all_seen journals)) _ verdicts.untrue judged.checks three.checks) in
+    true_same (all_seen journals) (seen_in rules e) same rules
+    (yes_of (AreTrue rules (all_seen journals)) _ verdicts.untrue judged.checks three.checks) in
     let agreed : AreAgreed rules (seen_in rules e) =
-        agreed_same (all_seen journals) (seen_in rules e) same rules
-        (yes_of (AreAgreed rules (all_seen journals)) _ verdicts.difference judged.agree three.agree) in
+    agreed_same (all_seen journals) (seen_in rules e) same rules
+    (yes_of (AreAgreed rules (all_seen journals)) _ verdicts.difference judged.agree three.agree) in
     record {
       entered = yes_entered rules e w v of entered;
       checks = yes_true rules e w v of checks;

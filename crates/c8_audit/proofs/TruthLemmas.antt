@@ -26,7 +26,7 @@ true_at_end rules all of_game holds p s given from last =
     let four = of_game.at_most_four in
     let within = of_game.players p s given in
     let here : IsTrueAt rules (Some s) = subst (λ (o : Option Seen). IsTrueAt rules o) given.is
-        (holds p given.from_one (omega (arith, four, within))) in
+    (holds p given.from_one (omega (arith, four, within))) in
     here from last
 
 -- a checkpoint that is not true is no fault of a player before, if those before are true

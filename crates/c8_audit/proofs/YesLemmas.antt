@@ -35,7 +35,7 @@ later_dropped : (rules : Rules) (e : Evidence) (w v : World) (q : ℕ) → AreOf
     → is_dropped (seen_in rules e) q ≡ has_leave q (journal_of v 1)
 later_dropped rules e w v q of plays =
     dropped_is rules e of.one q of.one_given ∙ ap (λ (j : List Record). (player_in (known_of rules 1 j) q).leaving)
-        (of.later_are 1 of.one of.one_given)
+    (of.later_are 1 of.one of.one_given)
     ∙ ap (λ (x : PlayerValue). x.leaving) (player_known rules 1 q (journal_of v 1) plays.from_one plays.in_game)
 
 later_held : (rules : Rules) (e : Evidence) (w v : World) (q : ℕ) (r : Readings) → AreOfWorlds rules e w v → e q ≡ Some r
@@ -43,7 +43,7 @@ later_held : (rules : Rules) (e : Evidence) (w v : World) (q : ℕ) (r : Reading
 later_held rules e w v q r of is =
     let plays = of.players q r is in
     ap (λ (j : List Record). (player_in (known_of rules q j) q).held) (of.later_are q r is)
-        ∙ ap (λ (x : PlayerValue). x.held) (player_known rules q q (journal_of v q) plays.from_one plays.in_game)
+    ∙ ap (λ (x : PlayerValue). x.held) (player_known rules q q (journal_of v q) plays.from_one plays.in_game)
 
 entered_there : (rules : Rules) (v : World) (q frame : ℕ) (cut : Option ℕ) (own : KnownValue) (input : Option ℕ)
     → cut ≡ cut_of q (journal_of v 1) → (player_in own q).held ≡ held rules q (journal_of v q)
@@ -66,7 +66,7 @@ yes_entered rules e w v of verdict p q frame by own by_is own_is below =
     (subst (λ (k : KnownValue). frame < confirmed k) (sym first) below) in
     subst (λ (k : KnownValue). worlds.IsEntered rules v q frame (input_of (player_in k q) frame)) first
     (entered_there rules v q frame (cut_in (seen_in rules e) q) (known_of rules q own.later)
-        (input_of (player_in (known_of rules p by.first) q) frame)
+    (input_of (player_in (known_of rules p by.first) q) frame)
     (later_cut rules e w v q of (of.players q own own_is)) (later_held rules e w v q own of own_is) is)
 
 pub yes_true : (rules : Rules) (e : Evidence) (w v : World) → AreOfWorlds rules e w v → AreTrue rules (seen_in rules e)
@@ -77,8 +77,10 @@ yes_true rules e w v of verdict p by is =
 
 stays_in : (rules : Rules) (e : Evidence) (w v : World) (p : ℕ) (r : Readings) → AreOfWorlds rules e w v → e p ≡ Some r → IsUndropped v p
     → Stays (seen_in rules e) p (seen_of rules p r)
-stays_in rules e w v p r of is stays = record { given = given_in rules e w v p r of is;
-    undropped = later_dropped rules e w v p of (of.players p r is) ∙ stays }
+stays_in rules e w v p r of is stays = record {
+  given = given_in rules e w v p r of is;
+  undropped = later_dropped rules e w v p of (of.players p r is) ∙ stays;
+}
 
 pub yes_agreed : (rules : Rules) (e : Evidence) (w v : World) → AreOfWorlds rules e w v → AreAgreed rules (seen_in rules e)
     → (p r : ℕ) (one other : Readings) → e p ≡ Some one → e r ≡ Some other
@@ -87,10 +89,10 @@ yes_agreed rules e w v of verdict p r one other one_is other_is p_stays r_stays 
     let a = first_known rules e w v p one of one_is in
     let b = first_known rules e w v r other of other_is in
     let is = verdict p r (seen_of rules p one) (seen_of rules r other) (stays_in rules e w v p one of one_is p_stays)
-        (stays_in rules e w v r other of other_is r_stays) n
+    (stays_in rules e w v r other of other_is r_stays) n
     (subst (λ (k : KnownValue). n ≤ confirmed k) (sym a) p_counts) (subst (λ (k : KnownValue). n ≤ confirmed k) (sym b) r_counts) in
     subst (λ (k : KnownValue). AreSameUpTo rules k (known_by rules w r) n) a
-        (subst (λ (k : KnownValue). AreSameUpTo rules (known_of rules p one.first) k n) b is)
+    (subst (λ (k : KnownValue). AreSameUpTo rules (known_of rules p one.first) k n) b is)
 
 pub yes_result : (rules : Rules) (all : AllSeen) (N : ℕ) → AreAgreed rules all → IsLeastCount all N → (p r : ℕ) (a b : Seen) → Stays all p a
     → Stays all r b → rows_below a.first N ≡ rows_below b.first N

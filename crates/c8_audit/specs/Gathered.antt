@@ -41,7 +41,7 @@ pub record AreGathered (rules : Rules) (e : Evidence) (journals : List (Option J
 abbrev pub IsNotGathered : Rules → List Twice → GatherError → Type 0
 IsNotGathered rules files (File place why) =
     AreSoundBelow rules files place × (file : Twice) × (slice_get files place ≡ Some file) × (keeps_nothing file ≡ false)
-        × IsUnread rules (first_bytes file) (later_bytes file) why
+    × IsUnread rules (first_bytes file) (later_bytes file) why
 IsNotGathered rules files (Journals why) = AreSoundBelow rules files (length files) × IsMismatch rules files why
 
 -- memory ran out while a file was read

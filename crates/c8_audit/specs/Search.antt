@@ -27,7 +27,7 @@ abbrev pub IsFirstOf : Question → AllSeen → ℕ → ℕ → Option Fault →
 IsFirstOf question all one other None = (frame : ℕ) → IsFault question all frame one other → ⊥
 IsFirstOf question all one other (Some first) =
     (first.one.number ≡ one) × (first.other.number ≡ other) × IsFault question all first.frame one other
-        × ((frame : ℕ) → IsFault question all frame one other → first.frame ≤ frame)
+    × ((frame : ℕ) → IsFault question all frame one other → first.frame ≤ frame)
 
 -- the least fault of a player with other players below a number
 abbrev pub IsLeastOf : Question → AllSeen → ℕ → ℕ → Option Fault → Type 0

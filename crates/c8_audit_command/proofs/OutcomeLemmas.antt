@@ -86,7 +86,7 @@ module _ (law : (rules : Rules) (files : List Twice) (journals : List (Option Jo
       → IfOk told (TellsJudged rules (all_seen journals)) → IfOk told HasAudited
   told_judged text (Ok status) spells tells =
       let judged : AreJudged rules files tells.0 =
-          record { journals = journals; gathered = gathered; one_match = one_match; judged = tells.1; story = story_of tells.0 tells.1 } in
+      record { journals = journals; gathered = gathered; one_match = one_match; judged = tells.1; story = story_of tells.0 tells.1 } in
       (tells.0, inl (text, rules, files, spells, judged), tells.2)
   told_judged text (Err error) spells tells = tt
 

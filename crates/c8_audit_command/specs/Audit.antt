@@ -83,7 +83,7 @@ IsNoGame text fault = (error : GameError) × IsRefused text error × (fault ≡ 
 abbrev pub IsUnjudged : AuditFault → Type 0
 IsUnjudged fault =
     IsWithout fault ⊎ ((text : List ℕ) × IsNoGame text fault)
-        ⊎ ((text : List ℕ) × (rules : Rules) × (files : List Twice) × Spells text rules × AreRefused rules files fault)
+    ⊎ ((text : List ℕ) × (rules : Rules) × (files : List Twice) × Spells text rules × AreRefused rules files fault)
 
 -- a text spells a game, and readings of files are judged by it
 abbrev pub HasJudged : Result Verdicts AuditFault → Type 0
@@ -94,4 +94,4 @@ HasJudged outcome = (text : List ℕ) × (rules : Rules) × (files : List Twice)
 abbrev pub HasAudited : Status → Type 0
 HasAudited status =
     (outcome : Result Verdicts AuditFault) × (HasJudged outcome ⊎ ((fault : AuditFault) × IsUnjudged fault × (outcome ≡ Err fault)))
-        × (status ≡ status_of_outcome audit_part outcome)
+    × (status ≡ status_of_outcome audit_part outcome)

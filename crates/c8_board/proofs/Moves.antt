@@ -1,6 +1,6 @@
 -- Each step keeps the board's invariant.
-use Rattle.std.proofs.Common.{◌≡◌, ◌≢◌, ◌⊎◌, bit_or, ℕ, zero, suc, ◌+◌, List, [], ◌∷◌, ◌++◌, set, false, true≢false, refl, sym, ap, ◌∙◌,
-  subst, inl, inr, ⊎_elim, append-nil, append_assoc}
+use Rattle.std.proofs.Common.{◌≡◌, ◌≢◌, ◌⊎◌, bit_or, ℕ, zero, suc, ◌+◌, List, [], ◌∷◌, ◌++◌, set, false, true≢false, refl, sym, ap, ◌∙◌}
+use Rattle.std.proofs.Common.{subst, inl, inr, ⊎_elim, append-nil, append_assoc}
 use Rattle.std.specs.Prelude.{slice_set, slice_index}
 use mathlib.Core.Option.{some, some-injective, some-ne-none}
 use lib.ListN.{get_elem?}
@@ -56,7 +56,7 @@ fit_snoc : (game : Rules) (from : StartValue) (rows : List Row) (stop : ℕ) (vi
     → AllFit game from rows stop (views ++ w ∷ [])
 fit_snoc game from rows stop views w others mine seat v e =
     ⊎_elim (λ (x : get_elem? views seat ≡ some v). others seat v x)
-        (λ (x : w ≡ v). subst (λ (y : View). Fits game from rows stop seat y) x (mine seat)) (at_snoc views w v seat e)
+    (λ (x : w ≡ v). subst (λ (y : View). Fits game from rows stop seat y) x (mine seat)) (at_snoc views w v seat e)
 
 asked_watch : (game : Rules) (from : StartValue) (rows : List Row) (stop : ℕ) (w : Watch) → FitsWatch game from rows stop w
     → FitsWatch game from rows 1 w
@@ -151,7 +151,7 @@ module _ {S : Type 0} where
           stops = k.stops;
           fits = fit_set k.game k.from rows k.stop s.views id (Alone game from rows)
               (λ seat v apart e. others_fit k.game k.from k.rows rows k.stop seat v (subst (λ (r : List Row). Begins r rows) mine.3 later)
-                  (λ z. apart (z ∙ sym mine.0)) (k.fits seat v e))
+              (λ z. apart (z ∙ sym mine.0)) (k.fits seat v e))
               (mine.0, mine.1, mine.2, refl);
         }),
         refl,
@@ -197,8 +197,12 @@ module _ {S : Type 0} where
       let k = shown s id (Alone game from rows) holds at tt in
       let mine = k.fits id (Alone game from rows) at in
       let new : FitsWatch k.game k.from k.rows k.stop (record { game = game; from = from; seen = rows; asked = false; loads = 0 }) =
-      record { game_is = mine.1; from_is = mine.2; begins = subst (λ (r : List Row). Begins rows r) mine.3 (begins_same rows);
-          has_asked = λ e. absurd (true≢false (sym e)) } in
+      record {
+        game_is = mine.1;
+        from_is = mine.2;
+        begins = subst (λ (r : List Row). Begins rows r) mine.3 (begins_same rows);
+        has_asked = λ e. absurd (true≢false (sym e));
+      } in
       inr (record {
         game = k.game;
         from = k.from;
@@ -230,7 +234,7 @@ module _ {S : Type 0} where
         stops = k.stops;
         fits = fit_set k.game k.from k.rows k.stop (set s.views id (Joined game from rows w)) other Spent
             (λ seat v away e. fit_set k.game k.from k.rows k.stop s.views id (Joined game from rows w) (λ seat' v' _ e'. k.fits seat' v' e')
-                (mine.0, mine.1, mine.2, mine.3, theirs) seat v e)
+            (mine.0, mine.1, mine.2, mine.3, theirs) seat v e)
             tt;
       })
 
@@ -270,8 +274,12 @@ module _ {S : Type 0} where
       let k = shown s id (Joined game from rows w) holds at tt in
       let mine = k.fits id (Joined game from rows w) at in
       let new : FitsWatch k.game k.from k.rows k.stop (record { game = game; from = from; seen = rows; asked = w.asked; loads = w.loads }) =
-      record { game_is = mine.1; from_is = mine.2; begins = subst (λ (r : List Row). Begins rows r) mine.3 (begins_same rows);
-          has_asked = mine.4.has_asked } in
+      record {
+        game_is = mine.1;
+        from_is = mine.2;
+        begins = subst (λ (r : List Row). Begins rows r) mine.3 (begins_same rows);
+        has_asked = mine.4.has_asked;
+      } in
       inr (record {
         game = k.game;
         from = k.from;
@@ -281,7 +289,7 @@ module _ {S : Type 0} where
         stops = k.stops;
         fits = fit_snoc k.game k.from k.rows k.stop (set s.views id (Alone game from rows)) (viewer_of (Joined game from rows w))
             (fit_set k.game k.from k.rows k.stop s.views id (Alone game from rows) (λ seat v apart e. k.fits seat v e)
-                (mine.0, mine.1, mine.2, mine.3))
+            (mine.0, mine.1, mine.2, mine.3))
             (λ seat. new);
       })
 

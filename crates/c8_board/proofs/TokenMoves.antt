@@ -10,8 +10,8 @@ use Rattle.c8_board.specs.declared.views.View.{View}
 use Rattle.c8_board.specs.declared.views.View.TheVariants.{Blank, Alone, Joined, Watching, Spent}
 use Rattle.c8_board.specs.Starts.{StartValue, origin_from}
 use Rattle.c8_board.specs.Words.{word, LookValue, look_of}
-use Rattle.c8_board.specs.checked.Rule.{ask_view, Keeps, begin_view, publish_view, newcomer_of, join_views, pen_of, viewer_of, LooksAs,
-  Looks, Compares, TellsViewer, TellsPen}
+use Rattle.c8_board.specs.checked.Rule.{ask_view, Keeps, begin_view, publish_view, newcomer_of, join_views, pen_of, viewer_of, LooksAs}
+use Rattle.c8_board.specs.checked.Rule.{Looks, Compares, TellsViewer, TellsPen}
 use Rattle.c8_board.specs.Tokens.{Begins, PenValue, ViewerValue, SeesMore}
 use Rattle.c8_board.specs.checked.Views.{pen_value, viewer_value, IsPen, IsViewer}
 use Rattle.c8_board.proofs.WordLemmas.{word_count, word_bits}
@@ -112,7 +112,7 @@ module _ {S : Type 0} where
       → Allows {S = S} Keeps slots id me 1 (λ n. bit_or n 1) (λ _ after. after ≡ (ask_view me.0, me.1))
   asks_as slots id me v =
       subst (λ (m : Me S View). Allows {S = S} Keeps slots id m 1 (λ n. bit_or n 1) (λ _ after. after ≡ (ask_view m.0, m.1))) (sym v.1)
-          (asks slots id v.0)
+      (asks slots id v.0)
 
   pub wishes_as : (slots id : ℕ) (me : Me S View) → IsPen me → Allows {S = S} Keeps slots id me 1 (λ n. n) (λ _ after. after ≡ me)
   wishes_as slots id me p = subst (λ (m : Me S View). Allows {S = S} Keeps slots id m 1 (λ n. n) (λ _ after. after ≡ m)) (sym p.3)

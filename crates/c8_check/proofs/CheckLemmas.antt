@@ -1,6 +1,6 @@
 -- A piece that may stand, and the bytes with it.
-use Rattle.std.proofs.Common.{◌≡◌, inl, inr, ℕ, ◌+◌, ◌<◌, List, ◌++◌, length, take, drop, Bool, true, cond, Option, Some, None, refl, sym,
-  ap, subst, ◌∙◌, arith, length-append}
+use Rattle.std.proofs.Common.{◌≡◌, inl, inr, ℕ, ◌+◌, ◌<◌, List, ◌++◌, length, take, drop, Bool, true, cond, Option, Some, None, refl, sym}
+use Rattle.std.proofs.Common.{ap, subst, ◌∙◌, arith, length-append}
 use Rattle.std.specs.Prelude.{◌==◌, option_map, is_some, IfSome}
 use Rattle.std.proofs.lemmas.Bool.{cases_eq, and_parts, eqb-true, ltb-true, eq-eqb, ne_eqb}
 use Rattle.std.proofs.lemmas.List.{length-take-le, take-append-le, take-append-drop, take_all, drop-drop, append_assoc}
@@ -11,8 +11,8 @@ use Rattle.c8_digest.specs.Reading.{state_in}
 use Rattle.c8_digest.specs.Marks.{marks_in}
 use Rattle.c8_digest.specs.Origin.{origin_of}
 use Rattle.c8_check.specs.declared.checks.Checks.{Checks}
-use Rattle.c8_check.specs.Checks.{piece_in, before_piece, piece_length, Pieces, bytes_so_far, frames_of, is_next_after, may_take, digest_of,
-  MayCheck, origin_in, with_whole}
+use Rattle.c8_check.specs.Checks.{piece_in, before_piece, piece_length, Pieces, bytes_so_far, frames_of, is_next_after, may_take, digest_of}
+use Rattle.c8_check.specs.Checks.{MayCheck, origin_in, with_whole}
 use Rattle.c8_check.specs.Read.{HasBytes}
 use Rattle.c8_check.specs.Seen.{pieces_of, value_of}
 use Rattle.c8_check.specs.checked.PieceLaws.{piece_ends, before_within, none_before, all_before, piece_whole}
@@ -28,12 +28,12 @@ next_at : (count started : ℕ) (so_far : List ℕ) (last sure frames piece : �
 next_at count started so_far last sure frames piece may = elim (cases_eq count 0) [
   | inl none ↦
       let first = and_parts _ _ (and_parts _ _ (subst
-          (λ (b : Bool). is_next_after (cond b None (pieces_at started count so_far)) last sure frames piece ≡ true) (eq-eqb count 0 none) may)).0 in
+      (λ (b : Bool). is_next_after (cond b None (pieces_at started count so_far)) last sure frames piece ≡ true) (eq-eqb count 0 none) may)).0 in
       let zero_piece = eqb-true piece 0 first.0 in
       (omega (arith, zero_piece), omega (arith, zero_piece, none))
   | inr some ↦
       let later = and_parts _ _ (and_parts _ _ (subst
-          (λ (b : Bool). is_next_after (cond b None (pieces_at started count so_far)) last sure frames piece ≡ true) (ne_eqb count 0 some) may)).0 in
+      (λ (b : Bool). is_next_after (cond b None (pieces_at started count so_far)) last sure frames piece ≡ true) (ne_eqb count 0 some) may)).0 in
       (ltb-true piece 36 later.0, eqb-true piece count later.1)
 ]
 
@@ -70,18 +70,18 @@ piece_taken c frames piece bytes out next long put =
     let fits = before_within piece (omega (arith, next.within)) in
     let front = length-take-le (before_piece piece) c.bytes (omega (arith, fits, long)) in
     let all : length (before ++ bytes) ≡ before_piece (piece + 1) =
-        omega (arith, length-append before bytes, front, next.long, piece_ends piece next.within) in
+    omega (arith, length-append before bytes, front, next.long, piece_ends piece next.within) in
     let whole : take (before_piece (piece + 1)) out ≡ before ++ bytes =
     ap (take (before_piece (piece + 1))) put ∙ front_of (before_piece (piece + 1)) (before ++ bytes)
-        (drop (before_piece piece + length bytes) c.bytes) all in
+    (drop (before_piece piece + length bytes) c.bytes) all in
     let so_far : before ≡ bytes_so_far (pieces_of c) =
-        ap (λ (n : ℕ). take (before_piece n) c.bytes) next.count ∙ sym (so_far_is c.count c.frames c.bytes) in
+    ap (λ (n : ℕ). take (before_piece n) c.bytes) next.count ∙ sym (so_far_is c.count c.frames c.bytes) in
     rw (ne_eqb (piece + 1) 0 (λ same. omega (arith, same))) (ap (pieces_at frames (piece + 1)) (whole ∙ ap (λ (b : List ℕ). b ++ bytes) so_far))
 
 parted : (a b : ℕ) (xs : List ℕ) → xs ≡ take a xs ++ take b (drop a xs) ++ drop (a + b) xs
 parted a b xs =
     sym (take-append-drop a xs) ∙ ap (λ (rest : List ℕ). take a xs ++ rest)
-        (sym (take-append-drop b (drop a xs)) ∙ ap (λ (rest : List ℕ). take b (drop a xs) ++ rest) (drop-drop b a xs))
+    (sym (take-append-drop b (drop a xs)) ∙ ap (λ (rest : List ℕ). take b (drop a xs) ++ rest) (drop-drop b a xs))
     ∙ sym (append_assoc (take a xs) (take b (drop a xs)) (drop (a + b) xs))
 
 -- a piece that was cut before
@@ -107,7 +107,7 @@ machine_read (Some m) bytes whole same is spelled told = record { is = is; spell
 pub all_bytes : (c : Checks) → c.count ≡ 36 → length c.bytes ≡ 4548 → pieces_of c ≡ pieces_at c.frames c.count c.bytes
 all_bytes c all long =
     let whole : take (before_piece c.count) c.bytes ≡ c.bytes =
-        take_all (before_piece c.count) c.bytes (omega (arith, ap before_piece all, all_before, long)) in
+    take_all (before_piece c.count) c.bytes (omega (arith, ap before_piece all, all_before, long)) in
     rw (ne_eqb c.count 0 (λ none. omega (arith, all, none))) (ap (pieces_at c.frames c.count) whole)
 
 pub may_check : (c : Checks) (frames : ℕ) (digest : List ℕ) (s : State) → c.count ≡ 36 → length c.bytes ≡ 4548 → frames ≡ c.frames
@@ -136,11 +136,11 @@ pieces_some : (count started : ℕ) (bytes : List ℕ) (p : Pieces) → cond (co
     → (p.frames ≡ started) × (p.count ≡ count)
 pieces_some count started bytes p some = elim (cases_eq count 0) [
   | inl none ↦ let is : None ≡ Some p = subst (λ (b : Bool). cond b None (pieces_at started count bytes) ≡ Some p) (eq-eqb count 0 none)
-  some in absurd cc
+      some in absurd cc
   | inr more ↦ let is : pieces_at started count bytes ≡ Some p =
-  subst (λ (b : Bool). cond b None (pieces_at started count bytes) ≡ Some p) (ne_eqb count 0 more) some in
+      subst (λ (b : Bool). cond b None (pieces_at started count bytes) ≡ Some p) (ne_eqb count 0 more) some in
       let same : record { frames = started; count = count; bytes = bytes } ≡ p = cc in
-          (sym (ap (λ (x : Pieces). x.frames) same), sym (ap (λ (x : Pieces). x.count) same))
+      (sym (ap (λ (x : Pieces). x.frames) same), sym (ap (λ (x : Pieces). x.count) same))
 ]
 
 pub is_whole : (c : Checks) (frames : ℕ) (digest : List ℕ) → length c.bytes ≡ 4548 → MayCheck (value_of c) frames digest → IsWhole c frames digest
@@ -162,12 +162,18 @@ is_whole c frames digest long may =
 -- the last one, once it is whole
 pub whole_noted : (c : Checks) (machine : Machine) (marks : List ℕ) → c.count ≡ 36 → length c.bytes ≡ 4548
     → HasBytes (take 4419 c.bytes) (state machine) → marks ≡ drop 4420 c.bytes
-    → record { form = c.form; under_way = None;
-    last = Some (record { frames = c.frames; machine = state machine; marks = marks_in c.frames marks }) } ≡ with_whole (value_of c)
+    → record {
+      form = c.form;
+      under_way = None;
+      last = Some (record { frames = c.frames; machine = state machine; marks = marks_in c.frames marks });
+    } ≡ with_whole (value_of c)
 whole_noted c machine marks all long has is =
     let some = all_bytes c all long in
-    λ i. record { form = c.form; under_way = None;
-        last = (ap Some (λ j. record { frames = c.frames; machine = has.told j; marks = marks_in c.frames (is j) }) ∙ ap origin_in (sym some)) i }
+    λ i. record {
+      form = c.form;
+      under_way = None;
+      last = (ap Some (λ j. record { frames = c.frames; machine = has.told j; marks = marks_in c.frames (is j) }) ∙ ap origin_in (sym some)) i;
+    }
 
 pub some_machine : (found : Option Machine) (bytes : List ℕ) (r : Bool) → r ≡ is_some found → r ≡ true
     → IfSome found (λ m. HasBytes bytes (state m)) → (s : State) × HasBytes bytes s

@@ -1,7 +1,7 @@
 -- What the records of a journal say about checkpoints: the pieces of the one under way, and the last
 -- complete one.
-use Rattle.std.specs.Prelude.{◌≡◌, ℕ, ◌+◌, ◌-◌, ◌*◌, ◌==◌, ◌&&◌, nat_le, nat_lt, Bool, true, List, [], ◌∷◌, ◌++◌, length, take, drop, fold,
-  replicate, slice_index, Option, Some, None, if◌then◌else◌}
+use Rattle.std.specs.Prelude.{◌≡◌, ℕ, ◌+◌, ◌-◌, ◌*◌, ◌==◌, ◌&&◌, nat_le, nat_lt, Bool, true, List, [], ◌∷◌, ◌++◌, length, take, drop, fold}
+use Rattle.std.specs.Prelude.{replicate, slice_index, Option, Some, None, if◌then◌else◌}
 use Rattle.sha2.specs.Sha256.{sha256}
 use Rattle.c8_game.specs.Rules.{Rules}
 use Rattle.c8_machine.specs.State as machines
@@ -74,8 +74,11 @@ bytes_so_far (Some p) = p.bytes
 -- where a run from the last checkpoint begins
 abbrev pub origin_in : Option Pieces → Option Origin
 origin_in None = None
-origin_in (Some p) = Some (record { frames = p.frames; machine = state_in (take state_length p.bytes);
-    marks = marks_in p.frames (drop marks_place p.bytes) })
+origin_in (Some p) = Some (record {
+  frames = p.frames;
+  machine = state_in (take state_length p.bytes);
+  marks = marks_in p.frames (drop marks_place p.bytes);
+})
 
 -- an opening discards the pieces under way
 abbrev pub with_form : ChecksValue → ℕ → ChecksValue

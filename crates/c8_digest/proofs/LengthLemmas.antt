@@ -46,12 +46,12 @@ fronts s is =
     let m4 = more (memory ++ s.registers ++ to_be_bytes w16 s.address ++ to_be_bytes w16 s.counter) (length s.stack ∷ []) 4116 1 m3 refl in
     let m5 = more (memory ++ s.registers ++ to_be_bytes w16 s.address ++ to_be_bytes w16 s.counter ++ (length s.stack ∷ [])) stack 4117 32 m4 depth in
     let m6 = more (memory ++ s.registers ++ to_be_bytes w16 s.address ++ to_be_bytes w16 s.counter ++ (length s.stack ∷ []) ++ stack)
-        (screen_bytes s.screen) 4149 256 m5 (length_rows s.screen 0 32) in
+    (screen_bytes s.screen) 4149 256 m5 (length_rows s.screen 0 32) in
     record { memory = m0; registers = m1; address = m2; counter = m3; depth = m4; stack = m5; screen = m6 }
 
 pub state_long : (s : State) → IsState s → length (state_bytes s) ≡ state_length
 unfolding state_bytes
 state_long s is =
     more (map s.memory (range_with_len 0 4096) ++ s.registers ++ to_be_bytes w16 s.address ++ to_be_bytes w16 s.counter ++
-        (length s.stack ∷ []) ++ flat_map (to_be_bytes w16) (places s.stack) ++ screen_bytes s.screen)
+    (length s.stack ∷ []) ++ flat_map (to_be_bytes w16) (places s.stack) ++ screen_bytes s.screen)
     (rest_bytes s) 4405 14 (fronts s is).screen refl

@@ -1,11 +1,11 @@
 -- Marks as bytes, with one more mark.
-use Rattle.std.proofs.Common.{◌≡◌, inl, inr, ℕ, zero, suc, ◌+◌, ◌-◌, ◌*◌, ◌/◌, ◌≤◌, ◌<◌, List, [], ◌∷◌, ◌++◌, length, map, get_or, take,
-  drop, true, Some, refl, sym, ap, ◌∙◌, append_assoc, arith}
+use Rattle.std.proofs.Common.{◌≡◌, inl, inr, ℕ, zero, suc, ◌+◌, ◌-◌, ◌*◌, ◌/◌, ◌≤◌, ◌<◌, List, [], ◌∷◌, ◌++◌, length, map, get_or, take}
+use Rattle.std.proofs.Common.{drop, true, Some, refl, sym, ap, ◌∙◌, append_assoc, arith}
 use Rattle.std.specs.Prelude.{replicate, ◌==◌}
 use Rattle.std.specs.List.{slice_get, flat_map, range_with_len, list_all}
 use Rattle.std.proofs.lemmas.Bool.{cases_eq}
-use Rattle.std.proofs.lemmas.List.{take_more, take_all, take-replicate, take-append-le, append-nil, length-append, length-drop,
-  drop-append-le, drop-drop, same_lists}
+use Rattle.std.proofs.lemmas.List.{take_more, take_all, take-replicate, take-append-le, append-nil, length-append, length-drop}
+use Rattle.std.proofs.lemmas.List.{drop-append-le, drop-drop, same_lists}
 use Rattle.std.proofs.lemmas.List.FromFn.{length-map-range_with_len, get_or-map-range_with_len}
 use Rattle.std.proofs.lemmas.Grind.{flat_map-append}
 use Rattle.std.proofs.lemmas.Option.{slice_get_within, slice_get-get_or, get_or_from_slice_get}
@@ -20,7 +20,7 @@ bytes_next marks n m out new here so_far put =
     let mark : FrameMark → List ℕ = λ one. one.mark in
     let next : take (n + 1) marks ≡ take n marks ++ m ∷ [] =
     take_more marks n m (slice_get_within marks n m here)
-        ∙ ap (λ (one : FrameMark). take n marks ++ one ∷ []) (get_or_from_slice_get marks n m m here) in
+    ∙ ap (λ (one : FrameMark). take n marks ++ one ∷ []) (get_or_from_slice_get marks n m m here) in
     put ∙ ap (λ (bytes : List ℕ). bytes ++ m.mark) so_far ∙ ap (λ (last : List ℕ). flat_map mark (take n marks) ++ last) (sym (append-nil m.mark))
     ∙ sym (flat_map-append mark (take n marks) (m ∷ [])) ∙ ap (flat_map mark) (sym next)
 
@@ -85,8 +85,8 @@ unfolding marks_in
 all_put frames bytes before now put =
     let one : ℕ → FrameMark = λ j. record { frame = mark_step * (forgotten_after frames + j); mark = take 8 (drop (8 * j) bytes) } in
     put.some (omega arith) ∙ ap (λ (ms : List FrameMark). kept (before ++ ms))
-        (take_all (marks_after frames) (map one (range_with_len 0 (marks_after frames)))
-        (omega (arith, length-map-range_with_len one 0 (marks_after frames))))
+    (take_all (marks_after frames) (map one (range_with_len 0 (marks_after frames)))
+    (omega (arith, length-map-range_with_len one 0 (marks_after frames))))
 
 -- ---- read again
 
@@ -108,7 +108,7 @@ mark_in_place [] zeros k m long is = absurd cc
 mark_in_place (x ∷ marks) zeros zero m long is =
     let here : x ≡ m = cc in
     ap (take 8) (append_assoc x.mark (flat_map (λ one. one.mark) marks) zeros)
-        ∙ front_of 8 x.mark (flat_map (λ one. one.mark) marks ++ zeros) (long 0 x refl) ∙ ap (λ (one : FrameMark). one.mark) here
+    ∙ front_of 8 x.mark (flat_map (λ one. one.mark) marks ++ zeros) (long 0 x refl) ∙ ap (λ (one : FrameMark). one.mark) here
 mark_in_place (x ∷ marks) zeros (suc k) m long is =
     let far : 8 * suc k ≡ length x.mark + 8 * k = omega (arith, long 0 x refl) in
     ap (λ (n : ℕ). take 8 (drop n (flat_map (λ one. one.mark) (x ∷ marks) ++ zeros))) far
@@ -136,13 +136,17 @@ read_again frames marks are =
     let many = length-map-range_with_len one 0 (marks_after frames) in
     same_lists (map one (range_with_len 0 (marks_after frames))) marks (omega (arith, many, are.count))
     (λ k d below. get_or-map-range_with_len one 0 (marks_after frames) k k d (omega (arith, below, many)) (omega arith)
-        ∙ same_mark marks frames k d are (omega (arith, below, many)))
+    ∙ same_mark marks frames k d are (omega (arith, below, many)))
 
 length_marks : (marks : List FrameMark) → AreLong marks → length (flat_map (λ one. one.mark) marks) ≡ 8 * length marks
 unfolding AreLong
 length_marks [] long = refl
-length_marks (x ∷ marks) long = omega (arith, length-append x.mark (flat_map (λ one. one.mark) marks), long 0 x refl,
-    length_marks marks (λ k m there. long (suc k) m there))
+length_marks (x ∷ marks) long = omega (
+  arith,
+  length-append x.mark (flat_map (λ one. one.mark) marks),
+  long 0 x refl,
+  length_marks marks (λ k m there. long (suc k) m there),
+)
 
 all_zeros : (n : ℕ) → list_all (λ byte. byte == 0) (replicate n 0) ≡ true
 all_zeros zero = refl
@@ -155,7 +159,7 @@ zeros_again frames marks are =
     let zeros : List ℕ = replicate (128 - 8 * length marks) 0 in
     let far : 8 * marks_after frames ≡ length front + 0 = omega (arith, length_marks marks (all_long frames marks are), are.count) in
     ap (λ (n : ℕ). list_all (λ byte. byte == 0) (drop n (front ++ zeros))) far
-        ∙ ap (list_all (λ byte. byte == 0)) (past_front front zeros 0) ∙ all_zeros (128 - 8 * length marks)
+    ∙ ap (list_all (λ byte. byte == 0)) (past_front front zeros 0) ∙ all_zeros (128 - 8 * length marks)
 
 -- before the first frame one mark is kept
 pub one_mark : (bytes mark : List ℕ) → take 8 bytes ≡ mark → marks_in 0 bytes ≡ mark_of_frame 0 mark ∷ []

@@ -1,6 +1,6 @@
 -- The last mark for a frame, with one more mark.
-use Rattle.std.proofs.Common.{◌≡◌, ◌≢◌, ◌⊎◌, inl, inr, ⊎_elim, ℕ, zero, suc, ◌+◌, ◌-◌, ◌≤◌, List, [], ◌∷◌, ◌++◌, length, take, drop, Bool,
-  true, false, Option, Some, None, refl, sym, ap, ◌∙◌, arith}
+use Rattle.std.proofs.Common.{◌≡◌, ◌≢◌, ◌⊎◌, inl, inr, ⊎_elim, ℕ, zero, suc, ◌+◌, ◌-◌, ◌≤◌, List, [], ◌∷◌, ◌++◌, length, take, drop, Bool}
+use Rattle.std.proofs.Common.{true, false, Option, Some, None, refl, sym, ap, ◌∙◌, arith}
 use Rattle.std.specs.List.{slice_get}
 use Rattle.std.proofs.lemmas.List.{take_more, length-append, length-drop, drop-append-le}
 use Rattle.std.proofs.lemmas.Option.{slice_get_within, get_or_from_slice_get}
@@ -26,9 +26,9 @@ pub mark_next : (frame : ℕ) (marks : List FrameMark) (n : ℕ) (m : FrameMark)
 mark_next frame marks n m found here is =
     let next : take (n + 1) marks ≡ take n marks ++ m ∷ [] =
     take_more marks n m (slice_get_within marks n m here)
-        ∙ ap (λ (one : FrameMark). take n marks ++ one ∷ []) (get_or_from_slice_get marks n m m here) in
+    ∙ ap (λ (one : FrameMark). take n marks ++ one ∷ []) (get_or_from_slice_get marks n m m here) in
     ap (λ (before : Option (List ℕ)). if m.frame == frame then Some m.mark else before) is ∙ sym (mark_more frame (take n marks) m)
-        ∙ ap (mark_at frame) (sym next)
+    ∙ ap (mark_at frame) (sym next)
 
 -- ---- laws
 
@@ -96,7 +96,7 @@ found_last m before (x ∷ marks) zero is last =
     found_before m.frame (if x.frame == m.frame then Some x.mark else before) marks (λ place n here. last (suc place) n (omega arith) here) ∙ first
 found_last m before (x ∷ marks) (suc place) is last =
     found_last m (if x.frame == m.frame then Some x.mark else before) marks place is
-        (λ later n after here. last (suc later) n (omega (arith, after)) here)
+    (λ later n after here. last (suc later) n (omega (arith, after)) here)
 
 pub kept_found : (marks : List FrameMark) (place : ℕ) (m : FrameMark) → slice_get marks place ≡ Some m → IsLastFor marks place m.frame
     → mark_at m.frame marks ≡ Some m.mark

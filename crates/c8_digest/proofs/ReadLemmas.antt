@@ -1,13 +1,13 @@
 -- The parts read from the bytes of a state are those of the state.
-use Rattle.std.proofs.Common.{◌≡◌, inl, inr, ℕ, zero, suc, ◌+◌, ◌-◌, ◌*◌, ◌/◌, ◌%◌, ◌^◌, ◌<◌, ◌≤◌, List, [], ◌∷◌, ◌++◌, length, take, drop,
-  map, Bool, true, false, cond, Option, Some, None, refl, sym, ap, ◌∙◌, arith, length-append}
+use Rattle.std.proofs.Common.{◌≡◌, inl, inr, ℕ, zero, suc, ◌+◌, ◌-◌, ◌*◌, ◌/◌, ◌%◌, ◌^◌, ◌<◌, ◌≤◌, List, [], ◌∷◌, ◌++◌, length, take, drop}
+use Rattle.std.proofs.Common.{map, Bool, true, false, cond, Option, Some, None, refl, sym, ap, ◌∙◌, arith, length-append}
 use Rattle.std.specs.Prelude.{◌==◌, ◌&&◌, nat_lt, slice_index, slice_set, IfSome}
 use Rattle.std.specs.List.{flat_map, range_with_len}
 use Rattle.std.specs.Int.{bit_at, to_be_bytes, from_be_bytes, w16, w64}
 use Rattle.std.proofs.Math.Nat.{pow-suc, div-div-eq-div-mul}
 use Rattle.std.proofs.lemmas.Bool.{cases_eq, cases_lt, lt-ltb, le-leb, le-ltb, ne_eqb, eq-eqb, both_ways}
-use Rattle.std.proofs.lemmas.List.{get_or-take, get_or-drop, get_or_past, length-take, get_or-set_other, take-append-le, take-take,
-  drop-take, drop-drop, take_all}
+use Rattle.std.proofs.lemmas.List.{get_or-take, get_or-drop, get_or_past, length-take, get_or-set_other, take-append-le, take-take}
+use Rattle.std.proofs.lemmas.List.{drop-take, drop-drop, take_all}
 use Rattle.std.proofs.lemmas.List.FromFn.{length-map-range_with_len, get_or-map-range_with_len}
 use Rattle.std.proofs.lemmas.Grind.{same_number_lists, get_or-set_at}
 use Rattle.std.proofs.lemmas.Nat.{from_be_bytes-to_be_bytes_2, from_be_bytes-to_be_bytes_8}
@@ -50,7 +50,7 @@ part_last place n xs ys before many = ap (λ (m : ℕ). take n (drop m (xs ++ ys
 part_part : (place n from m : ℕ) (bytes : List ℕ) → from + m ≤ n → part_at (place + from) m bytes ≡ part_at from m (part_at place n bytes)
 part_part place n from m bytes within =
     ap (take m) (sym (drop-drop from place bytes)) ∙ sym (drop-take from m (drop place bytes))
-        ∙ ap (drop from) (sym (take-take (from + m) n (drop place bytes) within)) ∙ drop-take from m (take n (drop place bytes))
+    ∙ ap (drop from) (sym (take-take (from + m) n (drop place bytes) within)) ∙ drop-take from m (take n (drop place bytes))
 
 byte_in : (place n k : ℕ) (bytes : List ℕ) → k < n → slice_index bytes (place + k) ≡ slice_index (part_at place n bytes) k
 byte_in place n k bytes within = sym (get_or-take n (drop place bytes) k 0 within ∙ get_or-drop place bytes k 0)
@@ -71,7 +71,7 @@ row_in f from (suc n) (suc k) within =
     let eight : 8 * suc k ≡ suc (suc (suc (suc (suc (suc (suc (suc (8 * k)))))))) = omega arith in
     let same : from + 1 + k ≡ from + suc k = omega arith in
     ap (λ (m : ℕ). part_at m 8 (flat_map (λ y. to_be_bytes w64 (f y)) (range_with_len from (suc n)))) eight
-        ∙ row_in f (from + 1) n k (omega (arith, within)) ∙ ap (λ (y : ℕ). to_be_bytes w64 (f y)) same
+    ∙ row_in f (from + 1) n k (omega (arith, within)) ∙ ap (λ (y : ℕ). to_be_bytes w64 (f y)) same
 
 -- ---- the screen
 
@@ -87,7 +87,7 @@ bit_before : (b : Bool) (m j : ℕ) → bit_at (2 * m + cond b 1 0) (suc j) ≡ 
 bit_before b m j =
     let twice : 2 ^ suc j ≡ 2 * 2 ^ j = omega (arith, pow-suc 2 j) in
     ap (λ (n : ℕ). n % 2) (ap (λ (p : ℕ). (2 * m + cond b 1 0) / p) twice ∙ sym (div-div-eq-div-mul (2 * m + cond b 1 0) 2 (2 ^ j))
-        ∙ ap (λ (n : ℕ). n / 2 ^ j) (half b m))
+    ∙ ap (λ (n : ℕ). n / 2 ^ j) (half b m))
 
 -- the column before the last n - x of them
 column_in : (p : Points) (y n x j : ℕ) → x + j + 1 ≡ n → (bit_at (columns p y n) j == 1) ≡ p x y
@@ -156,19 +156,19 @@ stand s is =
     let f5 : List ℕ = f4 ++ st in
     let f6 : List ℕ = f5 ++ screen_bytes s.screen in
     let in6 : (place n : ℕ) → place + n ≤ 4405 → part_at place n (f6 ++ rest_bytes s) ≡ part_at place n f6 =
-        λ place n within. part_within place n f6 (rest_bytes s) (omega (arith, within, f.screen)) in
+    λ place n within. part_within place n f6 (rest_bytes s) (omega (arith, within, f.screen)) in
     let in5 : (place n : ℕ) → place + n ≤ 4149 → part_at place n (f6 ++ rest_bytes s) ≡ part_at place n f5 =
-        λ place n within. in6 place n (omega (arith, within)) ∙ part_within place n f5 (screen_bytes s.screen) (omega (arith, within, f.stack)) in
+    λ place n within. in6 place n (omega (arith, within)) ∙ part_within place n f5 (screen_bytes s.screen) (omega (arith, within, f.stack)) in
     let in4 : (place n : ℕ) → place + n ≤ 4117 → part_at place n (f6 ++ rest_bytes s) ≡ part_at place n f4 =
-        λ place n within. in5 place n (omega (arith, within)) ∙ part_within place n f4 st (omega (arith, within, f.depth)) in
+    λ place n within. in5 place n (omega (arith, within)) ∙ part_within place n f4 st (omega (arith, within, f.depth)) in
     let in3 : (place n : ℕ) → place + n ≤ 4116 → part_at place n (f6 ++ rest_bytes s) ≡ part_at place n f3 =
-        λ place n within. in4 place n (omega (arith, within)) ∙ part_within place n f3 (length s.stack ∷ []) (omega (arith, within, f.counter)) in
+    λ place n within. in4 place n (omega (arith, within)) ∙ part_within place n f3 (length s.stack ∷ []) (omega (arith, within, f.counter)) in
     let in2 : (place n : ℕ) → place + n ≤ 4114 → part_at place n (f6 ++ rest_bytes s) ≡ part_at place n f2 =
-        λ place n within. in3 place n (omega (arith, within))
-        ∙ part_within place n f2 (to_be_bytes w16 s.counter) (omega (arith, within, f.address)) in
+    λ place n within. in3 place n (omega (arith, within))
+    ∙ part_within place n f2 (to_be_bytes w16 s.counter) (omega (arith, within, f.address)) in
     let in1 : (place n : ℕ) → place + n ≤ 4112 → part_at place n (f6 ++ rest_bytes s) ≡ part_at place n f1 =
-        λ place n within. in2 place n (omega (arith, within))
-        ∙ part_within place n f1 (to_be_bytes w16 s.address) (omega (arith, within, f.registers)) in
+    λ place n within. in2 place n (omega (arith, within))
+    ∙ part_within place n f1 (to_be_bytes w16 s.address) (omega (arith, within, f.registers)) in
     record {
       memory = in1 0 4096 (omega arith) ∙ part_within 0 4096 f0 s.registers (omega (arith, f.memory)) ∙ take_all 4096 f0 (omega (arith, f.memory));
       registers = in1 4096 16 (omega arith) ∙ part_last 4096 16 f0 s.registers f.memory is.registers;
@@ -193,7 +193,7 @@ place_is s k within is stands =
     let low : slice_index (places s.stack) k < 2 ^ 16 = omega (arith, padded s.stack more k, is.places k) in
     let long = sixteen s.stack is.depth in
     ap (from_be_bytes w16) (part_part 4117 32 (2 * k) 2 bytes (omega (arith, within)) ∙ ap (part_at (2 * k) 2) stands.stack
-        ∙ word_in (places s.stack) k (omega (arith, within, long)))
+    ∙ word_in (places s.stack) k (omega (arith, within, long)))
     ∙ from_be_bytes-to_be_bytes_2 (slice_index (places s.stack) k) low ∙ padded s.stack more k
 
 row_is : (s : State) (y : ℕ) → y < 32 → Stand s → row_at (state_bytes s) y ≡ columns s.screen y 64
@@ -202,7 +202,7 @@ row_is s y within stands =
     let bytes : List ℕ = state_bytes s in
     let zero_more : 0 + y ≡ y = omega arith in
     ap (from_be_bytes w64) (part_part 4149 256 (8 * y) 8 bytes (omega (arith, within)) ∙ ap (part_at (8 * y) 8) stands.screen
-        ∙ row_in (λ k. columns s.screen k 64) 0 32 y within ∙ ap (λ (k : ℕ). to_be_bytes w64 (columns s.screen k 64)) zero_more)
+    ∙ row_in (λ k. columns s.screen k 64) 0 32 y within ∙ ap (λ (k : ℕ). to_be_bytes w64 (columns s.screen k 64)) zero_more)
     ∙ from_be_bytes-to_be_bytes_8 (columns s.screen y 64) (columns_lt s.screen y 64)
 
 screen_is : (s : State) (x y : ℕ) → IsState s → Stand s → screen_in (state_bytes s) x y ≡ s.screen x y
@@ -210,7 +210,7 @@ screen_is s x y is stands =
     elim (cases_lt x 64) [
       | inl column ↦ elim (cases_lt y 32) [
         | inl row ↦ rw (lt-ltb x 64 column) (rw (lt-ltb y 32 row)
-        (ap (λ (w : ℕ). row_has w x) (row_is s y row stands) ∙ column_in s.screen y 64 x (63 - x) (omega (arith, column))))
+            (ap (λ (w : ℕ). row_has w x) (row_is s y row stands) ∙ column_in s.screen y 64 x (63 - x) (omega (arith, column))))
         | inr below ↦ rw (lt-ltb x 64 column) (rw (le-ltb y 32 below) (sym (off s.screen x y is.points (λ c r. omega (arith, r, below)))))
       ]
       | inr right ↦ rw (le-ltb x 64 right) (sym (off s.screen x y is.points (λ c r. omega (arith, c, right))))
@@ -225,7 +225,7 @@ memory_is s bytes memory is stands same read at =
     ap (λ (m : List ℕ). slice_index m at) all ∙ elim (cases_lt at 4096) [
       | inl within ↦ get_or-map-range_with_len s.memory 0 4096 at at 0 within (omega arith)
       | inr past ↦ get_or_past (map s.memory (range_with_len 0 4096)) at 0 (omega (arith, (fronts s is).memory, past))
-      ∙ sym (is.no_more_bytes at past)
+          ∙ sym (is.no_more_bytes at past)
     ]
 
 stack_is : (s : State) (bytes stack : List ℕ) (depth : ℕ) → IsState s → Stand s → state_bytes s ≡ bytes → length stack ≡ 16 → depth ≡ length s.stack
@@ -242,21 +242,21 @@ pub state_read : (s : State) (bytes : List ℕ) (p : Parts) → IsState s → st
 state_read s bytes p is same long read =
     let stands = stand s is in
     let byte : (k : ℕ) → k < 14 → slice_index bytes (4405 + k) ≡ slice_index (rest_bytes s) k =
-        λ k within. ap (λ (all : List ℕ). slice_index all (4405 + k)) (sym same) ∙ rest_in s k within stands in
+    λ k within. ap (λ (all : List ℕ). slice_index all (4405 + k)) (sym same) ∙ rest_in s k within stands in
     let after : (from m : ℕ) → from + m ≤ 14 → part_at (4405 + from) m bytes ≡ part_at from m (rest_bytes s) =
-        λ from m within. ap (part_at (4405 + from) m) (sym same) ∙ part_part 4405 14 from m (state_bytes s) within
-        ∙ ap (part_at from m) stands.rest in
+    λ from m within. ap (part_at (4405 + from) m) (sym same) ∙ part_part 4405 14 from m (state_bytes s) within
+    ∙ ap (part_at from m) stands.rest in
     let memory = memory_is s bytes p.memory is stands same read.memory in
     let registers : p.registers ≡ s.registers = read.registers ∙ ap (part_at 4096 16) (sym same) ∙ stands.registers in
     let address : p.address ≡ s.address = read.address ∙ ap (from_be_bytes w16) (ap (part_at 4112 2) (sym same) ∙ stands.address)
-        ∙ from_be_bytes-to_be_bytes_2 s.address (omega (arith, is.address)) in
+    ∙ from_be_bytes-to_be_bytes_2 s.address (omega (arith, is.address)) in
     let counter : p.counter ≡ s.counter = read.counter ∙ ap (from_be_bytes w16) (ap (part_at 4114 2) (sym same) ∙ stands.counter)
-        ∙ from_be_bytes-to_be_bytes_2 s.counter (omega (arith, is.counter)) in
+    ∙ from_be_bytes-to_be_bytes_2 s.counter (omega (arith, is.counter)) in
     let depth : p.depth ≡ length s.stack = read.depth ∙ ap (λ (all : List ℕ). slice_index all 4116) (sym same)
-        ∙ byte_in 4116 1 0 (state_bytes s) (omega arith) ∙ ap (λ (one : List ℕ). slice_index one 0) stands.depth in
+    ∙ byte_in 4116 1 0 (state_bytes s) (omega arith) ∙ ap (λ (one : List ℕ). slice_index one 0) stands.depth in
     let stack = stack_is s bytes p.places p.depth is stands same long depth read.places in
     let screen : (x y : ℕ) → points_of p.screen x y ≡ s.screen x y =
-        λ x y. read.screen x y ∙ ap (λ (all : List ℕ). screen_in all x y) (sym same) ∙ screen_is s x y is stands in
+    λ x y. read.screen x y ∙ ap (λ (all : List ℕ). screen_in all x y) (sym same) ∙ screen_is s x y is stands in
     let timer : p.timer ≡ s.timer = read.timer ∙ byte 0 (omega arith) in
     let tone : p.tone ≡ s.tone = read.tone ∙ byte 1 (omega arith) in
     let keys : p.keys.0 ≡ s.keys = read.keys ∙ ap (from_be_bytes w16) (after 2 2 (omega arith)) ∙ from_be_bytes-to_be_bytes_2 s.keys is.keys in
@@ -291,7 +291,7 @@ stack_again s is stands =
     let many = length-map-range_with_len (place_at bytes) 0 (length s.stack) in
     same_number_lists (map (place_at bytes) (range_with_len 0 (length s.stack))) s.stack many
     (λ k below. get_or-map-range_with_len (place_at bytes) 0 (length s.stack) k k 0 (omega (arith, below, many)) (omega arith)
-        ∙ place_is s k (omega (arith, below, many, few)) is stands)
+    ∙ place_is s k (omega (arith, below, many, few)) is stands)
 
 depth_again : (s : State) → Stand s → slice_index (state_bytes s) 4116 ≡ length s.stack
 depth_again s stands = byte_in 4116 1 0 (state_bytes s) (omega arith) ∙ ap (λ (one : List ℕ). slice_index one 0) stands.depth
@@ -318,12 +318,12 @@ state_again s is =
     let counter = counter_again s is stands in
     let depth = depth_again s stands in
     let stack : map (place_at bytes) (range_with_len 0 (slice_index bytes 4116)) ≡ s.stack =
-        ap (λ (n : ℕ). map (place_at bytes) (range_with_len 0 n)) depth ∙ stack_again s is stands in
+    ap (λ (n : ℕ). map (place_at bytes) (range_with_len 0 n)) depth ∙ stack_again s is stands in
     let keys : from_be_bytes w16 (part_at 4407 2 bytes) ≡ s.keys =
-        ap (from_be_bytes w16) (rest_after s 2 2 low_byte.4 stands) ∙ from_be_bytes-to_be_bytes_2 s.keys is.keys in
+    ap (from_be_bytes w16) (rest_after s 2 2 low_byte.4 stands) ∙ from_be_bytes-to_be_bytes_2 s.keys is.keys in
     let waits : waits_in (slice_index bytes 4409) ≡ s.waits = ap waits_in (rest_in s 4 low_byte.2 stands) ∙ waits_again s.waits is.waits in
     let draws : from_be_bytes w64 (part_at 4410 8 bytes) ≡ s.draws =
-        ap (from_be_bytes w64) (rest_after s 5 8 low_byte.5 stands) ∙ from_be_bytes-to_be_bytes_8 s.draws is.draws in
+    ap (from_be_bytes w64) (rest_after s 5 8 low_byte.5 stands) ∙ from_be_bytes-to_be_bytes_8 s.draws is.draws in
     let stop : stop_in (slice_index bytes 4418) ≡ s.stop = ap stop_in (rest_in s 13 low_byte.3 stands) ∙ stop_again s.stop in
     λ i. record {
       memory = λ at. memory at i;

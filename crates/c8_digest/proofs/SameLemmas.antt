@@ -1,6 +1,6 @@
 -- States with the same bytes are equal.
-use Rattle.std.proofs.Common.{◌≡◌, inl, inr, ⊎_elim, ℕ, zero, suc, ◌+◌, ◌-◌, ◌*◌, ◌^◌, ◌<◌, ◌≤◌, List, [], ◌∷◌, ◌++◌, length, take, drop,
-  map, Bool, true, false, Option, Some, None, refl, sym, ap, ◌∙◌, arith}
+use Rattle.std.proofs.Common.{◌≡◌, inl, inr, ⊎_elim, ℕ, zero, suc, ◌+◌, ◌-◌, ◌*◌, ◌^◌, ◌<◌, ◌≤◌, List, [], ◌∷◌, ◌++◌, length, take, drop}
+use Rattle.std.proofs.Common.{map, Bool, true, false, Option, Some, None, refl, sym, ap, ◌∙◌, arith}
 use Rattle.std.specs.Prelude.{slice_index, replicate, if◌then◌else◌, IfSome}
 use Rattle.std.specs.List.{flat_map, range_with_len}
 use Rattle.std.specs.Int.{to_be_bytes, from_be_bytes, w16, w64}
@@ -53,7 +53,7 @@ words_same (x ∷ xs) (y ∷ ys) long low small same =
 stack_same : (s t : List ℕ) → length s ≡ length t → places s ≡ places t → s ≡ t
 stack_same s t long same =
     sym (take-append_seam s (replicate (16 - length s) 0)) ∙ ap (λ (n : ℕ). take n (places s)) long ∙ ap (take (length t)) same
-        ∙ take-append_seam t (replicate (16 - length t) 0)
+    ∙ take-append_seam t (replicate (16 - length t) 0)
 
 -- ---- the screen
 
@@ -89,7 +89,7 @@ rows_same p q a zero same y from to = absurd (omega (arith, from, to))
 rows_same p q a (suc n) same y from to =
     let both =
     split (to_be_bytes w64 (columns p a 64)) (to_be_bytes w64 (columns q a 64))
-        (flat_map (λ k. to_be_bytes w64 (columns p k 64)) (range_with_len (a + 1) n))
+    (flat_map (λ k. to_be_bytes w64 (columns p k 64)) (range_with_len (a + 1) n))
     (flat_map (λ k. to_be_bytes w64 (columns q k 64)) (range_with_len (a + 1) n)) refl same in
     let first : columns p a 64 ≡ columns q a 64 = long_same (columns p a 64) (columns q a 64) (columns_lt p a 64) (columns_lt q a 64) both.0 in
     elim (cases_eq y a) [
@@ -141,7 +141,7 @@ memory_same : (s t : State) → IsState s → IsState t → map s.memory (range_
 memory_same s t is us same at =
     elim (cases_lt at 4096) [
       | inl within ↦ sym (get_or-map-range_with_len s.memory 0 4096 at at 0 within (omega arith))
-      ∙ ap (λ (bytes : List ℕ). slice_index bytes at) same ∙ get_or-map-range_with_len t.memory 0 4096 at at 0 within (omega arith)
+          ∙ ap (λ (bytes : List ℕ). slice_index bytes at) same ∙ get_or-map-range_with_len t.memory 0 4096 at at 0 within (omega arith)
       | inr past ↦ is.no_more_bytes at past ∙ sym (us.no_more_bytes at past)
     ]
 
@@ -212,7 +212,7 @@ state_same s t is at same =
     let counter = short_same s.counter t.counter (omega (arith, is.counter)) (omega (arith, at.counter)) parts.counter in
     let depth : length s.stack ≡ length t.stack = ap (λ (bytes : List ℕ). slice_index bytes 0) parts.depth in
     let all = words_same (places s.stack) (places t.stack) (sixteen s.stack is.depth ∙ sym (sixteen t.stack at.depth)) (low_places s is)
-        (low_places t at) parts.stack in
+    (low_places t at) parts.stack in
     let stack = stack_same s.stack t.stack depth all in
     let screen = points_same s.screen t.screen is.points at.points parts.screen in
     let timer = rest.timer in

@@ -31,7 +31,7 @@ columns_down points y w (suc n) rest all low same =
     let place : 63 - n ≡ rest = omega (arith, all) in
     let here : (w / 2 ^ rest % 2 == 1) ≡ points n y = ap (λ (k : ℕ). bit_at w k == 1) (sym place) ∙ same n (omega (arith, all)) in
     ap (λ (m : ℕ). 2 * m + (if points n y then 1 else 0)) before
-        ∙ ap (λ (b : Bool). 2 * (w / 2 ^ rest / 2) + (if b then 1 else 0)) (sym here) ∙ digit (w / 2 ^ rest)
+    ∙ ap (λ (b : Bool). 2 * (w / 2 ^ rest / 2) + (if b then 1 else 0)) (sym here) ∙ digit (w / 2 ^ rest)
 
 pub row_number : (points : Points) (y w : ℕ) → w < 2 ^ 64 → ((x : ℕ) → x < 64 → row_has w x ≡ points x y) → columns points y 64 ≡ w
 row_number points y w low same = columns_down points y w 64 0 refl low same ∙ omega arith

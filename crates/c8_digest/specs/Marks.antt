@@ -1,6 +1,6 @@
 -- Kept marks, each with the number of frames after which the machine had it; and their bytes.
-use Rattle.std.specs.Prelude.{◌≡◌, ◌≢◌, ◌<◌, ℕ, ◌+◌, ◌-◌, ◌*◌, ◌/◌, ◌^◌, min, ◌==◌, Bool, List, ◌++◌, length, map, take, drop, replicate,
-  fold, slice_index, Option, Some, None, if◌then◌else◌}
+use Rattle.std.specs.Prelude.{◌≡◌, ◌≢◌, ◌<◌, ℕ, ◌+◌, ◌-◌, ◌*◌, ◌/◌, ◌^◌, min, ◌==◌, Bool, List, ◌++◌, length, map, take, drop, replicate}
+use Rattle.std.specs.Prelude.{fold, slice_index, Option, Some, None, if◌then◌else◌}
 use Rattle.std.specs.List.{slice_get, flat_map, list_all, range_with_len}
 use Rattle.c8_digest.specs.declared.marks.FrameMark.{FrameMark}
 
@@ -52,7 +52,7 @@ marks_bytes marks = flat_map (λ m. m.mark) marks ++ replicate (marks_length - m
 unfoldable pub marks_in : ℕ → List ℕ → List FrameMark
 marks_in frames bytes =
     map (λ k. record { frame = mark_step * (forgotten_after frames + k); mark = take mark_length (drop (mark_length * k) bytes) })
-        (range_with_len 0 (marks_after frames))
+    (range_with_len 0 (marks_after frames))
 
 -- the bytes after the marks that are kept after some number of frames are zeros
 abbrev pub are_marks : ℕ → List ℕ → Bool

@@ -1,6 +1,6 @@
 -- One call of a list.
-use Rattle.std.proofs.Common.{◌≡◌, inl, inr, if◌then◌else◌, length-take-le, take-append-drop, ◌≤◌, ◌<◌, ℕ, suc, ◌+◌, nat_le, nat_lt, ◌&&◌,
-  true, List, [], ◌∷◌, ◌++◌, length, take, drop, get_or, refl, sym, ◌∙◌, ap, subst, arith}
+use Rattle.std.proofs.Common.{◌≡◌, inl, inr, if◌then◌else◌, length-take-le, take-append-drop, ◌≤◌, ◌<◌, ℕ, suc, ◌+◌, nat_le, nat_lt, ◌&&◌}
+use Rattle.std.proofs.Common.{true, List, [], ◌∷◌, ◌++◌, length, take, drop, get_or, refl, sym, ◌∙◌, ap, subst, arith}
 use Rattle.std.proofs.lemmas.Bool.{cases_Bool, and_parts, and_from, leb-true, le-leb, cond-true, cond-false, lt-ltb}
 use Rattle.std.proofs.lemmas.List.{drop_more, take_more}
 use Rattle.c8_disk.specs.Disk.{overwritten}
@@ -46,7 +46,7 @@ synced_count-sync (Write a n w ∷ calls) =
     let some : 0 < length calls + 1 = omega arith in
     let last : suc (length calls + 1) ≡ suc (length calls) + 1 = omega arith in
     ap (λ (k : ℕ). if nat_lt 0 k then suc k else 0) (synced_count-sync calls)
-        ∙ cond-true (nat_lt 0 (length calls + 1)) (suc (length calls + 1)) 0 (lt-ltb _ _ some) ∙ last
+    ∙ cond-true (nat_lt 0 (length calls + 1)) (suc (length calls + 1)) 0 (lt-ltb _ _ some) ∙ last
 synced_count-sync (Sync ∷ calls) = let last : suc (length calls + 1) ≡ suc (length calls) + 1 = omega arith in
     ap (λ (k : ℕ). suc k) (synced_count-sync calls) ∙ last
 
@@ -88,9 +88,9 @@ module _ (first : List ℕ) (calls : List Call) (lawful : are_lawful first calls
       let front = take (synced_count calls) calls in
       let here = reads (λ image. image ≡ first) first front synced_lawful refl in
       let later = torn_leaves (IsImage first front) (content first front) (drop (synced_count calls) calls) (content first front) new
-          (none_behind calls) here torn in
+      (none_behind calls) here torn in
       subst (λ (l : List Call). IsImage first l new) parts_of
-          (join_leaves (λ image. image ≡ first) first front (drop (synced_count calls) calls) new later)
+      (join_leaves (λ image. image ≡ first) first front (drop (synced_count calls) calls) new later)
 
   pub synced_is_image : IsImage first calls (synced first calls)
   synced_is_image = torn_is_image (synced first calls) (untorn (drop (synced_count calls) calls) (synced first calls))

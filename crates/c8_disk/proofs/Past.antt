@@ -1,6 +1,6 @@
 -- One more call.
-use Rattle.std.proofs.Common.{◌≡◌, inl, inr, ◌≤◌, ℕ, ◌+◌, nat_le, ◌&&◌, true, List, [], ◌∷◌, ◌++◌, length, take, refl, sym, ◌∙◌, ap, subst,
-  arith, length-take}
+use Rattle.std.proofs.Common.{◌≡◌, inl, inr, ◌≤◌, ℕ, ◌+◌, nat_le, ◌&&◌, true, List, [], ◌∷◌, ◌++◌, length, take, refl, sym, ◌∙◌, ap, subst}
+use Rattle.std.proofs.Common.{arith, length-take}
 use Rattle.std.proofs.lemmas.Bool.{cases_lt, and_parts, and_from, le-leb}
 use Rattle.std.proofs.lemmas.List.{take_all, take-append-le, length_push}
 use Rattle.c8_disk.specs.Disk.{overwritten, Torn, Tears, AddsNone, Only, Elapses}
@@ -14,7 +14,7 @@ pub lawful_more : (bytes : List ℕ) (xs ys : List Call) → are_lawful bytes xs
 lawful_more bytes [] ys one other = other
 lawful_more bytes (Write at count written ∷ xs) ys one other =
     let parts = and_parts (nat_le at (length bytes) && nat_le count (length written))
-        (are_lawful (overwritten bytes at (take count written)) xs) one in
+    (are_lawful (overwritten bytes at (take count written)) xs) one in
     and_from _ _ parts.0 (lawful_more (overwritten bytes at (take count written)) xs ys parts.1 other)
 lawful_more bytes (Sync ∷ xs) ys one other = lawful_more bytes xs ys one other
 
@@ -23,7 +23,7 @@ fit_push : (capacity : ℕ) (calls : List Call) (call : Call) → fit capacity c
 fit_push capacity [] call fits one = one
 fit_push capacity (Write at count written ∷ calls) call fits one =
     let parts = and_parts (nat_le count 144 && nat_le (at + count) capacity) (fit capacity calls) fits in
-        and_from _ _ parts.0 (fit_push capacity calls call parts.1 one)
+    and_from _ _ parts.0 (fit_push capacity calls call parts.1 one)
 fit_push capacity (Sync ∷ calls) call fits one = fit_push capacity calls call fits one
 
 pub elapses_push : (first : List ℕ) (calls : List Call) (call : Call)
@@ -35,8 +35,12 @@ elapses_push first calls call = record {
     | inl all ↦ inr (subst (λ (l : List Call). IsImage first l image) (take_all left.0 (calls ++ call ∷ []) (omega (arith, size, all))) left.3)
     | inr some ↦ inl (left.0, left.1, some, subst (λ (l : List Call). IsImage first l image) (take-append-le left.0 calls (call ∷ []) some) left.3)
   ];
-  keeps = λ t image le left. (left.0, left.1, omega (arith, size, left.2),
-      subst (λ (l : List Call). IsImage first l image) (sym (take-append-le left.0 calls (call ∷ []) left.2)) left.3);
+  keeps = λ t image le left. (
+    left.0,
+    left.1,
+    omega (arith, size, left.2),
+    subst (λ (l : List Call). IsImage first l image) (sym (take-append-le left.0 calls (call ∷ []) left.2)) left.3,
+  );
 }
   where
     size : length (calls ++ call ∷ []) ≡ length calls + 1

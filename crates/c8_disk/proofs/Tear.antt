@@ -14,5 +14,9 @@ torn_more at count old mid new first second =
     sym (take-take at (at + count) new order) ∙ ap (λ (l : List ℕ). take at l) second.before ∙ take-take at (at + count) mid order ∙ first.before in
     let after : drop (at + (count + 1)) new ≡ drop (at + (count + 1)) old =
     ap (λ (n : ℕ). drop n new) (sym reach) ∙ second.after ∙ ap (λ (n : ℕ). drop n mid) reach ∙ wider.after in
-    record { before = before; after = after; no_shorter = omega (arith, first.no_shorter, second.no_shorter);
-        no_longer = omega (arith, first.no_longer, second.no_longer) }
+    record {
+      before = before;
+      after = after;
+      no_shorter = omega (arith, first.no_shorter, second.no_shorter);
+      no_longer = omega (arith, first.no_longer, second.no_longer);
+    }

@@ -73,4 +73,4 @@ module _ {S : Type 0} where
   abbrev pub IsFileTold : FileDisk S → Arm → FileDisk S → Type 0
   IsFileTold old arm new =
       (file_bytes new ≡ file_bytes old) × (file_first new ≡ file_first old) × (file_calls new ≡ file_calls old)
-          × (file_is_down new ≡ file_is_down old) × (file_arms new ≡ file_arms old ++ arm ∷ [])
+      × (file_is_down new ≡ file_is_down old) × (file_arms new ≡ file_arms old ++ arm ∷ [])

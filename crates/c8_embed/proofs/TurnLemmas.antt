@@ -25,5 +25,8 @@ turned_once disk old new call reply is answered = record { calls = call ∷ []; 
 pub turned_then : {D : Type 0} (disk : Ghosts D) (old middle new : PeerValue D) → HasTurned disk old middle → HasTurned disk middle new
     → HasTurned disk old new
 turned_then disk old middle new one two =
-    record { calls = one.calls ++ two.calls; answered = answered_then disk one.calls two.calls old middle new one.answered two.answered;
-    each = turn_then one.calls two.calls one.each two.each }
+    record {
+      calls = one.calls ++ two.calls;
+      answered = answered_then disk one.calls two.calls old middle new one.answered two.answered;
+      each = turn_then one.calls two.calls one.each two.each;
+    }

@@ -32,8 +32,11 @@ abbrev pub session_laws : Laws session_row
 session_laws = session.the_row_laws
 
 abbrev pub E : Bx
-E = record { row = session_row; laws = session_laws;
-    al = record { row = Heap.the_row; laws = heap.the_row_laws; g = ghosts; d = dict; drops = impl [] tnil dnil } }
+E = record {
+  row = session_row;
+  laws = session_laws;
+  al = record { row = Heap.the_row; laws = heap.the_row_laws; g = ghosts; d = dict; drops = impl [] tnil dnil };
+}
 
 abbrev pub Hd : RattleType
 Hd = Handle.the_row
@@ -74,17 +77,17 @@ module _ {M : Type 1} {𝓤 : Ura M} {𝓛 : Logic 𝓤} {K : Type 0} {Γ : List
       → Seq K 𝓛 (‵ (Hd.own_val (record { at = p; alloc = a; value = v }) vs) ∷ Γ) G
   handle_out t p a None vs none some =
       fsplit t $ fpick t (λ vss. fsplit t $ feq_l t
-          (λ ev. fsplit t $ feq_l t (λ ep. fsplit t $ handle_tells E.al t a vss.1.0
-          (λ hv ea fa. move t (1 ∷ []) $ drop t $ move t (1 ∷ []) $ feq_l t (λ e. none hv e refl
+      (λ ev. fsplit t $ feq_l t (λ ep. fsplit t $ handle_tells E.al t a vss.1.0
+      (λ hv ea fa. move t (1 ∷ []) $ drop t $ move t (1 ∷ []) $ feq_l t (λ e. none hv e refl
       (subst (λ (q : Ptr). vs ≡ vstruct (of_list (ptr_val q ∷ hv ∷ [])) ∷ []) e
       (subst (λ (ws : List Val). vs ≡ vstruct (of_list (ptr_val p ∷ (ws ++ []))) ∷ []) ea
-          (subst (λ (ps : List Val). vs ≡ vstruct (of_list (ps ++ (vss.1.0 ++ []))) ∷ []) ep ev))) fa)))))
+      (subst (λ (ps : List Val). vs ≡ vstruct (of_list (ps ++ (vss.1.0 ++ []))) ∷ []) ep ev))) fa)))))
   handle_out t p a (Some s) vs none some = use1 𝓛 (‵ ((B E).own_val (boxed p a s) vs)) (id⊢ 𝓤 _) $ some s refl
 
   pub closed_in : K → {hv : Val} (a : Global) → Step K 𝓛 (‵ (Hd.own_val (closed a) (null_word hv ∷ [])) ∷ Γ) G (‵ (handle E a hv) ∷ Γ) G
   closed_in t {hv} a = step (λ s.
       feq_i t Ptr null_ptr null_ptr refl $ nothing t $ move t (2 ∷ 0 ∷ []) $ fjoin t $ feq_i t (List Val) (vnull ∷ [])
-          (ptr_val null_ptr ∷ []) refl $ fjoin t $
+      (ptr_val null_ptr ∷ []) refl $ fjoin t $
       feq_i t (List Val) (null_word hv ∷ []) (null_word hv ∷ []) refl $ fjoin t $
       fpack t (Valss (RawPtr ∷ P E ∷ [])) (within (shape (owning E)) (null_ptr, (a, tt)) (null_word hv ∷ [])) (vnull ∷ [], (hv ∷ [], tt)) $ fjoin t $
       use1 𝓛 (‵ (Hd.own_val (closed a) (null_word hv ∷ []))) (id⊢ 𝓤 _) $ s)

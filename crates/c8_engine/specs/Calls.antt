@@ -10,8 +10,8 @@ use Rattle.c8_peer.specs.declared.check.Check.{Check}
 use Rattle.c8_peer.specs.declared.heard.Heard.{Heard}
 use Rattle.c8_peer.specs.Opened.{IsOpened}
 use Rattle.c8_peer.specs.Peer.{IsStep}
-use Rattle.c8_peer.specs.State.{Saying, Hello, Welcome, Data, Freeze, Frozen, Cut, Said, Tick, Say, Leave, Decide, Checkpoint, Ticked, Left,
-  Decided, Checked}
+use Rattle.c8_peer.specs.State.{Saying, Hello, Welcome, Data, Freeze, Frozen, Cut, Said, Tick, Say, Leave, Decide, Checkpoint, Ticked, Left}
+use Rattle.c8_peer.specs.State.{Decided, Checked}
 use Rattle.c8_refusals.specs.declared.error.TickError.{TickError}
 use Rattle.c8_refusals.specs.declared.error.Unsayable.{Unsayable}
 use Rattle.c8_refusals.specs.declared.error.LeaveError.{LeaveError}
@@ -24,8 +24,8 @@ use Rattle.c8_embed.specs.Session.{EngineOf, HasCalled, HasSealing, HasDelivered
 use Rattle.c8_embed.specs.declared.session.Undelivered.{Undelivered}
 use Rattle.c8_sealed.specs.declared.keys.Secrets.{Secrets}
 use Rattle.c8_embed.specs.Journal.{disk}
-use Rattle.c8_engine.specs.Codes.{delivered_code, bad_secret_code, sealed_already_code, tick_code, leave_code, decide_code, check_code,
-  turn_code, say_code}
+use Rattle.c8_engine.specs.Codes.{delivered_code, bad_secret_code, sealed_already_code, tick_code, leave_code, decide_code, check_code}
+use Rattle.c8_engine.specs.Codes.{turn_code, say_code}
 
 -- if the handle was open, it still is, and this holds of its session before and after
 abbrev pub IfSession : Option Session → Option Session → (Session → Session → Type 0) → Type 0

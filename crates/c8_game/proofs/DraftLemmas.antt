@@ -1,12 +1,12 @@
 -- How one more line changes a draft.
-use Rattle.std.proofs.Common.{◌≡◌, ℕ, ◌⊎◌, Bool, true, false, not, cond, length, List, [], ◌∷◌, ◌++◌, Option, Some, None, Result, Ok, Err,
-  refl, ap, sym, ◌∙◌, inl, inr, ◌&&◌, ◌||◌, ◌==◌, ◌<◌, ◌≤◌, nat_lt, get_or, arith}
+use Rattle.std.proofs.Common.{◌≡◌, ℕ, ◌⊎◌, Bool, true, false, not, cond, length, List, [], ◌∷◌, ◌++◌, Option, Some, None, Result, Ok, Err}
+use Rattle.std.proofs.Common.{refl, ap, sym, ◌∙◌, inl, inr, ◌&&◌, ◌||◌, ◌==◌, ◌<◌, ◌≤◌, nat_lt, get_or, arith}
 use Rattle.std.specs.Prelude.{slice_set, codes, MatchResult, OnOk, IfErr, is_ok, is_some, is_none, nat_le, slice_index, unwrap_or}
 use Rattle.std.specs.List.{list_any, AllZip}
 use Rattle.std.specs.Result.{result_unwrap_or}
 use Rattle.std.specs.Str.{bytes_eq}
-use Rattle.std.proofs.lemmas.Bool.{cases_Bool, cases_eq, both_ways, false_from_ne_true, eq-eqb, ne_eqb, eqb-false, or_right, and_from,
-  lt-ltb, le-ltb, le-leb, ltb-true, ltb-false}
+use Rattle.std.proofs.lemmas.Bool.{cases_Bool, cases_eq, both_ways, false_from_ne_true, eq-eqb, ne_eqb, eqb-false, or_right, and_from}
+use Rattle.std.proofs.lemmas.Bool.{lt-ltb, le-ltb, le-leb, ltb-true, ltb-false}
 use Rattle.std.proofs.lemmas.List.Folds.{list_any_at}
 use Rattle.std.proofs.lemmas.List.Concat.{flat_map-append}
 use Rattle.std.proofs.lemmas.List.{append-nil}
@@ -18,8 +18,8 @@ use Rattle.c8_game.specs.declared.text.field.Field.{Field}
 use Rattle.c8_game.specs.declared.text.field.Field.TheVariants.{Players, Ipf, Frames, Delay, Window, Seed, Wire, Mask1, Mask2, Mask3, Mask4}
 use Rattle.c8_game.specs.Fields.{fields, owner_of, default_of, field_named, number_of}
 use Rattle.c8_game.specs.GameText.{Item, Blank, Number, Code, Says, is_skipped, number_in, numbers_for, code_in, code_of, rule_of, Tell, Give}
-use Rattle.c8_game.specs.GameFaults.{is_name_and_value, name_in, value_in, names, is_told, field_fault, named_fault, code_fault, line_fault,
-  players_in, is_lacking, is_stray, end_fault}
+use Rattle.c8_game.specs.GameFaults.{is_name_and_value, name_in, value_in, names, is_told, field_fault, named_fault, code_fault, line_fault}
+use Rattle.c8_game.specs.GameFaults.{players_in, is_lacking, is_stray, end_fault}
 use Rattle.c8_game.specs.checked.Draft.{Holds, AddsLine, AreFirst, first_for}
 use Rattle.c8_game.specs.Rules.{Rules, most_program}
 use Rattle.c8_game.specs.checked.Places.{index_of, number_at, untold_number, told_by, listed}
@@ -46,8 +46,14 @@ code_stays items item none = sym (code_more items item ∙ ap (λ more. code_of 
 pub blank_line : (draft : Draft) (line : List ℕ) → is_skipped line ≡ true → AddsLine draft draft line (Ok tt)
 blank_line draft line skipped before items says holds = (
   fault_blank before line skipped,
-  (Blank, skipped, record { numbers = λ field. numbers_stay field items Blank refl ∙ holds.numbers field;
-      program = holds.program ∙ code_stays items Blank refl }),
+  (
+    Blank,
+    skipped,
+    record {
+      numbers = λ field. numbers_stay field items Blank refl ∙ holds.numbers field;
+      program = holds.program ∙ code_stays items Blank refl;
+    },
+  ),
 )
 
 pub ok_unwrapped : {E : Type 0} (r : Result (List ℕ) E) → is_ok r ≡ true → r ≡ Ok (result_unwrap_or r [])
@@ -107,7 +113,7 @@ fault_of_field : (draft : Draft) (before : List (List ℕ)) (items : List Item) 
     → line_fault before line ≡ field_fault field (is_some (number_at draft.values field)) (value_in line)
 fault_of_field draft before items line field says holds said shaped uncoded named =
     fault_named before line said shaped uncoded ∙ ap (λ found. named_fault before found (value_in line)) named
-        ∙ ap (λ again. field_fault field again (value_in line)) (named_before draft field before items says holds)
+    ∙ ap (λ again. field_fault field again (value_in line)) (named_before draft field before items says holds)
 
 -- the field has its first number now, and the others keep theirs
 number_more : (old new : Draft) (items : List Item) (field : Field) (number : ℕ) → length old.values ≡ 11 → Holds old items
@@ -118,11 +124,11 @@ number_more old new items field number size holds fresh set same = record {
   numbers = λ f. elim (cases_eq (index_of f) (index_of field)) [
     | inl here ↦ let is : f ≡ field = same_field f field here in
         rw is (numbers_more field items (Number field number)
-            ∙ ap (λ numbers. numbers ++ number_in field (Number field number)) (holds.numbers field ∙ none_listed (number_at old.values field) fresh)
+        ∙ ap (λ numbers. numbers ++ number_in field (Number field number)) (holds.numbers field ∙ none_listed (number_at old.values field) fresh)
         ∙ ap (λ same_word. cond same_word (number ∷ []) []) (itself field)
         ∙ ap listed (sym (ap (λ values. number_at values field) set ∙ number_at-set_same old.values field number size)))
     | inr differ ↦ numbers_stay f items (Number field number) (ap (λ same_word. cond same_word (number ∷ []) []) (apart f field differ))
-    ∙ holds.numbers f
+        ∙ holds.numbers f
         ∙ ap listed (sym (ap (λ values. number_at values f) set ∙ number_at-set_other old.values field f number differ))
   ];
   program = same ∙ holds.program ∙ code_stays items (Number field number) refl;
@@ -180,9 +186,9 @@ lacks_same : (draft : Draft) (items : List Item) (players : ℕ) → Holds draft
     fields ≡ list_any (is_lacking items) fields
 lacks_same draft items players holds told =
     any_same (λ field. nat_le (owner_of field) players && is_none (default_of field) && not (is_some (number_at draft.values field)))
-        (is_lacking items) fields (λ field.
+    (is_lacking items) fields (λ field.
     ap (λ count. nat_le (owner_of field) count && is_none (default_of field) && not (is_some (number_at draft.values field)))
-        (told ∙ first_same draft items holds Players)
+    (told ∙ first_same draft items holds Players)
     ∙ ap (λ some. nat_le (owner_of field) (players_in items) && is_none (default_of field) && not some) (sym (told_same draft items field holds)))
 
 strays_same : (draft : Draft) (items : List Item) (players : ℕ) → Holds draft items → players ≡ told_by draft.values Players
@@ -217,10 +223,10 @@ finds_range draft items players lacks strays holds told is none some either =
     let nonempty : (length (code_of items) == 0) ≡ false = ne_eqb (length (code_of items)) 0 (λ empty. omega (arith, size_same draft items holds)) in
     elim either [
       | inl long ↦ let past : nat_lt most_program (length (code_of items)) ≡ true =
-      lt-ltb most_program (length (code_of items)) (omega (arith, size_same draft items holds)) in
+          lt-ltb most_program (length (code_of items)) (omega (arith, size_same draft items holds)) in
           rw (lacking, nonempty, past) refl
       | inr stray ↦ let straying : list_any (is_stray items) fields ≡ true =
-      sym (strays_same draft items players holds told) ∙ sym stray.0 ∙ stray.1 in
+          sym (strays_same draft items players holds told) ∙ sym stray.0 ∙ stray.1 in
           rw (lacking, nonempty, or_right (nat_lt most_program (length (code_of items))) (list_any (is_stray items) fields) straying) refl
     ]
 
@@ -234,7 +240,7 @@ finds_none draft items players lacks strays holds told is none some fits stray s
     let lacking : list_any (is_lacking items) fields ≡ false = sym (lacks_same draft items players holds told) ∙ sym is ∙ none in
     let nonempty : (length (code_of items) == 0) ≡ false = ne_eqb (length (code_of items)) 0 (λ empty. omega (arith, size_same draft items holds)) in
     let within : nat_lt most_program (length (code_of items)) ≡ false =
-        le-ltb most_program (length (code_of items)) (omega (arith, size_same draft items holds)) in
+    le-ltb most_program (length (code_of items)) (omega (arith, size_same draft items holds)) in
     let straying : list_any (is_stray items) fields ≡ false = sym (strays_same draft items players holds told) ∙ sym stray ∙ straight in
     rw (lacking, nonempty, within, straying) refl
 
@@ -310,7 +316,7 @@ untold_default owner players default told lacking there untold =
     has_default default (false_from_ne_true (is_none default) (λ none.
     both_ways (nat_le owner players && is_none default && not told) lacking
     (and_from (nat_le owner players && is_none default) (not told)
-        (and_from (nat_le owner players) (is_none default) (le-leb owner players there) none) (rw untold refl))))
+    (and_from (nat_le owner players) (is_none default) (le-leb owner players there) none) (rw untold refl))))
 
 -- no mask has a default
 untold_mask : (field : Field) → 0 < owner_of field → untold_number field ≡ 0
@@ -334,7 +340,7 @@ tells_rule : (items : List Item) (rules : Rules) (field : Field) → AreFirst it
 tells_rule items rules field are once fine there =
     elim (cases_Bool (is_told items field)) [
       | inl told ↦ inl (single (numbers_for field items) (untold_number field) (ltb-true 0 (length (numbers_for field items)) told) once
-      ∙ ap (λ number. number ∷ []) (rule_first items rules are field))
+          ∙ ap (λ number. number ∷ []) (rule_first items rules are field))
       | inr untold ↦ let none = none_of (numbers_for field items) untold in
           let default = untold_default (owner_of field) (players_in items) (default_of field) (is_told items field) fine there untold in
           inr (none, default ∙ ap Some (sym (first_untold items field none) ∙ rule_first items rules are field))
@@ -348,14 +354,14 @@ stray_untold owner players told straying beyond =
 pub gives_rules : (items : List Item) (rules : Rules) → AreOnce items → end_fault items ≡ None → AreFirst items rules → Give items rules
 gives_rules items rules once fine are =
     let tests = end_tests (list_any (is_lacking items) fields) (length (code_of items) == 0) (nat_lt most_program (length (code_of items)))
-        (list_any (is_stray items) fields) fine in
+    (list_any (is_stray items) fields) fine in
     let some : ¬ (length (code_of items) ≡ 0) = eqb-false (length (code_of items)) 0 tests.1 in
     let fits : length (code_of items) ≤ most_program = ltb-false most_program (length (code_of items)) tests.2 in
     record {
       once = λ field there. tells_rule items rules field are (once field) (fails_each (is_lacking items) tests.0 field) (omega (arith, are.players));
       nowhere = λ field beyond.
           let untold = stray_untold (owner_of field) (players_in items) (is_told items field) (fails_each (is_stray items) tests.3 field)
-              (omega (arith, are.players)) in
+          (omega (arith, are.players)) in
           let none = none_of (numbers_for field items) untold in
           (none, sym (rule_first items rules are field) ∙ first_untold items field none ∙ untold_mask field (omega arith));
       masks = ap length are.masks;

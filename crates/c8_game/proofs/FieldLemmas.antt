@@ -1,6 +1,6 @@
 -- Numbers by field, after one of them is set.
-use Rattle.std.proofs.Common.{◌≡◌, ◌≢◌, ℕ, ◌<◌, nat_eq, cond, length, Bool, true, false, List, [], ◌∷◌, Option, Some, None, refl, ap, sym,
-  ◌∙◌, arith, get_or-set_same, get_or-set_other, inl, inr}
+use Rattle.std.proofs.Common.{◌≡◌, ◌≢◌, ℕ, ◌<◌, nat_eq, cond, length, Bool, true, false, List, [], ◌∷◌, Option, Some, None, refl, ap, sym}
+use Rattle.std.proofs.Common.{◌∙◌, arith, get_or-set_same, get_or-set_other, inl, inr}
 use Rattle.std.proofs.lemmas.Bool.{cases_Bool, cases_eq, cond-true, cond-false, false_from_ne_true}
 use Rattle.std.proofs.lemmas.Option.{same_Some}
 use Rattle.std.proofs.lemmas.Slice.Eq.{bytes_eq-Decides}
@@ -65,7 +65,7 @@ ranges_kept values field number size kept within f n has =
     elim (cases_eq (index_of f) (index_of field)) [
       | inl same ↦ let is : f ≡ field = same_field f field same in
           let set_here : number_at (slice_set values (index_of field) (Some number)) f ≡ Some number =
-              rw is (number_at-set_same values field number size) in
+          rw is (number_at-set_same values field number size) in
           let value : Some number ≡ Some n = sym set_here ∙ has in
           let number_is : number ≡ n = cc in
           rw (is, ← number_is) within
@@ -92,7 +92,7 @@ found_passes p [] x found = absurd (cc)
 found_passes p (first ∷ more) x found =
     elim (cases_Bool (p first)) [
       | inl passes ↦ let is : first ≡ x = same_Some first x (sym (cond-true (p first) (Some first) (find p more) passes) ∙ found) in
-      ap p (sym is) ∙ passes
+          ap p (sym is) ∙ passes
       | inr fails ↦ found_passes p more x (sym (cond-false (p first) (Some first) (find p more) fails) ∙ found)
     ]
 

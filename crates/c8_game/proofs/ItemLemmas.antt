@@ -1,12 +1,12 @@
 -- What a line says, compared with the name and the value that are read from it.
-use Rattle.std.proofs.Common.{◌≡◌, ℕ, ◌+◌, ◌<◌, Bool, true, false, not, cond, length, List, [], ◌∷◌, ◌++◌, ◌&&◌, ◌||◌, Some, None, Ok, refl,
-  ap, sym, ◌∙◌, arith, add_comm, add-one, take, drop, get_or, length-append}
+use Rattle.std.proofs.Common.{◌≡◌, ℕ, ◌+◌, ◌<◌, Bool, true, false, not, cond, length, List, [], ◌∷◌, ◌++◌, ◌&&◌, ◌||◌, Some, None, Ok, refl}
+use Rattle.std.proofs.Common.{ap, sym, ◌∙◌, arith, add_comm, add-one, take, drop, get_or, length-append}
 use Rattle.std.specs.Prelude.{codes, is_some, nat_lt, nat_le, position}
 use Rattle.std.specs.Char.{is_ascii_digit}
 use Rattle.std.specs.List.{position_or_len, list_any, list_all, AllZip, AllPass}
 use Rattle.std.specs.Str.{bytes_eq}
-use Rattle.std.proofs.lemmas.Bool.{eqb-true, and_parts, or_parts, and_from, or_left, both_ways, false_from_ne_true, lt-ltb, ltb-true,
-  le-leb, leb-true}
+use Rattle.std.proofs.lemmas.Bool.{eqb-true, and_parts, or_parts, and_from, or_left, both_ways, false_from_ne_true, lt-ltb, ltb-true}
+use Rattle.std.proofs.lemmas.Bool.{le-leb, leb-true}
 use Rattle.std.proofs.lemmas.List.Folds.{Any-from_list_any}
 use Rattle.std.proofs.lemmas.List.Sums.{AllPass-from_list_all, split_at_first, passes_at_first}
 use Rattle.std.proofs.lemmas.Slice.Eq.{bytes_eq-Decides}
@@ -20,8 +20,8 @@ use Rattle.c8_game.specs.GameText.{Item, Blank, Number, Code, Says, is_skipped, 
 use Rattle.c8_game.specs.declared.error.GameError.TheVariants.{Line, Range, Twice, Hex}
 use Rattle.c8_game.proofs.FieldLemmas.{named_itself, named_word}
 use Rattle.c8_game.proofs.LineLemmas.{within_if_some}
-use Rattle.c8_game.specs.GameFaults.{is_space, name_in, value_in, is_name_and_value, names, is_told, is_within, field_fault, named_fault,
-  code_fault, line_fault}
+use Rattle.c8_game.specs.GameFaults.{is_space, name_in, value_in, is_name_and_value, names, is_told, is_within, field_fault, named_fault}
+use Rattle.c8_game.specs.GameFaults.{code_fault, line_fault}
 
 -- ---- a name, one space and a value
 
@@ -63,11 +63,11 @@ value_of name value spaceless = rw (space_after name value spaceless) (drop_fron
 pub in_two : (line : List ℕ) → is_name_and_value line ≡ true → line ≡ name_in line ++ 32 ∷ value_in line
 in_two line shaped =
     let both = (and_parts (is_some (position is_space line) && nat_lt 0 (length (value_in line))) (not (list_any is_space (value_in line)))
-        shaped).0 in
+    shaped).0 in
     let found = (and_parts (is_some (position is_space line)) (nat_lt 0 (length (value_in line))) both).0 in
     let within : position_or_len is_space line < length line = within_if_some is_space line found in
     let space : get_or line (position_or_len is_space line) 0 ≡ 32 =
-        eqb-true (get_or line (position_or_len is_space line) 0) 32 (passes_at_first is_space line 0 within) in
+    eqb-true (get_or line (position_or_len is_space line) 0) 32 (passes_at_first is_space line 0 within) in
     split_at_first is_space line 0 within ∙ ap (λ byte. name_in line ++ byte ∷ value_in line) space
 
 -- ---- values have no space in them, and are not empty
@@ -94,12 +94,12 @@ pair_shaped : (name value : List ℕ) → list_any is_space name ≡ false → (
     → is_name_and_value (name ++ 32 ∷ value) ≡ true
 pair_shaped name value plain shape =
     let within : nat_lt (length name) (length (name ++ 32 ∷ value)) ≡ true =
-        lt-ltb (length name) (length (name ++ 32 ∷ value)) (omega (arith, length-append name (32 ∷ value))) in
+    lt-ltb (length name) (length (name ++ 32 ∷ value)) (omega (arith, length-append name (32 ∷ value))) in
     let found : is_some (position is_space (name ++ 32 ∷ value)) ≡ true = rw (space_after name value plain, within) refl in
     let some : nat_lt 0 (length (value_in (name ++ 32 ∷ value))) ≡ true = rw (value_of name value plain) (lt-ltb 0 (length value) shape.0) in
     let bare : not (list_any is_space (value_in (name ++ 32 ∷ value))) ≡ true = rw (value_of name value plain, shape.1) refl in
     and_from (is_some (position is_space (name ++ 32 ∷ value)) && nat_lt 0 (length (value_in (name ++ 32 ∷ value))))
-        (not (list_any is_space (value_in (name ++ 32 ∷ value))))
+    (not (list_any is_space (value_in (name ++ 32 ∷ value))))
     (and_from (is_some (position is_space (name ++ 32 ∷ value))) (nat_lt 0 (length (value_in (name ++ 32 ∷ value)))) found some) bare
 
 -- ---- the judge on a line that says an item
@@ -170,14 +170,19 @@ pub fault_number : (before : List (List ℕ)) (line : List ℕ) (field : Field) 
     → line_fault before line ≡ cond (list_any (names field) before) (Some Twice) None
 fault_number before line field number (value, is, spelled, spells, lies) =
     let within : is_within field (number_of field value) ≡ true = rw spells (within_range field number lies) in
-    rw (is, fault_pair before (word_of field) value (word_said field value) (word_spaceless field)
-        (number_shape (is_mask field) value spelled), word_uncoded field, named_itself field)
+    rw (
+      is,
+      fault_pair before (word_of field) value (word_said field value) (word_spaceless field)
+          (number_shape (is_mask field) value spelled),
+      word_uncoded field,
+      named_itself field,
+    )
     (field_faultless (is_mask field) (is_number field value) (is_within field (number_of field value)) (list_any (names field) before) spelled within)
 
 pub fault_code : (before : List (List ℕ)) (line bytes : List ℕ) → Says line (Code bytes) → line_fault before line ≡ None
 fault_code before line bytes (value, is, decoded, some) =
     let pair : line_fault before (codes "code" ++ 32 ∷ value) ≡ code_fault value =
-        fault_pair before (codes "code") value refl refl (code_shape value bytes decoded some) in
+    fault_pair before (codes "code") value refl refl (code_shape value bytes decoded some) in
     let fine : code_fault value ≡ None = rw decoded refl in
     ap (line_fault before) is ∙ pair ∙ fine
 
@@ -192,8 +197,13 @@ pub says_number : (line : List ℕ) (field : Field) (again : Bool) → is_name_a
 says_number line field again shaped named fine =
     let tests = field_tests (is_mask field) (is_number field (value_in line)) (is_within field (number_of field (value_in line))) again fine in
     let word : name_in line ≡ word_of field = named_word (name_in line) field named in (
-      (value_in line, in_two line shaped ∙ ap (λ name. name ++ 32 ∷ value_in line) word, tests.0, refl,
-          range_within field (number_of field (value_in line)) tests.1),
+      (
+        value_in line,
+        in_two line shaped ∙ ap (λ name. name ++ 32 ∷ value_in line) word,
+        tests.0,
+        refl,
+        range_within field (number_of field (value_in line)) tests.1,
+      ),
       tests.2,
     )
 
@@ -202,9 +212,9 @@ pub says_code : (line bytes : List ℕ) → is_name_and_value line ≡ true → 
 says_code line bytes shaped coded decoded =
     let word : name_in line ≡ codes "code" = (bytes_eq-Decides (name_in line) (codes "code")).0 coded in
     let both = (and_parts (is_some (position is_space line) && nat_lt 0 (length (value_in line))) (not (list_any is_space (value_in line)))
-        shaped).0 in
+    shaped).0 in
     let some : 0 < length (value_in line) = ltb-true 0 (length (value_in line))
-        (and_parts (is_some (position is_space line)) (nat_lt 0 (length (value_in line))) both).1 in
+    (and_parts (is_some (position is_space line)) (nat_lt 0 (length (value_in line))) both).1 in
     let digits = decode_of-ok (value_in line) bytes decoded in
     (value_in line, in_two line shaped ∙ ap (λ name. name ++ 32 ∷ value_in line) word, decoded, omega (arith, digits.2))
 

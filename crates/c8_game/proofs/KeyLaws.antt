@@ -21,8 +21,10 @@ in_right : (one other key : ℕ) → HasKey other key → HasKey (bit_or one oth
 in_right one other key has = omega (arith, bit_at_or one other key, bit_at-lt one key)
 
 in_both : (one other key : ℕ) → HasKey (bit_and one other) key → HasKey one key × HasKey other key
-in_both one other key has = (omega (arith, bit_at_and one other key, bit_at-lt one key, bit_at-lt other key),
-    omega (arith, bit_at_and one other key, bit_at-lt one key, bit_at-lt other key))
+in_both one other key has = (
+  omega (arith, bit_at_and one other key, bit_at-lt one key, bit_at-lt other key),
+  omega (arith, bit_at_and one other key, bit_at-lt one key, bit_at-lt other key),
+)
 
 from_both : (one other key : ℕ) → HasKey one key → HasKey other key → HasKey (bit_and one other) key
 from_both one other key first second = omega (arith, bit_at_and one other key)
@@ -34,7 +36,7 @@ held_at rules row key place ranges has =
     elim (cases_lt place rules.players) [
       | inl there ↦ record { place = place; in_game = there; held = both.0; counts = both.1 }
       | inr beyond ↦ let none : bit_at (slice_index rules.masks place) key ≡ 0 =
-      ap (λ mask. bit_at mask key) (ranges.absent place beyond) ∙ bit_at-zero key in absurd (omega (arith, both.1))
+          ap (λ mask. bit_at mask key) (ranges.absent place beyond) ∙ bit_at-zero key in absurd (omega (arith, both.1))
     ]
 
 joined_is_held : (rules : Rules) (row : Row) (key : ℕ) → AreInRange rules → HasKey (joined rules row) key → IsHeld rules row key
@@ -44,7 +46,7 @@ joined_is_held rules row key ranges has =
       | inr more ↦ elim (in_either (masked rules row 1) (bit_or (masked rules row 2) (masked rules row 3)) key more) [
         | inl two ↦ held_at rules row key 1 ranges two
         | inr last ↦ elim (in_either (masked rules row 2) (masked rules row 3) key last)
-        [ inl three ↦ held_at rules row key 2 ranges three | inr four ↦ held_at rules row key 3 ranges four ]
+            [ inl three ↦ held_at rules row key 2 ranges three | inr four ↦ held_at rules row key 3 ranges four ]
       ]
     ]
 
@@ -62,7 +64,7 @@ has_at rules row key place there has =
         | inr later ↦ in_right (masked rules row 1) three_four key (elim (cases_eq place 2) [
           | inl is ↦ in_left (masked rules row 2) (masked rules row 3) key (rw is at has)
           | inr last ↦ let is : place ≡ 3 = last_place place there past later last in
-          in_right (masked rules row 2) (masked rules row 3) key (rw is at has)
+              in_right (masked rules row 2) (masked rules row 3) key (rw is at has)
         ])
       ])
     ]
@@ -70,7 +72,7 @@ has_at rules row key place there has =
 held_is_joined : (rules : Rules) (row : Row) (key : ℕ) → AreInRange rules → IsHeld rules row key → HasKey (joined rules row) key
 held_is_joined rules row key ranges held =
     has_at rules row key held.place (omega (arith, held.in_game, ranges.at_most_four))
-        (from_both (set_at row held.place) (slice_index rules.masks held.place) key held.held held.counts)
+    (from_both (set_at row held.place) (slice_index rules.masks held.place) key held.held held.counts)
 
 pub joined_holds : (rules : Rules) (row : Row) (key : ℕ) → AreInRange rules → HasKey (joined rules row) key ↔ IsHeld rules row key
 joined_holds rules row key ranges = (joined_is_held rules row key ranges, held_is_joined rules row key ranges)

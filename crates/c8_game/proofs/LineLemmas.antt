@@ -1,6 +1,6 @@
 -- The first line of a text, by the place of its first line feed; and the line at a later place.
-use Rattle.std.proofs.Common.{◌≡◌, ℕ, ◌<◌, ◌≤◌, zero, suc, Bool, nat_eq, length, List, [], ◌∷◌, Option, None, Some, Bor, MatchOption, refl,
-  sym, ap, ◌∙◌, arith, rules, inl, inr}
+use Rattle.std.proofs.Common.{◌≡◌, ℕ, ◌<◌, ◌≤◌, zero, suc, Bool, nat_eq, length, List, [], ◌∷◌, Option, None, Some, Bor, MatchOption, refl}
+use Rattle.std.proofs.Common.{sym, ap, ◌∙◌, arith, rules, inl, inr}
 use Rattle.std.specs.Iterator.{Yields, YieldsFirstRef}
 use Rattle.std.specs.List.{slice_get, position, position_or_len, before_first, after_first, slice_split}
 use Rattle.std.specs.Option.{IsSome, option_map}
@@ -40,7 +40,7 @@ pub lines-unfed : (text : List ℕ) → 0 < length text → position (λ b. nat_
 lines-unfed text some unfed =
     let past = past_if_none (λ b. nat_eq b 10) text unfed in
     ap lines_of_parts (slice_split_none (λ b. nat_eq b 10) text
-        (λ k d within. fails_before_first (λ b. nat_eq b 10) text k d (omega arith))) ∙ one_part text some
+    (λ k d within. fails_before_first (λ b. nat_eq b 10) text k d (omega arith))) ∙ one_part text some
 
 one_less : (line : Option (Bor (List ℕ))) (passed place : ℕ) → MatchOption line (suc passed ≤ suc place) (λ _. suc passed ≡ suc place)
     → MatchOption line (passed ≤ place) (λ _. passed ≡ place)

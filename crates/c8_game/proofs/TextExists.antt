@@ -1,6 +1,6 @@
 -- Rules in range have a text that spells them: one line for each field and one line of code, each with a line feed.
-use Rattle.std.proofs.Common.{◌≡◌, ℕ, zero, suc, ◌+◌, ◌-◌, ◌*◌, ◌/◌, ◌%◌, ◌^◌, ◌<◌, ◌≤◌, Bool, true, false, cond, length, List, [], ◌∷◌,
-  ◌++◌, get_or, refl, ap, sym, ◌∙◌, inl, inr, arith, nat_lt, ◌&&◌, ◌==◌}
+use Rattle.std.proofs.Common.{◌≡◌, ℕ, zero, suc, ◌+◌, ◌-◌, ◌*◌, ◌/◌, ◌%◌, ◌^◌, ◌<◌, ◌≤◌, Bool, true, false, cond, length, List, [], ◌∷◌}
+use Rattle.std.proofs.Common.{◌++◌, get_or, refl, ap, sym, ◌∙◌, inl, inr, arith, nat_lt, ◌&&◌, ◌==◌}
 use Rattle.std.specs.Prelude.{codes, nat_le, flat_map, map, slice_index}
 use Rattle.std.specs.Char.{is_ascii_digit}
 use Rattle.std.specs.Int.{to_be_bytes, w16}
@@ -58,7 +58,7 @@ padded_digits (suc places) number small =
     let less : number % 10 ^ places < 10 ^ places = let some = some_power places in omega arith in
     and_from (is_ascii_digit (number / 10 ^ places + 48)) (list_all is_ascii_digit (padded places (number % 10 ^ places)))
     (and_from (nat_le 48 (number / 10 ^ places + 48)) (nat_le (number / 10 ^ places + 48) 57)
-        (le-leb 48 (number / 10 ^ places + 48) (omega arith)) (le-leb (number / 10 ^ places + 48) 57 (omega arith)))
+    (le-leb 48 (number / 10 ^ places + 48) (omega arith)) (le-leb (number / 10 ^ places + 48) 57 (omega arith)))
     (padded_digits places (number % 10 ^ places) less)
 
 padded_number : (places number : ℕ) → number < 10 ^ places → decimal_number (padded places number) ≡ number
@@ -192,7 +192,7 @@ stripped line inner =
     let other : (get_or line (length line - 1) 0 == 13) ≡ false =
     elim (cases_lt (length line - 1) (length line)) [
       | inl within ↦ let above = ltb-true 13 (get_or line (length line - 1) 0)
-      (AllPass-from_list_all is_inner line inner (length line - 1) 0 within) in
+          (AllPass-from_list_all is_inner line inner (length line - 1) 0 within) in
           ne_eqb (get_or line (length line - 1) 0) 13 (λ return. omega arith)
       | inr past ↦ rw (get_or_past line (length line - 1) 0 past) refl
     ] in
@@ -261,19 +261,42 @@ nowhere_2 rules ranges players Mask4 beyond = (refl, ranges.absent 3 (omega arit
 
 text_2 : (rules : Rules) → AreInRange rules → rules.players ≡ 2 → (text : List ℕ) × Spells text rules
 text_2 rules ranges players =
-    let says : AllZip Says (map line_for (items_2 rules)) (items_2 rules) =
-        (number_said Players rules.players (ranges.at_least_two, ranges.at_most_four),
-        (number_said Ipf rules.ipf (ranges.some_instructions, ranges.instructions),
-        (number_said Frames rules.frames (ranges.some_frames, ranges.frames),
-        (number_said Delay rules.delay (omega arith, ranges.delay),
-        (number_said Window rules.window (ranges.some_window, ranges.window),
-        (number_said Seed rules.seed (omega arith, omega (arith, ranges.seed)),
-        (number_said Wire (version_number rules.wire) (version_within rules.wire),
-        (number_said Mask1 (slice_index rules.masks 0) (omega arith, omega (arith, ranges.key_sets 0)),
-        (number_said Mask2 (slice_index rules.masks 1) (omega arith, omega (arith, ranges.key_sets 1)),
-        (code_said rules.program ranges.some_program ranges.bytes, tt)))))))))) in
-    let gives : Give (items_2 rules) rules = record { once = once_2 rules players; nowhere = nowhere_2 rules ranges players;
-        masks = ranges.masks; program = sym (append-nil rules.program); some_code = ranges.some_program; most_code = ranges.program } in
+    let says : AllZip Says (map line_for (items_2 rules)) (items_2 rules) = (
+      number_said Players rules.players (ranges.at_least_two, ranges.at_most_four),
+      (
+        number_said Ipf rules.ipf (ranges.some_instructions, ranges.instructions),
+        (
+          number_said Frames rules.frames (ranges.some_frames, ranges.frames),
+          (
+            number_said Delay rules.delay (omega arith, ranges.delay),
+            (
+              number_said Window rules.window (ranges.some_window, ranges.window),
+              (
+                number_said Seed rules.seed (omega arith, omega (arith, ranges.seed)),
+                (
+                  number_said Wire (version_number rules.wire) (version_within rules.wire),
+                  (
+                    number_said Mask1 (slice_index rules.masks 0) (omega arith, omega (arith, ranges.key_sets 0)),
+                    (
+                      number_said Mask2 (slice_index rules.masks 1) (omega arith, omega (arith, ranges.key_sets 1)),
+                      (code_said rules.program ranges.some_program ranges.bytes, tt),
+                    ),
+                  ),
+                ),
+              ),
+            ),
+          ),
+        ),
+      ),
+    ) in
+    let gives : Give (items_2 rules) rules = record {
+      once = once_2 rules players;
+      nowhere = nowhere_2 rules ranges players;
+      masks = ranges.masks;
+      program = sym (append-nil rules.program);
+      some_code = ranges.some_program;
+      most_code = ranges.program;
+    } in
     spelled (items_2 rules) rules says gives
 
 abbrev items_3 : Rules → List Item
@@ -310,20 +333,45 @@ nowhere_3 rules ranges players Mask4 beyond = (refl, ranges.absent 3 (omega arit
 
 text_3 : (rules : Rules) → AreInRange rules → rules.players ≡ 3 → (text : List ℕ) × Spells text rules
 text_3 rules ranges players =
-    let says : AllZip Says (map line_for (items_3 rules)) (items_3 rules) =
-        (number_said Players rules.players (ranges.at_least_two, ranges.at_most_four),
-        (number_said Ipf rules.ipf (ranges.some_instructions, ranges.instructions),
-        (number_said Frames rules.frames (ranges.some_frames, ranges.frames),
-        (number_said Delay rules.delay (omega arith, ranges.delay),
-        (number_said Window rules.window (ranges.some_window, ranges.window),
-        (number_said Seed rules.seed (omega arith, omega (arith, ranges.seed)),
-        (number_said Wire (version_number rules.wire) (version_within rules.wire),
-        (number_said Mask1 (slice_index rules.masks 0) (omega arith, omega (arith, ranges.key_sets 0)),
-        (number_said Mask2 (slice_index rules.masks 1) (omega arith, omega (arith, ranges.key_sets 1)),
-        (number_said Mask3 (slice_index rules.masks 2) (omega arith, omega (arith, ranges.key_sets 2)),
-        (code_said rules.program ranges.some_program ranges.bytes, tt))))))))))) in
-    let gives : Give (items_3 rules) rules = record { once = once_3 rules players; nowhere = nowhere_3 rules ranges players;
-        masks = ranges.masks; program = sym (append-nil rules.program); some_code = ranges.some_program; most_code = ranges.program } in
+    let says : AllZip Says (map line_for (items_3 rules)) (items_3 rules) = (
+      number_said Players rules.players (ranges.at_least_two, ranges.at_most_four),
+      (
+        number_said Ipf rules.ipf (ranges.some_instructions, ranges.instructions),
+        (
+          number_said Frames rules.frames (ranges.some_frames, ranges.frames),
+          (
+            number_said Delay rules.delay (omega arith, ranges.delay),
+            (
+              number_said Window rules.window (ranges.some_window, ranges.window),
+              (
+                number_said Seed rules.seed (omega arith, omega (arith, ranges.seed)),
+                (
+                  number_said Wire (version_number rules.wire) (version_within rules.wire),
+                  (
+                    number_said Mask1 (slice_index rules.masks 0) (omega arith, omega (arith, ranges.key_sets 0)),
+                    (
+                      number_said Mask2 (slice_index rules.masks 1) (omega arith, omega (arith, ranges.key_sets 1)),
+                      (
+                        number_said Mask3 (slice_index rules.masks 2) (omega arith, omega (arith, ranges.key_sets 2)),
+                        (code_said rules.program ranges.some_program ranges.bytes, tt),
+                      ),
+                    ),
+                  ),
+                ),
+              ),
+            ),
+          ),
+        ),
+      ),
+    ) in
+    let gives : Give (items_3 rules) rules = record {
+      once = once_3 rules players;
+      nowhere = nowhere_3 rules ranges players;
+      masks = ranges.masks;
+      program = sym (append-nil rules.program);
+      some_code = ranges.some_program;
+      most_code = ranges.program;
+    } in
     spelled (items_3 rules) rules says gives
 
 abbrev items_4 : Rules → List Item
@@ -360,21 +408,48 @@ nowhere_4 rules ranges players Mask4 beyond = absurd (omega arith)
 
 text_4 : (rules : Rules) → AreInRange rules → rules.players ≡ 4 → (text : List ℕ) × Spells text rules
 text_4 rules ranges players =
-    let says : AllZip Says (map line_for (items_4 rules)) (items_4 rules) =
-        (number_said Players rules.players (ranges.at_least_two, ranges.at_most_four),
-        (number_said Ipf rules.ipf (ranges.some_instructions, ranges.instructions),
-        (number_said Frames rules.frames (ranges.some_frames, ranges.frames),
-        (number_said Delay rules.delay (omega arith, ranges.delay),
-        (number_said Window rules.window (ranges.some_window, ranges.window),
-        (number_said Seed rules.seed (omega arith, omega (arith, ranges.seed)),
-        (number_said Wire (version_number rules.wire) (version_within rules.wire),
-        (number_said Mask1 (slice_index rules.masks 0) (omega arith, omega (arith, ranges.key_sets 0)),
-        (number_said Mask2 (slice_index rules.masks 1) (omega arith, omega (arith, ranges.key_sets 1)),
-        (number_said Mask3 (slice_index rules.masks 2) (omega arith, omega (arith, ranges.key_sets 2)),
-        (number_said Mask4 (slice_index rules.masks 3) (omega arith, omega (arith, ranges.key_sets 3)),
-        (code_said rules.program ranges.some_program ranges.bytes, tt)))))))))))) in
-    let gives : Give (items_4 rules) rules = record { once = once_4 rules players; nowhere = nowhere_4 rules ranges players;
-        masks = ranges.masks; program = sym (append-nil rules.program); some_code = ranges.some_program; most_code = ranges.program } in
+    let says : AllZip Says (map line_for (items_4 rules)) (items_4 rules) = (
+      number_said Players rules.players (ranges.at_least_two, ranges.at_most_four),
+      (
+        number_said Ipf rules.ipf (ranges.some_instructions, ranges.instructions),
+        (
+          number_said Frames rules.frames (ranges.some_frames, ranges.frames),
+          (
+            number_said Delay rules.delay (omega arith, ranges.delay),
+            (
+              number_said Window rules.window (ranges.some_window, ranges.window),
+              (
+                number_said Seed rules.seed (omega arith, omega (arith, ranges.seed)),
+                (
+                  number_said Wire (version_number rules.wire) (version_within rules.wire),
+                  (
+                    number_said Mask1 (slice_index rules.masks 0) (omega arith, omega (arith, ranges.key_sets 0)),
+                    (
+                      number_said Mask2 (slice_index rules.masks 1) (omega arith, omega (arith, ranges.key_sets 1)),
+                      (
+                        number_said Mask3 (slice_index rules.masks 2) (omega arith, omega (arith, ranges.key_sets 2)),
+                        (
+                          number_said Mask4 (slice_index rules.masks 3) (omega arith, omega (arith, ranges.key_sets 3)),
+                          (code_said rules.program ranges.some_program ranges.bytes, tt),
+                        ),
+                      ),
+                    ),
+                  ),
+                ),
+              ),
+            ),
+          ),
+        ),
+      ),
+    ) in
+    let gives : Give (items_4 rules) rules = record {
+      once = once_4 rules players;
+      nowhere = nowhere_4 rules ranges players;
+      masks = ranges.masks;
+      program = sym (append-nil rules.program);
+      some_code = ranges.some_program;
+      most_code = ranges.program;
+    } in
     spelled (items_4 rules) rules says gives
 
 pub text_exists : (rules : Rules) → AreInRange rules → (text : List ℕ) × Spells text rules

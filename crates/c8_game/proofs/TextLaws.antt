@@ -1,6 +1,6 @@
 -- A text spells at most one game, and it spells one exactly if nothing refuses it.
-use Rattle.std.proofs.Common.{◌≡◌, ℕ, ◌<◌, ◌≤◌, ◌⊎◌, true, false, not, cond, length, List, [], ◌∷◌, ◌++◌, Some, None, Ok, refl, ap, sym,
-  ◌∙◌, inl, inr, append_assoc, length-append, arith, nat_lt, ◌==◌, ◌&&◌, get_or}
+use Rattle.std.proofs.Common.{◌≡◌, ℕ, ◌<◌, ◌≤◌, ◌⊎◌, true, false, not, cond, length, List, [], ◌∷◌, ◌++◌, Some, None, Ok, refl, ap, sym}
+use Rattle.std.proofs.Common.{◌∙◌, inl, inr, append_assoc, length-append, arith, nat_lt, ◌==◌, ◌&&◌, get_or}
 use Rattle.std.specs.Prelude.{codes, is_ok, is_none, nat_le, slice_index}
 use Rattle.std.specs.List.{AllZip, list_any}
 use Rattle.std.specs.Result.{result_unwrap_or}
@@ -17,18 +17,18 @@ use Rattle.c8_game.specs.declared.text.field.Field.{Field}
 use Rattle.c8_game.specs.declared.text.field.Field.TheVariants.{Players, Ipf, Frames, Delay, Window, Seed, Wire, Mask1, Mask2, Mask3, Mask4}
 use Rattle.c8_game.specs.checked.Draft.{AreFirst, first_for}
 use Rattle.c8_game.specs.Faults.{AreFaultless}
-use Rattle.c8_game.specs.checked.FaultLaws.{none_or_some, faultless_none, faultless_more, faultless_line, first_or_faultless,
-  faultless_or_first, one_first}
+use Rattle.c8_game.specs.checked.FaultLaws.{none_or_some, faultless_none, faultless_more, faultless_line, first_or_faultless}
+use Rattle.c8_game.specs.checked.FaultLaws.{faultless_or_first, one_first}
 use Rattle.c8_game.specs.Fields.{fields, word_of, owner_of, default_of, field_named, is_same, number_of, IsWithin}
 use Rattle.c8_game.specs.GameText.{Item, Blank, Number, Code, Says, is_skipped, number_in, numbers_for, code_of, rule_of, Tell, Give, Spells}
-use Rattle.c8_game.specs.GameFaults.{is_space, is_name_and_value, name_in, value_in, names, is_told, code_fault, named_fault, field_fault,
-  line_fault, players_in, is_lacking, is_stray, end_fault, IsRefused}
+use Rattle.c8_game.specs.GameFaults.{is_space, is_name_and_value, name_in, value_in, names, is_told, code_fault, named_fault, field_fault}
+use Rattle.c8_game.specs.GameFaults.{line_fault, players_in, is_lacking, is_stray, end_fault, IsRefused}
 use Rattle.c8_game.specs.Rules.{Rules, most_program}
 use Rattle.c8_game.specs.declared.wire.WireVersion.{WireVersion}
 use Rattle.c8_game.proofs.DraftLemmas.{AreOnce, ok_unwrapped, fault_coded, fault_named, numbers_more, gives_rules}
 use Rattle.c8_game.proofs.FieldLemmas.{itself, same_words}
-use Rattle.c8_game.proofs.ItemLemmas.{word_said, word_spaceless, word_uncoded, name_of, value_of, fault_blank, fault_number, fault_code,
-  says_number, says_code, named_told}
+use Rattle.c8_game.proofs.ItemLemmas.{word_said, word_spaceless, word_uncoded, name_of, value_of, fault_blank, fault_number, fault_code}
+use Rattle.c8_game.proofs.ItemLemmas.{says_number, says_code, named_told}
 use Rattle.c8_game.proofs.ReadLemmas.{says_more}
 use Rattle.c8_game.proofs.WireLemmas.{one_version, version_for, version_again}
 
@@ -62,16 +62,16 @@ one_item line (Number field number) (Number named more) first second =
     rw (same, equal) refl
 one_item line (Number field number) (Code bytes) first second =
     let parts : (word_of field ≡ codes "code") × (first.0 ≡ second.0) =
-        one_pair (word_of field) first.0 (codes "code") second.0 (word_spaceless field) refl (sym first.1 ∙ second.1) in
+    one_pair (word_of field) first.0 (codes "code") second.0 (word_spaceless field) refl (sym first.1 ∙ second.1) in
     absurd (no_field field parts.0)
 one_item line (Code bytes) Blank first second = absurd (code_not_skipped line first.0 first.1 second)
 one_item line (Code bytes) (Number field number) first second =
     let parts : (word_of field ≡ codes "code") × (second.0 ≡ first.0) =
-        one_pair (word_of field) second.0 (codes "code") first.0 (word_spaceless field) refl (sym second.1 ∙ first.1) in
+    one_pair (word_of field) second.0 (codes "code") first.0 (word_spaceless field) refl (sym second.1 ∙ first.1) in
     absurd (no_field field parts.0)
 one_item line (Code bytes) (Code others) first second =
     let parts : (codes "code" ≡ codes "code") × (first.0 ≡ second.0) =
-        one_pair (codes "code") first.0 (codes "code") second.0 refl refl (sym first.1 ∙ second.1) in
+    one_pair (codes "code") first.0 (codes "code") second.0 refl refl (sym first.1 ∙ second.1) in
     let same : Ok bytes ≡ Ok others = sym first.2 ∙ ap decode_of parts.1 ∙ second.2 in
     let equal : bytes ≡ others = cc in
     ap Code equal
@@ -113,7 +113,7 @@ same_rule items rules others first second players field =
     elim (cases_lt rules.players (owner_of field)) [
       | inl beyond ↦ (first.nowhere field beyond).1 ∙ sym (second.nowhere field (omega arith)).1
       | inr there ↦ one_told (numbers_for field items) field (rule_of field rules) (rule_of field others) (first.once field there)
-      (second.once field (omega arith))
+          (second.once field (omega arith))
     ]
 
 four_of : (masks : List ℕ) → length masks ≡ 4 → masks ≡ slice_index masks 0 ∷ slice_index masks 1 ∷ slice_index masks 2 ∷ slice_index masks 3 ∷ []
@@ -126,8 +126,17 @@ four_of (a ∷ b ∷ c ∷ d ∷ e ∷ more) size = absurd (omega arith)
 
 made_of : ℕ → ℕ → ℕ → ℕ → ℕ → ℕ → WireVersion → List ℕ → List ℕ → Rules
 made_of players ipf frames delay window seed wire masks program =
-    record { players = players; ipf = ipf; frames = frames; delay = delay; window = window; seed = seed; wire = wire; masks = masks;
-    program = program }
+    record {
+      players = players;
+      ipf = ipf;
+      frames = frames;
+      delay = delay;
+      window = window;
+      seed = seed;
+      wire = wire;
+      masks = masks;
+      program = program;
+    }
 
 rebuilt : (rules : Rules) → made_of rules.players rules.ipf rules.frames rules.delay rules.window rules.seed rules.wire rules.masks
     rules.program ≡ rules
@@ -137,8 +146,8 @@ rebuilt rules = refl
 same_rules : (items : List Item) (rules others : Rules) → Give items rules → Give items others → rules ≡ others
 same_rules items rules others first second =
     let players : rules.players ≡ others.players =
-        one_told (numbers_for Players items) Players rules.players others.players (first.once Players (omega arith))
-        (second.once Players (omega arith)) in
+    one_told (numbers_for Players items) Players rules.players others.players (first.once Players (omega arith))
+    (second.once Players (omega arith)) in
     let same = same_rule items rules others first second players in
     let ipf : rules.ipf ≡ others.ipf = same Ipf in
     let frames : rules.frames ≡ others.frames = same Frames in
@@ -153,7 +162,7 @@ same_rules items rules others first second =
     let masks : rules.masks ≡ others.masks = four_of rules.masks first.masks ∙ rw (one, two, three, four) (sym (four_of others.masks second.masks)) in
     let program : rules.program ≡ others.program = first.program ∙ sym second.program in
     let made : made_of rules.players rules.ipf rules.frames rules.delay rules.window rules.seed rules.wire rules.masks rules.program
-        ≡ made_of others.players others.ipf others.frames others.delay others.window others.seed others.wire others.masks others.program = cc in
+    ≡ made_of others.players others.ipf others.frames others.delay others.window others.seed others.wire others.masks others.program = cc in
     sym (rebuilt rules) ∙ made ∙ rebuilt others
 
 pub one_game : (text : List ℕ) (rules others : Rules) → Spells text rules → Spells text others → rules ≡ others
@@ -194,10 +203,10 @@ meant_named seen items line says once shaped (inl unnamed) fine = let fault : na
     ap (λ found. named_fault seen found (value_in line)) (sym unnamed) ∙ fine in absurd (cc)
 meant_named seen items line says once shaped (inr (field, named)) fine =
     let fault : field_fault field (list_any (names field) seen) (value_in line) ≡ None =
-        ap (λ found. named_fault seen found (value_in line)) (sym named) ∙ fine in
+    ap (λ found. named_fault seen found (value_in line)) (sym named) ∙ fine in
     let meant = says_number line field (list_any (names field) seen) shaped named fault in
     means (Number field (number_of field (value_in line))) meant.0
-        (once_number items field (number_of field (value_in line)) once (sym (named_told field seen items says) ∙ meant.1))
+    (once_number items field (number_of field (value_in line)) once (sym (named_told field seen items says) ∙ meant.1))
 
 meant_line : (seen : List (List ℕ)) (items : List Item) (line : List ℕ) → AllZip Says seen items → AreOnce items
     → line_fault seen line ≡ None → Meant seen items line
@@ -211,9 +220,9 @@ meant_line seen items line says once fine =
               let good = coded_fine (value_in line) (sym (fault_coded seen line said shaped coded) ∙ fine) in
               let bytes : List ℕ = result_unwrap_or (decode_of (value_in line)) [] in
               means (Code bytes) (says_code line bytes shaped coded (ok_unwrapped (decode_of (value_in line)) good))
-                  (once_more items (Code bytes) once (λ field. refl))
+              (once_more items (Code bytes) once (λ field. refl))
           | inr uncoded ↦ meant_named seen items line says once shaped (none_or_some (field_named (name_in line)))
-          (sym (fault_named seen line said shaped uncoded) ∙ fine)
+              (sym (fault_named seen line said shaped uncoded) ∙ fine)
         ]
       ]
     ]
@@ -224,8 +233,8 @@ meant_lines seen items [] says once fine = (items, rw (append-nil seen) says, on
 meant_lines seen items (line ∷ left) says once fine =
     elim (meant_line seen items line says once (faultless_line line_fault seen line left fine)) [
       | means item said more ↦ rw (← append_assoc seen (line ∷ []) left)
-      (meant_lines (seen ++ line ∷ []) (items ++ item ∷ []) left (says_more seen items line item says said) more
-      (rw (append_assoc seen (line ∷ []) left) fine))
+          (meant_lines (seen ++ line ∷ []) (items ++ item ∷ []) left (says_more seen items line item says said) more
+          (rw (append_assoc seen (line ∷ []) left) fine))
     ]
 
 -- the first number of the lines is in its range
@@ -303,9 +312,14 @@ untold_before field number items more once =
     let here : number_in field (Number field number) ≡ number ∷ [] = ap (λ same. cond same (number ∷ []) []) (itself field) in
     let parts : numbers_for field (items ++ Number field number ∷ more) ≡ numbers_for field items ++ (number ∷ [] ++ numbers_for field more) =
     flat_map-append (number_in field) items (Number field number ∷ more)
-        ∙ ap (λ numbers. numbers_for field items ++ (numbers ++ numbers_for field more)) here in
-    omega (arith, once field, ap length parts, length-append (numbers_for field items) (number ∷ [] ++ numbers_for field more),
-        length-append (number ∷ []) (numbers_for field more)))
+    ∙ ap (λ numbers. numbers_for field items ++ (numbers ++ numbers_for field more)) here in
+    omega (
+      arith,
+      once field,
+      ap length parts,
+      length-append (numbers_for field items) (number ∷ [] ++ numbers_for field more),
+      length-append (number ∷ []) (numbers_for field more),
+    ))
 
 fine_line : (seen : List (List ℕ)) (items : List Item) (line : List ℕ) (item : Item) (more : List Item) → AllZip Says seen items
     → Says line item → AreOnce (items ++ item ∷ more) → line_fault seen line ≡ None
@@ -324,13 +338,13 @@ faultless_said seen items (line ∷ left) (item ∷ more) faultless says all onc
     let fine = fine_line seen items line item more says all.0 once in
     rw (← append_assoc seen (line ∷ []) left)
     (faultless_said (seen ++ line ∷ []) (items ++ item ∷ []) left more (faultless_more line_fault seen line faultless fine)
-        (says_more seen items line item says all.0) all.1 (rw (append_assoc items (item ∷ []) more) once))
+    (says_more seen items line item says all.0) all.1 (rw (append_assoc items (item ∷ []) more) once))
 
 fine_at_end : (items : List Item) (rules : Rules) → Give items rules → end_fault items ≡ None
 fine_at_end items rules gives =
     let players : players_in items ≡ rules.players =
-        ap (λ numbers. slice_index numbers 0) (told_alone (numbers_for Players items) Players rules.players refl
-        (gives.once Players (omega arith))) in
+    ap (λ numbers. slice_index numbers 0) (told_alone (numbers_for Players items) Players rules.players refl
+    (gives.once Players (omega arith))) in
     let lacking : list_any (is_lacking items) fields ≡ false =
     false_from_ne_true (list_any (is_lacking items) fields) (λ passes.
     let any = Any-from_list_any (is_lacking items) fields passes in
@@ -339,7 +353,7 @@ fine_at_end items rules gives =
     let there : owner_of any.1 ≤ players_in items = leb-true (owner_of any.1) (players_in items) needed.0 in
     let told : is_told items any.1 ≡ true =
     ap (λ numbers. nat_lt 0 (length numbers))
-        (told_alone (numbers_for any.1 items) any.1 (rule_of any.1 rules) needed.1 (gives.once any.1 (omega arith))) in
+    (told_alone (numbers_for any.1 items) any.1 (rule_of any.1 rules) needed.1 (gives.once any.1 (omega arith))) in
     both_ways (not (is_told items any.1)) (rw told refl) parts.1) in
     let straying : list_any (is_stray items) fields ≡ false =
     false_from_ne_true (list_any (is_stray items) fields) (λ passes.
@@ -351,7 +365,7 @@ fine_at_end items rules gives =
     let size : length rules.program ≡ length (code_of items) = ap length gives.program in
     let nonempty : (length (code_of items) == 0) ≡ false = ne_eqb (length (code_of items)) 0 (λ empty. omega (arith, gives.some_code)) in
     let within : nat_lt most_program (length (code_of items)) ≡ false =
-        le-ltb most_program (length (code_of items)) (omega (arith, gives.most_code)) in
+    le-ltb most_program (length (code_of items)) (omega (arith, gives.most_code)) in
     rw (lacking, nonempty, within, straying) refl
 
 spelled_faultless : (text : List ℕ) (rules : Rules) → Spells text rules → AreFaultless line_fault (lines text)
@@ -372,7 +386,7 @@ one_fault text fault other (inl first) (inr end) = absurd (first_or_faultless li
 one_fault text fault other (inr end) (inl second) = absurd (first_or_faultless line_fault (lines text) other second end.faultless)
 one_fault text fault other (inr end) (inr last) =
     let same : Some fault ≡ Some other = sym end.at_end ∙ ap end_fault (same_items (lines text) end.items last.items end.says last.says)
-        ∙ last.at_end in
+    ∙ last.at_end in
     cc
 
 pub spelled_unless_refused : (text : List ℕ) → ((fault : GameError) → IsRefused text fault → ⊥) → (rules : Rules) × Spells text rules

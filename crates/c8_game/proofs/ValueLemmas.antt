@@ -1,6 +1,6 @@
 -- A decimal with one more digit.
-use Rattle.std.proofs.Common.{◌≡◌, ℕ, true, nat_lt, ◌&&◌, ◌+◌, ◌-◌, ◌*◌, ◌^◌, ◌<◌, List, [], ◌∷◌, ◌++◌, length, take, get_or, refl, arith,
-  length-append, add-one}
+use Rattle.std.proofs.Common.{◌≡◌, ℕ, true, nat_lt, ◌&&◌, ◌+◌, ◌-◌, ◌*◌, ◌^◌, ◌<◌, List, [], ◌∷◌, ◌++◌, length, take, get_or, refl, arith}
+use Rattle.std.proofs.Common.{length-append, add-one}
 use Rattle.std.proofs.Math.Seq.{take-suc}
 use Rattle.std.specs.Bool.{IsTrue}
 use Rattle.std.specs.Prelude.{nat_le}
@@ -33,6 +33,6 @@ ten_more number digit places below small = simp unary_clauses (omega arith)
 pub digit_small : (text : List ℕ) → IsTrue (is_decimal text) → (place : ℕ) → place < length text → get_or text place 0 - 48 < 10
 digit_small text decimal place within =
     let digits = AllPass-from_list_all is_ascii_digit text
-        (and_parts (nat_lt 0 (length text) && nat_le (length text) 20) (list_all is_ascii_digit text) decimal).1 in
+    (and_parts (nat_lt 0 (length text) && nat_le (length text) 20) (list_all is_ascii_digit text) decimal).1 in
     let digit : is_ascii_digit (get_or text place 0) ≡ true = digits place 0 within in
     digit_below (get_or text place 0) digit

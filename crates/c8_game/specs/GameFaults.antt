@@ -1,7 +1,7 @@
 -- Which fault refuses a text that spells no game: that of the first line at fault, else what is found after the last
 -- line.
-use Rattle.std.specs.Prelude.{◌≡◌, ℕ, ◌==◌, ◌&&◌, ◌||◌, ◌⊎◌, Bool, not, nat_lt, nat_le, List, length, codes, Option, Some, None, is_some,
-  is_none, is_ok, position, slice_index, if◌then◌else◌}
+use Rattle.std.specs.Prelude.{◌≡◌, ℕ, ◌==◌, ◌&&◌, ◌||◌, ◌⊎◌, Bool, not, nat_lt, nat_le, List, length, codes, Option, Some, None, is_some}
+use Rattle.std.specs.Prelude.{is_none, is_ok, position, slice_index, if◌then◌else◌}
 use Rattle.std.specs.List.{before_first, after_first, list_any, AllZip}
 use Rattle.std.specs.Str.{bytes_eq}
 use Rattle.std.specs.Str.Lines.{lines}

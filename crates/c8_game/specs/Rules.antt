@@ -79,7 +79,7 @@ limit_of rules = rules.frames + rules.delay
 unfoldable pub number_bytes : Rules → List ℕ
 number_bytes rules =
     to_be_bytes w8 rules.players ++ to_be_bytes w8 rules.ipf ++ to_be_bytes w32 rules.frames ++ to_be_bytes w8 rules.delay ++ to_be_bytes w8
-        rules.window
+    rules.window
     ++ to_be_bytes w64 rules.seed ++ to_be_bytes w16 (slice_index rules.masks 0) ++ to_be_bytes w16 (slice_index rules.masks 1)
     ++ to_be_bytes w16 (slice_index rules.masks 2) ++ to_be_bytes w16 (slice_index rules.masks 3) ++ to_be_bytes w16 (length rules.program)
 

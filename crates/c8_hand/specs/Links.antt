@@ -106,7 +106,7 @@ unfoldable pub refusal : LinksValue → HeadValue → Option HandError
 refusal l head =
     if not (head.session == l.session) then Some errors.Session
     else (if is_mine l head then refusal_by_kind head.kind (link_to l head.from) l.epoch head.sender_epoch head.addressee_epoch else Some
-        errors.NotMine)
+    errors.NotMine)
 
 -- why a SEEN with this header is refused; None if it is admitted. A watcher has no epoch and no link.
 unfoldable pub refusal_of_seen : LinksValue → HeadValue → Option HandError

@@ -44,7 +44,7 @@ pub of_this_game : (rules : Rules) (bodies : List (List ℕ)) (me player room : 
     → BeginsWithHead bodies player (id_of rules) room → IsRefusal rules me room bodies WrongGame → ⊥
 of_this_game rules bodies me player room mine (body, form, first, spells) (other, id, named, head, differs) =
     let same : Head player form (id_of rules) room ≡ Head other head.1 id named =
-        same_head bodies body (Head player form (id_of rules) room) other id named first spells head in
+    same_head bodies body (Head player form (id_of rules) room) other id named first spells head in
     ⊎_elim (λ game. game (sym (ap id_in same))) (λ in_room. in_room (sym (ap room_in same))) differs
   where
     id_in : Record → List ℕ
@@ -73,7 +73,7 @@ pub of_this_player : (rules : Rules) (bodies : List (List ℕ)) (me player room 
     → BeginsWithHead bodies player (id_of rules) room → IsRefusal rules me room bodies WrongPlayer → ⊥
 of_this_player rules bodies me player room mine (body, form, first, spells) (other, head, differs) =
     let same : Head player form (id_of rules) room ≡ Head other head.1 (id_of rules) room =
-        same_head bodies body (Head player form (id_of rules) room) other (id_of rules) room first spells head in
+    same_head bodies body (Head player form (id_of rules) room) other (id_of rules) room first spells head in
     differs (sym (ap player_of same) ∙ mine)
 
 abbrev IsOtherKind : Lent → Type 0

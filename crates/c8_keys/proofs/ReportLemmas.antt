@@ -1,6 +1,6 @@
 -- What a report adds, part by part: `report` writes it.
-use Rattle.std.proofs.Common.{◌≡◌, ◌<◌, ◌≤◌, ℕ, zero, suc, ◌+◌, List, [], ◌∷◌, ◌++◌, Bool, Option, Some, None, Result, Ok, Err, get_or,
-  length, map, refl, sym, ap, subst, ◌∙◌, inl, inr, arith}
+use Rattle.std.proofs.Common.{◌≡◌, ◌<◌, ◌≤◌, ℕ, zero, suc, ◌+◌, List, [], ◌∷◌, ◌++◌, Bool, Option, Some, None, Result, Ok, Err, get_or}
+use Rattle.std.proofs.Common.{length, map, refl, sym, ap, subst, ◌∙◌, inl, inr, arith}
 use Rattle.std.specs.Fmt.{◌++?◌}
 use Rattle.std.specs.Prelude.{OnOk, IfSome, option_map}
 use Rattle.std.specs.Io.KnownBytes.{Appends}
@@ -69,7 +69,7 @@ module _ (a b : Option (List ℕ)) (style other : List ℕ → List ℕ) (before
       known_then (Some before) (option_map style digits ++? (Some between ++? (option_map other more ++? rest))) (known before)
       (known_then (option_map style digits) (Some between ++? (option_map other more ++? rest)) (known_styled style digits x is)
       (known_then (Some between) (option_map other more ++? rest) (known between)
-          (known_then (option_map other more) rest (known_styled other more y also) end)))
+      (known_then (option_map other more) rest (known_styled other more y also) end)))
 
   pub grows_two : (rest : Option (List ℕ)) → IsKnown rest
       → IfSome (Some before ++? (option_map style digits ++? (Some between ++? (option_map other more ++? rest)))) (Appends a b) → Grows a b
@@ -136,7 +136,9 @@ pub reports : {T E : Type 0} (a b c d : Option (List ℕ)) (lit : Points) (playe
     → lit ≡ (state played.machine).screen → Appends a b (frames_text played.frames) → Grows b c → OnOk told (Appends c d (screen_text lit))
     → OnOk told (Reports a d played)
 reports a b c d lit played (Ok done) same frames between screen =
-    let shown = subst (λ (points : Points). Appends c d (screen_text points)) same screen in
-    (between.0, Appends-trans a b d (frames_text played.frames) (between.0 ++ screen_text (state played.machine).screen) frames
-        (Appends-trans b c d between.0 (screen_text (state played.machine).screen) between.1 shown))
+    let shown = subst (λ (points : Points). Appends c d (screen_text points)) same screen in (
+      between.0,
+      Appends-trans a b d (frames_text played.frames) (between.0 ++ screen_text (state played.machine).screen) frames
+          (Appends-trans b c d between.0 (screen_text (state played.machine).screen) between.1 shown),
+    )
 reports a b c d lit played (Err error) same frames between screen = tt

@@ -1,6 +1,6 @@
 -- Key lines: the rows that a text spells, or the fault that refuses it.
-use Rattle.std.specs.Prelude.{◌≡◌, ℕ, ◌+◌, ◌-◌, ◌*◌, ◌==◌, ◌&&◌, ◌||◌, Bool, not, nat_le, List, ◌++◌, length, map, take, drop, replicate,
-  slice_index, Option, Some, None, if◌then◌else◌}
+use Rattle.std.specs.Prelude.{◌≡◌, ℕ, ◌+◌, ◌-◌, ◌*◌, ◌==◌, ◌&&◌, ◌||◌, Bool, not, nat_le, List, ◌++◌, length, map, take, drop, replicate}
+use Rattle.std.specs.Prelude.{slice_index, Option, Some, None, if◌then◌else◌}
 use Rattle.std.specs.List.{list_all, range_with_len}
 use Rattle.std.specs.Str.Lines.{lines}
 use Rattle.c8_game.specs.Faults.{AreFaultless, IsFirstFault}

@@ -1,6 +1,6 @@
 -- The least reach of all players is the number of confirmed frames.
-use Rattle.std.proofs.Common.{◌≡◌, ℕ, zero, suc, ◌+◌, ◌-◌, ◌<◌, ◌≤◌, ◌⊎◌, List, [], ◌∷◌, length, map, min, take, fold, true, false, Option,
-  Some, None, refl, sym, ap, subst, ◌∙◌, inl, inr, arith, slice_index_or}
+use Rattle.std.proofs.Common.{◌≡◌, ℕ, zero, suc, ◌+◌, ◌-◌, ◌<◌, ◌≤◌, ◌⊎◌, List, [], ◌∷◌, length, map, min, take, fold, true, false, Option}
+use Rattle.std.proofs.Common.{Some, None, refl, sym, ap, subst, ◌∙◌, inl, inr, arith, slice_index_or}
 use Rattle.std.specs.List.{slice_get}
 use Rattle.std.proofs.Math.Nat.{min-le_left, min-le_right}
 use Rattle.std.proofs.Math.Seq.{take-suc}
@@ -22,9 +22,13 @@ least_more tables place bound table within is =
     let inside : place < length players = omega (arith, within, length-map tables table_value) in
     let next : place + 1 ≡ suc place = omega arith in
     let here : slice_index_or players place nobody ≡ table_value table =
-        get_or-map table_value tables place table nobody within ∙ ap table_value (sym is) in
-    rw (next, take-suc players place nobody inside,
-        fold-append (λ least p. min least (reach_of p bound)) bound (take place players) (slice_index_or players place nobody ∷ []), here) refl
+    get_or-map table_value tables place table nobody within ∙ ap table_value (sym is) in
+    rw (
+      next,
+      take-suc players place nobody inside,
+      fold-append (λ least p. min least (reach_of p bound)) bound (take place players) (slice_index_or players place nobody ∷ []),
+      here,
+    ) refl
 
 -- ---- one player's reach
 
@@ -46,7 +50,7 @@ reaches (Some K) p bound frame is below =
       | inl within ↦ settled_within p frame within
       | inr past ↦ elim (cases_lt (length p.held) K) [
         | inl short ↦ absurd (let least : reach_to (Some K) (length p.held) bound ≡ length p.held =
-        rw (lt-leb K (length p.held) short) refl in omega (arith, below, least, past))
+            rw (lt-leb K (length p.held) short) refl in omega (arith, below, least, past))
         | inr long ↦ settled_past p K frame is (omega (arith, long, past)) past
       ]
     ]
@@ -60,7 +64,7 @@ stops (Some K) p bound is below =
           let least : reach_to (Some K) (length p.held) bound ≡ length p.held = rw (lt-leb K (length p.held) short) refl in
           rw (least, past_held p (length p.held) (omega arith), is, lt-leb K (length p.held) short) refl
       | inr long ↦ absurd (let all : reach_to (Some K) (length p.held) bound ≡ bound = rw (le-leb K (length p.held) long) refl in
-      omega (arith, below, all))
+          omega (arith, below, all))
     ]
 
 -- ---- the least reach of all players
@@ -80,7 +84,7 @@ least_each (x ∷ players) bound from zero p is =
     let rest = least_le players bound (min from (reach_of x bound)) in
     let right = min-le_right from (reach_of x bound) in
     subst (λ (y : PlayerValue). fold (λ least p. min least (reach_of p bound)) from (x ∷ players) ≤ reach_of y bound) same
-        (omega (arith, rest, right))
+    (omega (arith, rest, right))
 least_each (x ∷ players) bound from (suc place) p is = least_each players bound (min from (reach_of x bound)) place p is
 
 -- it is the bound, or the reach of some player
@@ -118,8 +122,8 @@ least_confirmed k = record {
               let at : place + 1 - 1 ≡ place = omega arith in
               let there : player_in k (place + 1) ≡ p = rw at (let found = slice_get-get_or k.players place nobody within in let is = one.2 in cc) in
               let has : is_settled_of p (reach_of p k.ticks) ≡ true =
-                  subst (λ (x : PlayerValue). is_settled_of x (reach_of p k.ticks) ≡ true) there
-                  (settled (reach_of p k.ticks) (place + 1) past plays) in
+              subst (λ (x : PlayerValue). is_settled_of x (reach_of p k.ticks) ≡ true) there
+              (settled (reach_of p k.ticks) (place + 1) past plays) in
               absurd (both_ways (is_settled_of p (reach_of p k.ticks)) (stops p.cut p k.ticks refl (omega (arith, past, entered))) has)
           | inr least ↦ omega (arith, one.3, least)
         ]

@@ -1,17 +1,17 @@
 -- How one changed table changes what is known.
-use Rattle.std.proofs.Common.{◌≡◌, ◌≢◌, ℕ, ◌+◌, ◌-◌, ◌<◌, ◌≤◌, ◌^◌, List, [], ◌∷◌, ◌++◌, length, map, true, Option, Some, None, refl, sym,
-  ap, subst, ◌∙◌, arith, slice_set, slice_index_or, vec_capacity, All}
+use Rattle.std.proofs.Common.{◌≡◌, ◌≢◌, ℕ, ◌+◌, ◌-◌, ◌<◌, ◌≤◌, ◌^◌, List, [], ◌∷◌, ◌++◌, length, map, true, Option, Some, None, refl, sym}
+use Rattle.std.proofs.Common.{ap, subst, ◌∙◌, arith, slice_set, slice_index_or, vec_capacity, All}
 use Rattle.std.proofs.lemmas.List.{map-set, get_or-map, get_or_past, append-nil, length-map}
 use Rattle.std.proofs.lemmas.List.Elements.{All-set}
 use Rattle.c8_known.specs.declared.table.Table.{Table}
 use Rattle.c8_known.specs.Journal.{Record, Own, Got, Freeze, Leave, Cut}
-use Rattle.c8_known.specs.Known.{PlayerValue, KnownValue, nobody, player_in, count_in, is_frozen_in, with_words, cut_at, with_cut,
-  with_record, Plays, IsKnown}
+use Rattle.c8_known.specs.Known.{PlayerValue, KnownValue, nobody, player_in, count_in, is_frozen_in, with_words, cut_at, with_cut}
+use Rattle.c8_known.specs.Known.{with_record, Plays, IsKnown}
 use Rattle.c8_known.specs.Growth.{IsStillKnown}
 use Rattle.c8_known.specs.declared.known.Known.TheInside.{Inside}
 use Rattle.c8_known.specs.Tables.{table_value, seen, HasRoom}
-use Rattle.c8_known.specs.checked.KnownLaws.{changed, own_known, own_still, got_known, got_still, freeze_known, freeze_still, leave_known,
-  leave_still, cut_known, cut_still}
+use Rattle.c8_known.specs.checked.KnownLaws.{changed, own_known, own_still, got_known, got_still, freeze_known, freeze_still, leave_known}
+use Rattle.c8_known.specs.checked.KnownLaws.{leave_still, cut_known, cut_still}
 
 -- a table of the code, and its player
 pub record IsTableOf (k : KnownValue) (tables : List Table) (place q : ℕ) (table : Table) : Type 0 where
@@ -50,8 +50,11 @@ pub record Changes (old new : KnownValue) (r : Record) : Type 0 where
 
 changes : (old new : KnownValue) (r : Record) → new ≡ with_record old r → IsKnown (with_record old r) → IsStillKnown old (with_record old r)
     → Changes old new r
-changes old new r is known still = record { value = is; known = subst IsKnown (sym is) known;
-    still = subst (λ (k : KnownValue). IsStillKnown old k) (sym is) still }
+changes old new r is known still = record {
+  value = is;
+  known = subst IsKnown (sym is) known;
+  still = subst (λ (k : KnownValue). IsStillKnown old k) (sym is) still;
+}
 
 pub owned : (k : KnownValue) (tables : List Table) (place start word : ℕ) (table new : Table) → IsKnown k → IsTableOf k tables place k.me table
     → table_value new ≡ with_words (table_value table) (word ∷ []) → count_in k k.me < k.limit
@@ -59,7 +62,7 @@ pub owned : (k : KnownValue) (tables : List Table) (place start word : ℕ) (tab
 owned k tables place start word table new known t is room =
     changes k (seen k.me k.delay k.limit (k.ticks + 1) (slice_set tables place new)) (Own k.me start word)
     (table_changed k tables place k.me table t new (k.ticks + 1) (with_words (player_in k k.me) (word ∷ []))
-        (is ∙ ap (λ (p : PlayerValue). with_words p (word ∷ [])) (table_player k tables place k.me table t)))
+    (is ∙ ap (λ (p : PlayerValue). with_words p (word ∷ [])) (table_player k tables place k.me table t)))
     (own_known k start word known room) (own_still k start word known)
 
 pub took : (k : KnownValue) (tables : List Table) (place q start : ℕ) (words : List ℕ) (table new : Table) → IsKnown k
@@ -69,7 +72,7 @@ pub took : (k : KnownValue) (tables : List Table) (place q start : ℕ) (words :
 took k tables place q start words table new known t is other uncut room =
     changes k (seen k.me k.delay k.limit k.ticks (slice_set tables place new)) (Got q start words)
     (table_changed k tables place q table t new k.ticks (with_words (player_in k q) words)
-        (is ∙ ap (λ (p : PlayerValue). with_words p words) (table_player k tables place q table t)))
+    (is ∙ ap (λ (p : PlayerValue). with_words p words) (table_player k tables place q table t)))
     (got_known k q start words known t.plays other uncut room) (got_still k q start words t.plays uncut)
 
 pub froze : (k : KnownValue) (tables : List Table) (place q : ℕ) (table new : Table) → IsKnown k → IsTableOf k tables place q table
@@ -78,7 +81,7 @@ pub froze : (k : KnownValue) (tables : List Table) (place q : ℕ) (table new : 
 froze k tables place q table new known t is =
     changes k (seen k.me k.delay k.limit k.ticks (slice_set tables place new)) (Freeze q)
     (table_changed k tables place q table t new k.ticks (record (player_in k q) { frozen = true })
-        (is ∙ ap (λ (p : PlayerValue). record p { frozen = true }) (table_player k tables place q table t)))
+    (is ∙ ap (λ (p : PlayerValue). record p { frozen = true }) (table_player k tables place q table t)))
     (freeze_known k q known t.plays) (freeze_still k q t.plays)
 
 pub left : (k : KnownValue) (tables : List Table) (place q : ℕ) (table new : Table) → IsKnown k → IsTableOf k tables place q table
@@ -87,7 +90,7 @@ pub left : (k : KnownValue) (tables : List Table) (place q : ℕ) (table new : T
 left k tables place q table new known t is =
     changes k (seen k.me k.delay k.limit k.ticks (slice_set tables place new)) (Leave q)
     (table_changed k tables place q table t new k.ticks (record (player_in k q) { leaving = true })
-        (is ∙ ap (λ (p : PlayerValue). record p { leaving = true }) (table_player k tables place q table t)))
+    (is ∙ ap (λ (p : PlayerValue). record p { leaving = true }) (table_player k tables place q table t)))
     (leave_known k q known t.plays) (leave_still k q t.plays)
 
 first_cut : (p : PlayerValue) (K : ℕ) → p.cut ≡ None → ◌≡◌ {A = PlayerValue} (record p { cut = Some K }) (with_cut (with_words p []) K)
@@ -102,7 +105,7 @@ was_cut k tables place q K start table new known t is other leaves uncut all =
     (table_changed k tables place q table t new k.ticks (with_cut (with_words (player_in k q) []) K)
     (is ∙ ap (λ (p : PlayerValue). record p { cut = Some K }) (table_player k tables place q table t) ∙ first_cut (player_in k q) K uncut))
     (cut_known k q K start [] known t.plays other leaves uncut (omega (arith, all)) (omega (arith, all, known.within q)))
-        (cut_still k q K start [] t.plays uncut)
+    (cut_still k q K start [] t.plays uncut)
 
 -- ---- the calls that change one table
 
@@ -127,8 +130,12 @@ pub record IsDone (i : Inside) (self : KnownValue) (ticks : ℕ) (tables : List 
 
 call_table : (i : Inside) (self : KnownValue) (place q : ℕ) (old : Table) → IsCall i self place q old
     → IsTableOf (seen_of i) i.tables.items place q old
-call_table i self place q old call = record { players = refl; at = call.at;
-    plays = subst (λ (k : KnownValue). Plays k q) (sym call.view) call.plays; is = call.is }
+call_table i self place q old call = record {
+  players = refl;
+  at = call.at;
+  plays = subst (λ (k : KnownValue). Plays k q) (sym call.view) call.plays;
+  is = call.is;
+}
 
 done : (i : Inside) (self : KnownValue) (place q : ℕ) (old new : Table) (ticks : ℕ) (r : Record) → IsCall i self place q old
     → vec_capacity old.inputs ≤ vec_capacity new.inputs
@@ -184,7 +191,7 @@ pub take_call : (i : Inside) (self : KnownValue) (place q : ℕ) (words : List �
 take_call i self place q words old new call more other uncut room =
     done i self place q old new i.ticks (Got q (count_in self q) words) call more.capacity
     (took (seen_of i) i.tables.items place q (count_in self q) words old new call.known (call_table i self place q old call)
-        (holds_value old new words more)
+    (holds_value old new words more)
     (subst (λ (k : KnownValue). q ≢ k.me) (sym call.view) other) (subst (λ (k : KnownValue). (player_in k q).cut ≡ None) (sym call.view) uncut)
     (subst (λ (k : KnownValue). count_in k q + length words ≤ k.limit) (sym call.view) room))
 
@@ -197,7 +204,7 @@ own_call i self place word old new call more room =
     subst (λ (q : ℕ). IsDone i self (i.ticks + 1) (slice_set i.tables.items place new) (Own q (count_in self self.me) word)) me
     (done i self place self.me old new (i.ticks + 1) (Own i.me.number (count_in self self.me) word) call more.capacity
     (owned (seen_of i) i.tables.items place (count_in self self.me) word old new call.known
-        (subst (λ (q : ℕ). IsTableOf (seen_of i) i.tables.items place q old) (sym me) table)
+    (subst (λ (q : ℕ). IsTableOf (seen_of i) i.tables.items place q old) (sym me) table)
     (holds_value old new (word ∷ []) more) (subst (λ (k : KnownValue). count_in k k.me < k.limit) (sym call.view) room)))
 
 -- ---- a place beyond all tables

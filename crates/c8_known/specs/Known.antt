@@ -1,6 +1,6 @@
 -- What a peer knows of the players' inputs: what its journal says, laid out by player.
-use Rattle.std.specs.Prelude.{ℕ, ◌+◌, ◌-◌, ◌≡◌, ◌≤◌, List, [], ◌∷◌, ◌++◌, length, map, slice_index_or, slice_set, Bool, true, false, ◌||◌,
-  ◌&&◌, nat_le, Option, Some, None}
+use Rattle.std.specs.Prelude.{ℕ, ◌+◌, ◌-◌, ◌≡◌, ◌≤◌, List, [], ◌∷◌, ◌++◌, length, map, slice_index_or, slice_set, Bool, true, false, ◌||◌}
+use Rattle.std.specs.Prelude.{◌&&◌, nat_le, Option, Some, None}
 use Rattle.std.specs.List.{range_with_len}
 use Rattle.c8_game.specs.Rules.{Rules, limit_of, most_inputs}
 use Rattle.c8_known.specs.Journal as journals

@@ -31,7 +31,7 @@ none_in what (call ∷ calls) (answer ∷ answers) other alike =
     let same : doing call.0 ≡ what = All-head (λ (c : Call × DiskOutcome). doing c.0 ≡ what) call calls alike in
     let here : entered_by call.0 answer ≡ [] = none_by call.0 answer (λ ticks. other (sym same ∙ ticks)) in
     ap (λ (words : List ℕ). words ++ entered_in calls answers) here
-        ∙ none_in what calls answers other (All-tail (λ (c : Call × DiskOutcome). doing c.0 ≡ what) call calls alike)
+    ∙ none_in what calls answers other (All-tail (λ (c : Call × DiskOutcome). doing c.0 ≡ what) call calls alike)
 
 -- calls after others, each with its answer
 both_in : (rules : Rules) (room me : ℕ) (s t : State) (calls others : List (Call × DiskOutcome)) (answers more : List (Option Reply))

@@ -1,6 +1,6 @@
 -- How runs of one peer join.
-use Rattle.std.proofs.Common.{◌≡◌, ℕ, List, [], ◌∷◌, ◌++◌, length, true, false, Option, Some, None, refl, sym, ap, subst, ◌∙◌, map,
-  append_assoc, arith, suc}
+use Rattle.std.proofs.Common.{◌≡◌, ℕ, List, [], ◌∷◌, ◌++◌, length, true, false, Option, Some, None, refl, sym, ap, subst, ◌∙◌, map}
+use Rattle.std.proofs.Common.{append_assoc, arith, suc}
 use Rattle.std.specs.Prelude.{option_to_list}
 use Rattle.std.proofs.lemmas.List.{map-append, append-nil, length-append}
 use Rattle.c8_game.specs.Rules.{Rules}
@@ -26,8 +26,15 @@ use Rattle.c8_live.specs.declared.error.SessionError.TheVariants.{Disk, Wire}
 use Rattle.c8_live.specs.Runs.{does, HasRunOn, IsEnd}
 
 abbrev pub still : {D : Type 0} (disk : Ghosts D) (p : PeerValue D) → HasRunOn disk p p
-still disk p = record { rules = refl; room = refl; me = refl; calls = []; answers = []; run = refl;
-    disk_is = record { capacity = refl; arms = refl; no_fewer = omega arith } }
+still disk p = record {
+  rules = refl;
+  room = refl;
+  me = refl;
+  calls = [];
+  answers = [];
+  run = refl;
+  disk_is = record { capacity = refl; arms = refl; no_fewer = omega arith };
+}
 
 -- a run under other names of the same game, match and player
 pub run_of : (rules rules2 : Rules) (room room2 me me2 : ℕ) (s t : State) (deeds : List Deed) (answers : List (Option Reply))
@@ -48,7 +55,7 @@ abbrev pub joined : {D : Type 0} (disk : Ghosts D) → RunsJoin → (first middl
 joined disk join first middle last one two =
     let answers = one.answers ++ two.answers in
     let more = run_of first.rules middle.rules first.room middle.room first.me middle.me middle.state last.state (map does two.calls)
-        two.answers one.rules one.room one.me two.run in
+    two.answers one.rules one.room one.me two.run in
     record {
       rules = two.rules ∙ one.rules;
       room = two.room ∙ one.room;
@@ -57,9 +64,9 @@ joined disk join first middle last one two =
       answers = answers;
       run =
           subst (λ (deeds : List Deed). IsRun first.rules first.room first.me first.state deeds answers last.state)
-              (sym (map-append does one.calls two.calls))
+          (sym (map-append does one.calls two.calls))
           (join first.rules first.room first.me first.state middle.state last.state (map does one.calls) (map does two.calls) one.answers
-              two.answers one.run more);
+          two.answers one.run more);
       disk_is = same_then disk first.disk middle.disk last.disk one.disk_is two.disk_is;
     }
 
@@ -74,7 +81,7 @@ nothing_left (x ∷ rest) none = absurd (more_than_none (length rest) none)
 pub begins_whole : (early late : List Row) → Begins early late → length late ≡ length early → late ≡ early
 begins_whole early late begins same =
     begins.is ∙ ap (λ (rest : List Row). early ++ rest)
-        (nothing_left begins.rest (omega (arith, same, length-append early begins.rest, ap length begins.is)))
+    (nothing_left begins.rest (omega (arith, same, length-append early begins.rest, ap length begins.is)))
     ∙ append-nil early
 
 -- one call

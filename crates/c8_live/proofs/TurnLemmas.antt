@@ -1,6 +1,6 @@
 -- How the parts of a turn join.
-use Rattle.std.proofs.Common.{◌≡◌, ◌≤◌, inl, inr, ℕ, suc, List, [], ◌∷◌, ◌++◌, Option, Some, Ok, refl, sym, ap, subst, ◌+◌, ◌∙◌, arith,
-  append-nil, append_assoc}
+use Rattle.std.proofs.Common.{◌≡◌, ◌≤◌, inl, inr, ℕ, suc, List, [], ◌∷◌, ◌++◌, Option, Some, Ok, refl, sym, ap, subst, ◌+◌, ◌∙◌, arith}
+use Rattle.std.proofs.Common.{append-nil, append_assoc}
 use Rattle.std.proofs.lemmas.List.{length-append}
 use Rattle.std.proofs.lemmas.List.Elements.{All-nil, All-cons, All-append}
 use Rattle.c8_disk.specs.declared.disk.Disk.{Ghosts as DiskGhosts}
@@ -10,8 +10,8 @@ use Rattle.c8_peer.specs.Peer.{PeerValue, IsAnswered, IsSaid, disk_outcome_of}
 use Rattle.c8_peer.specs.Runs.{Does, IsDone}
 use Rattle.c8_transport.specs.declared.wire.Wire.{Ghosts as WireGhosts}
 use Rattle.c8_live.specs.Runs.{HasRunOn}
-use Rattle.c8_live.specs.Turns.{Doing, Hears, Ticks, LetsGo, Cuts, Saves, Speaks, doing, HasDone, HasDoneOnce, AreDeliveriesOf, HasHeardOf,
-  HasHeard, WereSaid, HasSpoken, IsTurn, AreTurns}
+use Rattle.c8_live.specs.Turns.{Doing, Hears, Ticks, LetsGo, Cuts, Saves, Speaks, doing, HasDone, HasDoneOnce, AreDeliveriesOf, HasHeardOf}
+use Rattle.c8_live.specs.Turns.{HasHeard, WereSaid, HasSpoken, IsTurn, AreTurns}
 use Rattle.c8_transport.specs.Wire.{MayTake, most_packets}
 use Rattle.c8_live.proofs.RunLemmas.{RunsJoin, still, joined, once, says}
 
@@ -85,8 +85,10 @@ module _ {D W : Type 0} (disk : DiskGhosts D) (wire : WireGhosts W) where
         given = one.given ++ two.given;
         received = two.received ∙ ap (λ (l : List (List ℕ)). l ++ two.given) one.received ∙ append_assoc (wire.received before) one.given two.given;
         few = omega (arith, counted, one.few, two.few);
-        heard = (done_joined disk join Hears first middle last one.heard.0 two.heard.0,
-            heard_append one.given two.given one.heard.0.ran.calls two.heard.0.ran.calls one.heard.1 two.heard.1);
+        heard = (
+          done_joined disk join Hears first middle last one.heard.0 two.heard.0,
+          heard_append one.given two.given one.heard.0.ran.calls two.heard.0.ran.calls one.heard.1 two.heard.1,
+        );
         sent = two.sent ∙ one.sent;
       }
 
@@ -125,18 +127,22 @@ module _ {D W : Type 0} (disk : DiskGhosts D) (wire : WireGhosts W) where
       → IsDone p.rules p.room p.me p.state (Does call Works) (Some (Said (Ok is.packet))) p.state → MayTake (wire.sent before) bytes (wire.sent after)
       → wire.received after ≡ wire.received before → HasSpoken disk wire p before after
   spoken_once p before after call bytes speaks is deed (inl lost) received = record {
-    done = record { ran = says disk p call (Said (Ok is.packet)) deed;
-        alike = All-cons (λ (c : Call × DiskOutcome). doing c.0 ≡ Speaks) (call, Works) [] speaks
-        (All-nil (λ (c : Call × DiskOutcome). doing c.0 ≡ Speaks)) };
+    done = record {
+      ran = says disk p call (Said (Ok is.packet)) deed;
+      alike = All-cons (λ (c : Call × DiskOutcome). doing c.0 ≡ Speaks) (call, Works) [] speaks
+          (All-nil (λ (c : Call × DiskOutcome). doing c.0 ≡ Speaks));
+    };
     taken = [];
     sent = lost ∙ sym (append-nil (wire.sent before));
     said = tt;
     received = received;
   }
   spoken_once p before after call bytes speaks is deed (inr took) received = record {
-    done = record { ran = says disk p call (Said (Ok is.packet)) deed;
-        alike = All-cons (λ (c : Call × DiskOutcome). doing c.0 ≡ Speaks) (call, Works) [] speaks
-        (All-nil (λ (c : Call × DiskOutcome). doing c.0 ≡ Speaks)) };
+    done = record {
+      ran = says disk p call (Said (Ok is.packet)) deed;
+      alike = All-cons (λ (c : Call × DiskOutcome). doing c.0 ≡ Speaks) (call, Works) [] speaks
+          (All-nil (λ (c : Call × DiskOutcome). doing c.0 ≡ Speaks));
+    };
     taken = bytes ∷ [];
     sent = took;
     said = inl ((is.packet, refl, is.spelled), tt);
@@ -149,8 +155,19 @@ module _ {D W : Type 0} (disk : DiskGhosts D) (wire : WireGhosts W) where
       → HasHeard disk wire most_packets old heard before between → HasDoneOnce disk Ticks heard ticked → HasDone disk LetsGo ticked let_go
       → HasDone disk Cuts let_go cut → HasDoneOnce disk Saves cut new → HasSpoken disk wire new between after → IsTurn disk wire old new before after
   turn_of old heard ticked let_go cut new before between after hears ticks lets_go cuts saves speaks =
-      record { heard = heard; ticked = ticked; let_go = let_go; cut = cut; between = between; hears = hears; ticks = ticks;
-          lets_go = lets_go; cuts = cuts; saves = saves; speaks = speaks }
+      record {
+        heard = heard;
+        ticked = ticked;
+        let_go = let_go;
+        cut = cut;
+        between = between;
+        hears = hears;
+        ticks = ticks;
+        lets_go = lets_go;
+        cuts = cuts;
+        saves = saves;
+        speaks = speaks;
+      }
 
   abbrev pub none_done : (what : Doing) (p : PeerValue D) → HasDoneOnce disk what p p
   none_done what p = (done_still disk what p, omega arith)

@@ -31,4 +31,4 @@ module _ {D : Type 0} (g : Ghosts D) (capacity n : ℕ) (body : List ℕ) where
       rw (capacity_is, n_is)
       (subst (λ v. Asks g (AppendWithin (g.capacity v.disk) (length v.bodies) body) answer v.disk new) view_is
       (subst (λ (m : ℕ). Asks g (AppendWithin (g.capacity log.disk) m body) answer log.disk new) is.count_is
-          (asks (ap (λ v. v.is_down) view_is ∙ up))))
+      (asks (ap (λ v. v.is_down) view_is ∙ up))))

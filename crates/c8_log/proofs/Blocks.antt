@@ -1,6 +1,6 @@
 -- What the blocks of an image tell of it, one after the other.
-use Rattle.std.proofs.Common.{◌≡◌, inl, inr, ◌<◌, ◌≤◌, ℕ, ◌+◌, ◌-◌, ◌*◌, min, nat_le, nat_lt, ◌==◌, ◌&&◌, not, true, List, length, take,
-  drop, slice_index, sym, ◌∙◌, ap, subst, arith}
+use Rattle.std.proofs.Common.{◌≡◌, inl, inr, ◌<◌, ◌≤◌, ℕ, ◌+◌, ◌-◌, ◌*◌, min, nat_le, nat_lt, ◌==◌, ◌&&◌, not, true, List, length, take}
+use Rattle.std.proofs.Common.{drop, slice_index, sym, ◌∙◌, ap, subst, arith}
 use Rattle.std.proofs.lemmas.Bool.{cases_lt, le-leb, lt-leb, lt-ltb, le-ltb}
 use Rattle.std.proofs.lemmas.List.{length-take, length-drop, get_or-take, get_or-drop, take_all, take-take, drop-take, drop-drop}
 use Rattle.c8_log.specs.Slots.{is_open, body_of, kept_count}
@@ -82,7 +82,7 @@ all_open image k below full = λ m lt. elim (cases_lt m (32 * k)) [
       let place : 32 * k + i ≡ m = omega (arith, past) in
       let here : i < 32 = omega (arith, lt, place) in
       subst (λ (n : ℕ). is_open image n ≡ true) place
-          (sym (same_open image k i here) ∙ (front_of (block image k)).below i (omega (arith, here, full)))
+      (sym (same_open image k i here) ∙ (front_of (block image k)).below i (omega (arith, here, full)))
 ]
 
 -- the first open slots are all kept

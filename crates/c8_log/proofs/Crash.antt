@@ -1,6 +1,6 @@
 -- What is kept of an image after a write, whole or torn.
-use Rattle.std.proofs.Common.{◌≡◌, ◌≢◌, ◌⊎◌, inl, inr, ◌<◌, ◌≤◌, ℕ, zero, suc, ◌+◌, ◌*◌, true, false, List, [], ◌∷◌, ◌++◌, length, take,
-  drop, get_or, slice_index, refl, sym, ◌∙◌, ap, subst, arith, length-take}
+use Rattle.std.proofs.Common.{◌≡◌, ◌≢◌, ◌⊎◌, inl, inr, ◌<◌, ◌≤◌, ℕ, zero, suc, ◌+◌, ◌*◌, true, false, List, [], ◌∷◌, ◌++◌, length, take}
+use Rattle.std.proofs.Common.{drop, get_or, slice_index, refl, sym, ◌∙◌, ap, subst, arith, length-take}
 use Rattle.std.proofs.lemmas.Bool.{cases_eq, cases_lt}
 use Rattle.std.proofs.lemmas.List.{get_or-take, get_or-drop, drop-take, take-take}
 use Rattle.c8_disk.specs.Disk.{Torn}
@@ -19,12 +19,12 @@ module _ (old new : List ℕ) (size : ℕ) (same : take size new ≡ take size o
   open_too : (n : ℕ) → 144 * n + 144 ≤ size → is_open old n ≡ true → is_open new n ≡ true
   open_too n le is =
       opens new n (omega (arith, ap length same, length-take size new, length-take size old, whole old n is))
-          (byte (144 * n) (omega arith) ∙ gate old n is)
+      (byte (144 * n) (omega arith) ∙ gate old n is)
 
   same_body : (n : ℕ) → 144 * n + 144 ≤ size → body_of new n ≡ body_of old n
   same_body n le =
       sym (drop-take (144 * n + 1) 143 new) ∙ ap (λ (l : List ℕ). drop (144 * n + 1) l) (front (144 * n + 1 + 143) (omega arith))
-          ∙ drop-take (144 * n + 1) 143 old
+      ∙ drop-take (144 * n + 1) 143 old
 
   pub open_below : (n : ℕ) → 144 * n ≤ size → ((m : ℕ) → m < n → is_open old m ≡ true) → (m : ℕ) → m < n → is_open new m ≡ true
   open_below n le below m lt = open_too m (omega arith) (below m lt)
@@ -33,7 +33,7 @@ module _ (old new : List ℕ) (size : ℕ) (same : take size new ≡ take size o
   same_bodies zero le = refl
   same_bodies (suc n) le =
       ap (λ (l : List (List ℕ)). l ++ body_of new n ∷ []) (same_bodies n (omega arith))
-          ∙ ap (λ (l : List ℕ). first_bodies old n ++ l ∷ []) (same_body n (omega arith))
+      ∙ ap (λ (l : List ℕ). first_bodies old n ++ l ∷ []) (same_body n (omega arith))
 
 -- an image that keeps one body more
 pub record HasOneMore (old : List ℕ) (n : ℕ) (body : List ℕ) (new : List ℕ) : Type 0 where
@@ -47,15 +47,17 @@ module _ (old : List ℕ) (n : ℕ) (is : IsFront old n) where
   pub behind_the_gate : (new : List ℕ) → slice_index old (144 * n) ≢ 0xa5 → take (144 * n + 1) new ≡ take (144 * n + 1) old → kept new ≡ kept old
   behind_the_gate new shut same =
       let closed : slice_index new (144 * n) ≢ 0xa5 =
-          subst (λ (b : ℕ). b ≢ 0xa5) (sym (byte old new (144 * n + 1) same (144 * n) (omega arith))) shut in
+      subst (λ (b : ℕ). b ≢ 0xa5) (sym (byte old new (144 * n + 1) same (144 * n) (omega arith))) shut in
       let now : IsFront new n = record { below = open_below old new (144 * n + 1) same n (omega arith) is.below; at = shut_by_gate new n closed } in
       kept_from new n now ∙ same_bodies old new (144 * n + 1) same n (omega arith) ∙ sym (kept_from old n is)
 
   -- a slot that is not whole may have any gate
   pub at_the_end : (new : List ℕ) → length old < 144 * n + 144 → Torn (144 * n) 1 old new → kept new ≡ kept old
   at_the_end new short torn =
-      let now : IsFront new n = record { below = open_below old new (144 * n) torn.before n (omega arith) is.below;
-          at = shut_by_end new n (omega (arith, torn.no_longer)) } in
+      let now : IsFront new n = record {
+        below = open_below old new (144 * n) torn.before n (omega arith) is.below;
+        at = shut_by_end new n (omega (arith, torn.no_longer));
+      } in
       kept_from new n now ∙ same_bodies old new (144 * n) torn.before n (omega arith) ∙ sym (kept_from old n is)
 
   -- a body and a closed gate stand behind the open slots, and now the gate before the body is written

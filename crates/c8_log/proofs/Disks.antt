@@ -28,5 +28,5 @@ module _ {D : Type 0} (g : Ghosts D) (only_now : (disk : D) (image : List ℕ) �
       let first = weaker g old synced (g.may_leave old) P (leaves_once old synced none time) (λ image left. (image, left, refl)) in
       let second = weaker g synced read (g.may_leave synced) P reads.any_moment (λ image left. (image, none image left, refl)) in
       let third = weaker g read new (λ image. kept image ≡ kept (g.seen read)) P repaired
-          (λ image keeps. (g.seen old, reads_now old, keeps ∙ ap kept (reads.seen ∙ seen))) in
+      (λ image keeps. (g.seen old, reads_now old, keeps ∙ ap kept (reads.seen ∙ seen))) in
       then_run g old synced new P first (then_run g synced read new P second third)

@@ -1,8 +1,8 @@
 -- What an image keeps, by the number of its open slots.
-use Rattle.std.proofs.Common.{◌≡◌, ◌≢◌, inl, inr, ◌<◌, ◌≤◌, ℕ, zero, suc, ◌+◌, ◌*◌, nat_le, ◌==◌, not, Bool, true, false, List, [], ◌∷◌,
-  length, take, drop, slice_index, slice_get, Some, refl, sym, ◌∙◌, ap, subst, arith}
-use Rattle.std.proofs.lemmas.Bool.{cases_lt, cases_order, leb-true, eqb-true, le-leb, lt-leb, lt-ltb, eq-eqb, ne_eqb, and_parts, and_from,
-  and_left, and_right, not-true, not-false, true≢false}
+use Rattle.std.proofs.Common.{◌≡◌, ◌≢◌, inl, inr, ◌<◌, ◌≤◌, ℕ, zero, suc, ◌+◌, ◌*◌, nat_le, ◌==◌, not, Bool, true, false, List, [], ◌∷◌}
+use Rattle.std.proofs.Common.{length, take, drop, slice_index, slice_get, Some, refl, sym, ◌∙◌, ap, subst, arith}
+use Rattle.std.proofs.lemmas.Bool.{cases_lt, cases_order, leb-true, eqb-true, le-leb, lt-leb, lt-ltb, eq-eqb, ne_eqb, and_parts, and_from}
+use Rattle.std.proofs.lemmas.Bool.{and_left, and_right, not-true, not-false, true≢false}
 use Rattle.std.proofs.lemmas.List.{get_or_append_left, get_or_push, drop-take, drop-drop, length_push}
 use Rattle.std.proofs.lemmas.Option.{slice_get-get_or, get_or_from_slice_get}
 use Rattle.c8_log.specs.Slots.{is_open, body_of, least, kept_count, first_bodies, kept, IsKept}
@@ -94,7 +94,7 @@ nth_body image n (suc count) lt = elim (cases_lt n count) [
       let same : count ≡ n = omega arith in
       let here = slice_get-get_or (first_bodies image (suc count)) n [] (omega (arith, length-first_bodies image (suc count))) in
       here ∙ ap Some (get_or_push (first_bodies image count) (body_of image count) [] n (length-first_bodies image count ∙ same)
-          ∙ ap (body_of image) same)
+      ∙ ap (body_of image) same)
 ]
 
 pub kept_at : (image : List ℕ) (n : ℕ) → n < kept_count image → slice_get (kept image) n ≡ Some (body_of image n)

@@ -12,9 +12,9 @@ pub one_list_more : {D : Type 0} (g : Ghosts D) (old new : D) (t : ℕ) (lists :
 one_list_more g old new t lists bodies body le there so_far run image left =
     let added = bodies ++ body ∷ [] in
     let here : (some : List (List ℕ)) → Contains lists some → Contains (lists ++ added ∷ []) some =
-        λ some. Contains-append_left lists (added ∷ []) some in
+    λ some. Contains-append_left lists (added ∷ []) some in
     ⊎_elim
     (λ past. here (kept image) (so_far image past))
     (⊎_elim (λ without. subst (Contains (lists ++ added ∷ [])) (sym without) (here bodies there))
-        (λ with_it. subst (Contains (lists ++ added ∷ [])) (sym with_it) (Contains-push lists added)))
+    (λ with_it. subst (Contains (lists ++ added ∷ [])) (sym with_it) (Contains-push lists added)))
     (run.before t image le left)

@@ -28,7 +28,7 @@ module _ {D : Type 0} (g : Ghosts D) (reads_now : (disk : D) → g.may_leave dis
   all_kept : kept (g.seen old.disk) ≡ journal.bodies
   all_kept =
       subst (λ pending. KeepsBodies (journal_over g old before).bodies pending (g.seen old.disk)) (is.up old_up)
-          (is.keeps (g.seen old.disk) (reads_now old.disk))
+      (is.keeps (g.seen old.disk) (reads_now old.disk))
       ∙ ap (λ v. v.bodies) view_is
 
   here : LeavesOnly g old.disk new.disk (KeepsWithOrWithout journal.bodies body)

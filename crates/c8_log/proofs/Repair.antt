@@ -1,6 +1,6 @@
 -- What the repair of an image's end leaves.
-use Rattle.std.proofs.Common.{◌≡◌, inl, inr, ◌<◌, ◌≤◌, ℕ, zero, suc, ◌+◌, ◌*◌, ◌^◌, not, true, false, List, [], ◌∷◌, length, get_or,
-  slice_index, refl, sym, ◌∙◌, ap, subst, arith}
+use Rattle.std.proofs.Common.{◌≡◌, inl, inr, ◌<◌, ◌≤◌, ℕ, zero, suc, ◌+◌, ◌*◌, ◌^◌, not, true, false, List, [], ◌∷◌, length, get_or}
+use Rattle.std.proofs.Common.{slice_index, refl, sym, ◌∙◌, ap, subst, arith}
 use Rattle.std.proofs.lemmas.Bool.{cases_Bool, and_from, lt-ltb, ne_eqb, cond-true, cond-false}
 use Rattle.std.proofs.lemmas.List.{get_or-drop}
 use Rattle.c8_disk.specs.Disk.{overwritten, Only}
@@ -47,11 +47,11 @@ module _ (law : WritesLaw) where
   pub repairs : (image : List ℕ) → IsRepair image (repaired image)
   repairs image = elim (cases_Bool (has_closed_gate image)) [
     | inl closed ↦ subst (IsRepair image) (sym
-    (cond-true (has_closed_gate image) image (overwritten image (144 * kept_count image) (0 ∷ [])) closed))
-    (record { bodies = refl; count = refl; closed = closed })
+        (cond-true (has_closed_gate image) image (overwritten image (144 * kept_count image) (0 ∷ [])) closed))
+        (record { bodies = refl; count = refl; closed = closed })
     | inr open_or_missing ↦ subst (IsRepair image)
-    (sym (cond-false (has_closed_gate image) image (overwritten image (144 * kept_count image) (0 ∷ [])) open_or_missing))
-    (closes image open_or_missing)
+        (sym (cond-false (has_closed_gate image) image (overwritten image (144 * kept_count image) (0 ∷ [])) open_or_missing))
+        (closes image open_or_missing)
   ]
 
   -- what was repaired is up

@@ -1,6 +1,6 @@
 -- What the two writes of an append leave, whole or torn.
-use Rattle.std.proofs.Common.{◌≡◌, ◌≢◌, inl, ⊎_elim, ◌<◌, ◌≤◌, ℕ, suc, ◌+◌, ◌*◌, ◌^◌, nat_lt, not, ◌==◌, true, List, [], ◌∷◌, ◌++◌, length,
-  take, drop, get_or, slice_index, sym, ◌∙◌, ap, subst, arith, append_assoc, length-append}
+use Rattle.std.proofs.Common.{◌≡◌, ◌≢◌, inl, ⊎_elim, ◌<◌, ◌≤◌, ℕ, suc, ◌+◌, ◌*◌, ◌^◌, nat_lt, not, ◌==◌, true, List, [], ◌∷◌, ◌++◌, length}
+use Rattle.std.proofs.Common.{take, drop, get_or, slice_index, sym, ◌∙◌, ap, subst, arith, append_assoc, length-append}
 use Rattle.std.proofs.lemmas.Bool.{and_from, and_parts, lt-ltb, ltb-true, ne_eqb, eq-eqb, true≢false}
 use Rattle.std.proofs.lemmas.List.{get_or-drop, get_or_at, take_at, take-take}
 use Rattle.c8_disk.specs.Disk.{overwritten, Torn, Only}
@@ -40,7 +40,7 @@ two_writes law old at byte bytes within =
     let order : at ≤ at + 1 = omega arith in
     let front : take at first ≡ take at old =
     sym (take-take at (at + 1) first order) ∙ ap (λ (l : List ℕ). take at l) (law old (at + 1) bytes within).before
-        ∙ take-take at (at + 1) old order in
+    ∙ take-take at (at + 1) old order in
     let ends : at + 1 + length bytes ≡ at + length (byte ∷ bytes) = omega arith in
     ap (λ (l : List ℕ). (l ++ byte ∷ []) ++ drop (at + 1) first) front
     ∙ ap (λ (l : List ℕ). (take at old ++ byte ∷ []) ++ l) (law old (at + 1) bytes within).here
@@ -67,7 +67,7 @@ staged law old n body size within =
     let at_next : 144 * n + 144 ≡ at + 143 = omega arith in
     let zero_next : slice_index written (144 * n + 144) ≡ 0 =
     ap (λ (i : ℕ). slice_index written i) at_next ∙ sym (get_or-drop at written 143 0) ∙ ap (λ (l : List ℕ). get_or l 143 0) rest
-        ∙ get_or_at body 0 after 0 143 size in
+    ∙ get_or_at body 0 after 0 143 size in
     record {
       same = sym (take-take (144 * n) at written order) ∙ ap (λ (l : List ℕ). take (144 * n) l) (law old at slot within).before
           ∙ take-take (144 * n) at old order;
@@ -97,7 +97,7 @@ module _ (law : WritesLaw) (none : (old : List ℕ) (at count : ℕ) → Torn at
     second_keeps later only_written new = ⊎_elim (λ left.
         let same = only_written new left in
         subst (KeepsWithOrWithout (kept old) body) (sym same)
-            (with_or_without old n front body written is.same is.there is.long is.next written (none written (144 * n) 1))) (λ torn.
+        (with_or_without old n front body written is.same is.there is.long is.next written (none written (144 * n) 1))) (λ torn.
         let here = subst (λ (l : List ℕ). Torn (144 * n) 1 l new) (only_written torn.0 torn.1) torn.2 in
         with_or_without old n front body written is.same is.there is.long is.next new here)
 
@@ -106,7 +106,7 @@ module _ (law : WritesLaw) (none : (old : List ℕ) (at count : ℕ) → Torn at
     one_more =
         let within : 144 * n ≤ length written = omega (arith, is.long) in
         with_it old n front body written is.same is.there is.long is.next (overwritten written (144 * n) (0xa5 ∷ []))
-            (law written (144 * n) (0xa5 ∷ []) within).torn (overwritten_byte law written (144 * n) 0xa5 within)
+        (law written (144 * n) (0xa5 ∷ []) within).torn (overwritten_byte law written (144 * n) 0xa5 within)
 
     pub up_with_it : {D : Type 0} (g : Ghosts D) (disk : D) → g.seen disk ≡ overwritten written (144 * n) (0xa5 ∷ [])
         → Only (g.seen disk) (g.may_leave disk) → 144 * (n + 1) + 1 < 2 ^ 32
@@ -118,7 +118,7 @@ module _ (law : WritesLaw) (none : (old : List ℕ) (at count : ℕ) → Torn at
         let counts_now : n + 1 ≡ kept_count new = sym next_is ∙ front_unique new (suc n) (kept_count new) one_more.front (front_of new) in
         let there : 144 * suc n < length new = omega (arith, (law written (144 * n) (0xa5 ∷ []) within).size, is.long) in
         let shut : has_closed_gate new ≡ true = ap (has_closed_gate_at new) (sym counts_now ∙ sym next_is)
-            ∙ closed_there new (suc n) there one_more.shut in (
+        ∙ closed_there new (suc n) there one_more.shut in (
           record { count_is = counts_now ∙ sym (ap kept_count holds); closed = ap has_closed_gate holds ∙ shut; durable = only_now; fits = fits },
           ap kept holds ∙ one_more.bodies,
         )

@@ -1,6 +1,6 @@
 -- Which disk calls a log makes.
-use Rattle.std.specs.Prelude.{◌≡◌, ◌⊎◌, ◌<◌, ◌≤◌, ℕ, min, ◌+◌, ◌*◌, ◌/◌, if◌then◌else◌, Bool, true, false, List, [], ◌∷◌, ◌++◌, length,
-  Result, Ok, Err}
+use Rattle.std.specs.Prelude.{◌≡◌, ◌⊎◌, ◌<◌, ◌≤◌, ℕ, min, ◌+◌, ◌*◌, ◌/◌, if◌then◌else◌, Bool, true, false, List, [], ◌∷◌, ◌++◌, length}
+use Rattle.std.specs.Prelude.{Result, Ok, Err}
 use Rattle.c8_disk.specs.declared.error.DiskError.TheVariants.{Failed as DiskFailed, Full as DiskFull}
 use Rattle.c8_disk.specs.Asks.{Answer, Run, Nothing, Write, Sync, Reads, Then}
 use Rattle.c8_log.specs.declared.error.LogError.{LogError}
@@ -21,13 +21,13 @@ Append n body = Then (WriteAndSync (slot_length * n + 1) (body ++ closed_gate �
 abbrev pub AppendWithin : ℕ → ℕ → List ℕ → Run
 AppendWithin capacity n body calls answer =
     ((slot_length * (n + 1) + 1 ≤ capacity) × Append n body calls answer)
-        ⊎ ((capacity < slot_length * (n + 1) + 1) × (calls ≡ []) × (answer ≡ Err DiskFull))
+    ⊎ ((capacity < slot_length * (n + 1) + 1) × (calls ≡ []) × (answer ≡ Err DiskFull))
 
 -- the repair of the gate after the kept slots, unless that gate is closed
 abbrev pub Repair : List ℕ → Run
 Repair image calls answer =
     ((has_closed_gate image ≡ true) × Nothing calls answer)
-        ⊎ ((has_closed_gate image ≡ false) × WriteAndSync (slot_length * kept_count image) (closed_gate ∷ []) calls answer)
+    ⊎ ((has_closed_gate image ≡ false) × WriteAndSync (slot_length * kept_count image) (closed_gate ∷ []) calls answer)
 
 -- how many blocks there are up to the gate after the kept slots, or up to the end if that gate is
 -- missing

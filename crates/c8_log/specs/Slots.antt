@@ -1,6 +1,6 @@
 -- What an image of a disk keeps. Slot n begins at byte slot_length * n. It is a gate and a body.
-use Rattle.std.specs.Prelude.{◌≡◌, ◌<◌, ℕ, zero, suc, min, ◌+◌, ◌-◌, ◌*◌, ◌/◌, nat_le, nat_lt, ◌==◌, ◌&&◌, ◌||◌, not, if◌then◌else◌, Bool,
-  false, true, List, [], ◌∷◌, ◌++◌, length, take, drop, slice_index}
+use Rattle.std.specs.Prelude.{◌≡◌, ◌<◌, ℕ, zero, suc, min, ◌+◌, ◌-◌, ◌*◌, ◌/◌, nat_le, nat_lt, ◌==◌, ◌&&◌, ◌||◌, not, if◌then◌else◌, Bool}
+use Rattle.std.specs.Prelude.{false, true, List, [], ◌∷◌, ◌++◌, length, take, drop, slice_index}
 
 abbrev pub slot_length : ℕ
 slot_length = 144

@@ -1,6 +1,6 @@
 -- A machine has exactly one frame for the keys that are down.
-use Rattle.std.proofs.Common.{Bool, MatchBool, length, nat_lt, ◌≡◌, ℕ, zero, suc, ◌<◌, true, false, Option, Some, None, MatchOption, List,
-  [], ◌∷◌, ◌++◌, replicate, ap, sym, ◌∙◌, subst, inl, inr, refl, arith}
+use Rattle.std.proofs.Common.{Bool, MatchBool, length, nat_lt, ◌≡◌, ℕ, zero, suc, ◌<◌, true, false, Option, Some, None, MatchOption, List}
+use Rattle.std.proofs.Common.{[], ◌∷◌, ◌++◌, replicate, ap, sym, ◌∙◌, subst, inl, inr, refl, arith}
 use Rattle.std.proofs.lemmas.Bool.{true≢false, cases_Bool}
 use Rattle.c8_game.specs.Rules.{Rules}
 use Rattle.c8_machine.specs.declared.machine.Step.{Step}
@@ -61,12 +61,22 @@ record First (n : ℕ) (steps : List Step) : Type 0 where
   else_none : goes_on first ≡ false → rest ≡ []
 
 first : (n : ℕ) (steps : List Step) → FillsFrame (suc n) steps → First n steps
-first n steps (inl all) = record { first = Went; rest = replicate n Went; all = all; then_fills = λ _. inl refl;
-    else_none = λ e. absurd (true≢false e) }
+first n steps (inl all) = record {
+  first = Went;
+  rest = replicate n Went;
+  all = all;
+  then_fills = λ _. inl refl;
+  else_none = λ e. absurd (true≢false e);
+}
 first n steps (inr early) = by_first early.before early.last early.fewer early.ends early.all where
   by_first : (before : ℕ) (last : Step) → before < suc n → goes_on last ≡ false → steps ≡ replicate before Went ++ last ∷ [] → First n steps
-  by_first zero last fewer ends all = record { first = last; rest = []; all = all; then_fills = λ e. absurd (true≢false (sym e ∙ ends));
-      else_none = λ _. refl }
+  by_first zero last fewer ends all = record {
+    first = last;
+    rest = [];
+    all = all;
+    then_fills = λ e. absurd (true≢false (sym e ∙ ends));
+    else_none = λ _. refl;
+  }
   by_first (suc before) last fewer ends all = record {
     first = Went;
     rest = replicate before Went ++ last ∷ [];
@@ -91,11 +101,11 @@ chains_agree rules keys (suc n) s t u xs ys fills also chain other =
     let moved : IsChain rules keys left.0 y.rest u = subst (λ (mid : State). IsChain rules keys mid y.rest u) (sym same.machine) right.2 in
     elim (cases_Bool (goes_on x.first)) [
       | inl goes ↦ chains_agree rules keys n left.0 t u x.rest y.rest (x.then_fills goes) (y.then_fills (sym (ap goes_on same.what) ∙ goes))
-      left.2 moved
+          left.2 moved
       | inr ends ↦
           let at_left : t ≡ left.0 = subst (λ (steps : List Step). IsChain rules keys left.0 steps t) (x.else_none ends) left.2 in
           let at_right : u ≡ left.0 = subst (λ (steps : List Step). IsChain rules keys left.0 steps u)
-              (y.else_none (sym (ap goes_on same.what) ∙ ends)) moved in
+          (y.else_none (sym (ap goes_on same.what) ∙ ends)) moved in
           at_left ∙ sym at_right
     ]
 

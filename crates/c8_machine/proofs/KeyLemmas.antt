@@ -1,6 +1,6 @@
 -- The lowest key that was released, by the bits of two key sets.
-use Rattle.std.proofs.Common.{◌≡◌, ℕ, zero, suc, ◌+◌, ◌-◌, ◌^◌, ◌<◌, ◌≤◌, ◌&&◌, Bool, true, false, not, min, nat_eq, Some, None, refl, sym,
-  ap, ◌∙◌, inl, inr, arith}
+use Rattle.std.proofs.Common.{◌≡◌, ℕ, zero, suc, ◌+◌, ◌-◌, ◌^◌, ◌<◌, ◌≤◌, ◌&&◌, Bool, true, false, not, min, nat_eq, Some, None, refl, sym}
+use Rattle.std.proofs.Common.{ap, ◌∙◌, inl, inr, arith}
 use Rattle.std.proofs.lemmas.Bool.{cases_lt, cond-true, cond-false}
 use Rattle.std.proofs.lemmas.Nat.{and_le_l}
 use Rattle.std.proofs.lemmas.Nat.Bits.{bit_at-zero, bit_at_and, bit_at_not, bit_at-lt, bit_at-trailing_zeros}
@@ -17,16 +17,16 @@ find_first p from zero k low high passes before = absurd (omega arith)
 find_first p from (suc n) k low high passes before =
     elim (cases_lt from k) [
       | inl below ↦ cond-false (p from) (Some from) (find p (range_with_len (from + 1) n)) (before from below)
-      ∙ find_first p (from + 1) n k (omega arith) (omega arith) passes before
+          ∙ find_first p (from + 1) n k (omega arith) (omega arith) passes before
       | inr past ↦ let here : from ≡ k = omega arith in let now : p from ≡ true = rw here passes in
-      cond-true (p from) (Some from) (find p (range_with_len (from + 1) n)) now ∙ ap Some here
+          cond-true (p from) (Some from) (find p (range_with_len (from + 1) n)) now ∙ ap Some here
     ]
 
 find_none : (p : ℕ → Bool) (from n : ℕ) → ((j : ℕ) → j < from + n → p j ≡ false) → find p (range_with_len from n) ≡ None
 find_none p from zero none = refl
 find_none p from (suc n) none =
     cond-false (p from) (Some from) (find p (range_with_len (from + 1) n)) (none from (omega arith))
-        ∙ find_none p (from + 1) n (λ j h. none j (omega arith))
+    ∙ find_none p (from + 1) n (λ j h. none j (omega arith))
 
 both_tests : (x y : ℕ) → x < 2 → y < 2 → (nat_eq x 1 && not (nat_eq y 1)) ≡ nat_eq (min x (1 - y)) 1
 both_tests zero zero h k = refl

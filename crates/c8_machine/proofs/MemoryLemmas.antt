@@ -1,6 +1,6 @@
 -- The memory before the first frame, by what was written where.
-use Rattle.std.proofs.Common.{◌≡◌, ℕ, ◌+◌, ◌-◌, ◌%◌, ◌<◌, ◌≤◌, List, map, take, length, get_or, false, cond, ◌&&◌, nat_eq, nat_le, nat_lt,
-  ap, replicate, sym, ◌∙◌, inl, inr, arith}
+use Rattle.std.proofs.Common.{◌≡◌, ℕ, ◌+◌, ◌-◌, ◌%◌, ◌<◌, ◌≤◌, List, map, take, length, get_or, false, cond, ◌&&◌, nat_eq, nat_le, nat_lt}
+use Rattle.std.proofs.Common.{ap, replicate, sym, ◌∙◌, inl, inr, arith}
 use Rattle.std.proofs.Math.Path.{fun_ext}
 use Rattle.std.proofs.lemmas.Bool.{cases_lt, cases_Bool, and_parts, leb-true, ltb-true, cond-true, cond-false, le-leb, lt-leb}
 use Rattle.std.proofs.lemmas.List.{get_or-replicate, get_or_past, length-replicate, length-take-le, get_or-take}
@@ -11,8 +11,10 @@ use Rattle.c8_screen.specs.Points.{sprite}
 use Rattle.c8_machine.specs.State.{first_memory, digit_patterns}
 
 zeros : (n k : ℕ) → get_or {A = ℕ} (replicate n 0) k 0 ≡ 0
-zeros n k = elim (cases_lt k n) [ inl within ↦ get_or-replicate n k 0 0 within
-    | inr past ↦ get_or_past {X = ℕ} (replicate n 0) k 0 (simp length-replicate past) ]
+zeros n k = elim (cases_lt k n) [
+  | inl within ↦ get_or-replicate n k 0 0 within
+  | inr past ↦ get_or_past {X = ℕ} (replicate n 0) k 0 (simp length-replicate past)
+]
 
 -- the bytes were written from an address on, and nothing else changed
 pub record Places (from : ℕ) (bytes old new : List ℕ) : Type 0 where
@@ -66,7 +68,7 @@ sprites_agree n f g left top same = fun_ext (λ x. fun_ext (λ y.
           let low : top ≤ y = leb-true top y rows.0 in
           let high : y < top + n = ltb-true y (top + n) rows.1 in
           ap (λ byte. cond ((nat_le left x && nat_lt x (left + 8)) && (nat_le top y && nat_lt y (top + n)))
-              (nat_eq (bit_at byte (7 - (x - left))) 1) false) (same (y - top) (omega arith))
+          (nat_eq (bit_at byte (7 - (x - left))) 1) false) (same (y - top) (omega arith))
       | inr outside ↦ cond-false _ _ _ outside ∙ sym (cond-false _ _ _ outside)
     ]))
 
@@ -78,4 +80,4 @@ sprite_loaded f bytes m n left top same few loaded =
     let drawn : length (take m bytes) ≡ n = length-take-le m bytes (omega (arith, size)) ∙ same in
     rw drawn (sprites_agree n (λ k. get_or (take m bytes) k 0) f left top
     (λ k h. get_or-take m bytes k 0 (omega arith) ∙ ap (λ (xs : List ℕ). get_or xs k 0) loaded
-        ∙ get_or-map-range_with_len f 0 15 k k 0 (omega arith) (omega arith)))
+    ∙ get_or-map-range_with_len f 0 15 k k 0 (omega arith) (omega arith)))

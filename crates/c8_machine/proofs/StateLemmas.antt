@@ -1,7 +1,7 @@
 -- Every part of a machine stays in its range: at the start, over a step, over a frame, over a run.
-use Rattle.std.proofs.Common.{◌≡◌, ℕ, zero, suc, ◌+◌, ◌-◌, ◌/◌, ◌%◌, ◌^◌, ◌<◌, ◌≤◌, ◌&&◌, Bool, true, false, not, cond, nat_le, nat_lt,
-  MatchBool, MatchOption, Option, Some, None, List, [], ◌∷◌, ◌++◌, length, map, take, drop, replicate, fold, find, get_or, refl, sym, ◌∙◌,
-  subst, inl, inr, arith, length-append, length-drop, length-take}
+use Rattle.std.proofs.Common.{◌≡◌, ℕ, zero, suc, ◌+◌, ◌-◌, ◌/◌, ◌%◌, ◌^◌, ◌<◌, ◌≤◌, ◌&&◌, Bool, true, false, not, cond, nat_le, nat_lt}
+use Rattle.std.proofs.Common.{MatchBool, MatchOption, Option, Some, None, List, [], ◌∷◌, ◌++◌, length, map, take, drop, replicate, fold}
+use Rattle.std.proofs.Common.{find, get_or, refl, sym, ◌∙◌, subst, inl, inr, arith, length-append, length-drop, length-take}
 use Rattle.std.proofs.Math.ListN.{set}
 use Rattle.std.proofs.lemmas.Bool.{cases_lt, and_parts, and_left, cond-true, cond-false, le-leb, le-ltb, ltb-true, true≢false}
 use Rattle.std.proofs.lemmas.List.{get_or-take, get_or-drop, get_or-replicate, get_or_past, length-set, length-replicate}
@@ -16,13 +16,14 @@ use Rattle.c8_game.specs.declared.row.Row.{Row}
 use Rattle.c8_machine.specs.declared.machine.Machine.{Machine}
 use Rattle.c8_machine.specs.declared.machine.Step.{Step}
 use Rattle.c8_machine.specs.declared.machine.Stop.{Stop}
-use Rattle.c8_machine.specs.Instructions.{Instruction, Clear, Return, Jump, Call, SkipIfValue, SkipUnlessValue, SkipIfSame, SetValue,
-  AddValue, Set, Or, And, ExclusiveOr, Add, Subtract, ShiftRight, SubtractFrom, ShiftLeft, SkipUnlessSame, SetAddress, JumpFrom, Random,
-  Draw, SkipIfDown, SkipIfUp, ReadTimer, AwaitKey, SetTimer, SetTone, AddAddress, PointAtDigit, StoreDigits, StoreRegisters, LoadRegisters,
-  IsInRange, IsInstructionOf}
+use Rattle.c8_machine.specs.Instructions.{Instruction, Clear, Return, Jump, Call, SkipIfValue, SkipUnlessValue, SkipIfSame, SetValue}
+use Rattle.c8_machine.specs.Instructions.{AddValue, Set, Or, And, ExclusiveOr, Add, Subtract, ShiftRight, SubtractFrom, ShiftLeft}
+use Rattle.c8_machine.specs.Instructions.{SkipUnlessSame, SetAddress, JumpFrom, Random, Draw, SkipIfDown, SkipIfUp, ReadTimer, AwaitKey}
+use Rattle.c8_machine.specs.Instructions.{SetTimer, SetTone, AddAddress, PointAtDigit, StoreDigits, StoreRegisters, LoadRegisters}
+use Rattle.c8_machine.specs.Instructions.{IsInRange, IsInstructionOf}
 use Rattle.c8_machine.specs.State.{State, Memory, IsState, state, digit_patterns, first_memory, first_state}
-use Rattle.c8_machine.specs.Steps.{Does, Executes, register, with_register, with_flag, flag_if, passed, skipped_if, next, stopped, stored,
-  byte_at, drawing, random_byte, is_down}
+use Rattle.c8_machine.specs.Steps.{Does, Executes, register, with_register, with_flag, flag_if, passed, skipped_if, next, stopped, stored}
+use Rattle.c8_machine.specs.Steps.{byte_at, drawing, random_byte, is_down}
 use Rattle.c8_machine.specs.Frames.{IsFrame, IsLiveFrame, IsChain, Runs, settled, with_key, ended, lowest_released}
 use Rattle.c8_machine.specs.Serial.{serial, frame_of}
 use Rattle.c8_machine.proofs.FrameLemmas.{is_frame}
@@ -93,65 +94,221 @@ exclusive_or_in a b a_in b_in x y lit = by_test (b x y) refl lit where
 -- ---- one part changed
 
 memory_in : (s : State) (memory : Memory) → IsMemory memory → IsState s → IsState (record s { memory = memory })
-memory_in s memory memory_is is = record { bytes = memory_is.0; no_more_bytes = memory_is.1; registers = is.registers; values = is.values;
-    address = is.address; counter = is.counter; depth = is.depth; places = is.places; points = is.points; timer = is.timer; tone = is.tone;
-    keys = is.keys; waits = is.waits; draws = is.draws }
+memory_in s memory memory_is is = record {
+  bytes = memory_is.0;
+  no_more_bytes = memory_is.1;
+  registers = is.registers;
+  values = is.values;
+  address = is.address;
+  counter = is.counter;
+  depth = is.depth;
+  places = is.places;
+  points = is.points;
+  timer = is.timer;
+  tone = is.tone;
+  keys = is.keys;
+  waits = is.waits;
+  draws = is.draws;
+}
 
 registers_in : (s : State) (registers : List ℕ) → length registers ≡ 16 → AllBelow (2 ^ 8) registers → IsState s
     → IsState (record s { registers = registers })
-registers_in s registers size all is = record { bytes = is.bytes; no_more_bytes = is.no_more_bytes; registers = size; values = all;
-    address = is.address; counter = is.counter; depth = is.depth; places = is.places; points = is.points; timer = is.timer; tone = is.tone;
-    keys = is.keys; waits = is.waits; draws = is.draws }
+registers_in s registers size all is = record {
+  bytes = is.bytes;
+  no_more_bytes = is.no_more_bytes;
+  registers = size;
+  values = all;
+  address = is.address;
+  counter = is.counter;
+  depth = is.depth;
+  places = is.places;
+  points = is.points;
+  timer = is.timer;
+  tone = is.tone;
+  keys = is.keys;
+  waits = is.waits;
+  draws = is.draws;
+}
 
 address_in : (s : State) (to : ℕ) → to < 0x1000 → IsState s → IsState (record s { address = to })
-address_in s to to_in is = record { bytes = is.bytes; no_more_bytes = is.no_more_bytes; registers = is.registers; values = is.values;
-    address = to_in; counter = is.counter; depth = is.depth; places = is.places; points = is.points; timer = is.timer; tone = is.tone;
-    keys = is.keys; waits = is.waits; draws = is.draws }
+address_in s to to_in is = record {
+  bytes = is.bytes;
+  no_more_bytes = is.no_more_bytes;
+  registers = is.registers;
+  values = is.values;
+  address = to_in;
+  counter = is.counter;
+  depth = is.depth;
+  places = is.places;
+  points = is.points;
+  timer = is.timer;
+  tone = is.tone;
+  keys = is.keys;
+  waits = is.waits;
+  draws = is.draws;
+}
 
 counter_in : (s : State) (to : ℕ) → to < 0x1000 → IsState s → IsState (record s { counter = to })
-counter_in s to to_in is = record { bytes = is.bytes; no_more_bytes = is.no_more_bytes; registers = is.registers; values = is.values;
-    address = is.address; counter = to_in; depth = is.depth; places = is.places; points = is.points; timer = is.timer; tone = is.tone;
-    keys = is.keys; waits = is.waits; draws = is.draws }
+counter_in s to to_in is = record {
+  bytes = is.bytes;
+  no_more_bytes = is.no_more_bytes;
+  registers = is.registers;
+  values = is.values;
+  address = is.address;
+  counter = to_in;
+  depth = is.depth;
+  places = is.places;
+  points = is.points;
+  timer = is.timer;
+  tone = is.tone;
+  keys = is.keys;
+  waits = is.waits;
+  draws = is.draws;
+}
 
 stack_in : (s : State) (stack : List ℕ) → length stack ≤ 16 → AllBelow 0x1000 stack → IsState s → IsState (record s { stack = stack })
-stack_in s stack few all is = record { bytes = is.bytes; no_more_bytes = is.no_more_bytes; registers = is.registers; values = is.values;
-    address = is.address; counter = is.counter; depth = few; places = all; points = is.points; timer = is.timer; tone = is.tone;
-    keys = is.keys; waits = is.waits; draws = is.draws }
+stack_in s stack few all is = record {
+  bytes = is.bytes;
+  no_more_bytes = is.no_more_bytes;
+  registers = is.registers;
+  values = is.values;
+  address = is.address;
+  counter = is.counter;
+  depth = few;
+  places = all;
+  points = is.points;
+  timer = is.timer;
+  tone = is.tone;
+  keys = is.keys;
+  waits = is.waits;
+  draws = is.draws;
+}
 
 screen_in : (s : State) (screen : Points) → AreOnScreen screen → IsState s → IsState (record s { screen = screen })
-screen_in s screen on is = record { bytes = is.bytes; no_more_bytes = is.no_more_bytes; registers = is.registers; values = is.values;
-    address = is.address; counter = is.counter; depth = is.depth; places = is.places; points = on; timer = is.timer; tone = is.tone;
-    keys = is.keys; waits = is.waits; draws = is.draws }
+screen_in s screen on is = record {
+  bytes = is.bytes;
+  no_more_bytes = is.no_more_bytes;
+  registers = is.registers;
+  values = is.values;
+  address = is.address;
+  counter = is.counter;
+  depth = is.depth;
+  places = is.places;
+  points = on;
+  timer = is.timer;
+  tone = is.tone;
+  keys = is.keys;
+  waits = is.waits;
+  draws = is.draws;
+}
 
 timer_in : (s : State) (timer : ℕ) → timer < 2 ^ 8 → IsState s → IsState (record s { timer = timer })
-timer_in s timer fits is = record { bytes = is.bytes; no_more_bytes = is.no_more_bytes; registers = is.registers; values = is.values;
-    address = is.address; counter = is.counter; depth = is.depth; places = is.places; points = is.points; timer = fits; tone = is.tone;
-    keys = is.keys; waits = is.waits; draws = is.draws }
+timer_in s timer fits is = record {
+  bytes = is.bytes;
+  no_more_bytes = is.no_more_bytes;
+  registers = is.registers;
+  values = is.values;
+  address = is.address;
+  counter = is.counter;
+  depth = is.depth;
+  places = is.places;
+  points = is.points;
+  timer = fits;
+  tone = is.tone;
+  keys = is.keys;
+  waits = is.waits;
+  draws = is.draws;
+}
 
 tone_in : (s : State) (tone : ℕ) → tone < 2 ^ 8 → IsState s → IsState (record s { tone = tone })
-tone_in s tone fits is = record { bytes = is.bytes; no_more_bytes = is.no_more_bytes; registers = is.registers; values = is.values;
-    address = is.address; counter = is.counter; depth = is.depth; places = is.places; points = is.points; timer = is.timer; tone = fits;
-    keys = is.keys; waits = is.waits; draws = is.draws }
+tone_in s tone fits is = record {
+  bytes = is.bytes;
+  no_more_bytes = is.no_more_bytes;
+  registers = is.registers;
+  values = is.values;
+  address = is.address;
+  counter = is.counter;
+  depth = is.depth;
+  places = is.places;
+  points = is.points;
+  timer = is.timer;
+  tone = fits;
+  keys = is.keys;
+  waits = is.waits;
+  draws = is.draws;
+}
 
 keys_in : (s : State) (keys : ℕ) → keys < 2 ^ 16 → IsState s → IsState (record s { keys = keys })
-keys_in s keys fits is = record { bytes = is.bytes; no_more_bytes = is.no_more_bytes; registers = is.registers; values = is.values;
-    address = is.address; counter = is.counter; depth = is.depth; places = is.places; points = is.points; timer = is.timer; tone = is.tone;
-    keys = fits; waits = is.waits; draws = is.draws }
+keys_in s keys fits is = record {
+  bytes = is.bytes;
+  no_more_bytes = is.no_more_bytes;
+  registers = is.registers;
+  values = is.values;
+  address = is.address;
+  counter = is.counter;
+  depth = is.depth;
+  places = is.places;
+  points = is.points;
+  timer = is.timer;
+  tone = is.tone;
+  keys = fits;
+  waits = is.waits;
+  draws = is.draws;
+}
 
 waits_in : (s : State) (waits : Option ℕ) → IfSome waits (λ x. x < 16) → IsState s → IsState (record s { waits = waits })
-waits_in s waits fits is = record { bytes = is.bytes; no_more_bytes = is.no_more_bytes; registers = is.registers; values = is.values;
-    address = is.address; counter = is.counter; depth = is.depth; places = is.places; points = is.points; timer = is.timer; tone = is.tone;
-    keys = is.keys; waits = fits; draws = is.draws }
+waits_in s waits fits is = record {
+  bytes = is.bytes;
+  no_more_bytes = is.no_more_bytes;
+  registers = is.registers;
+  values = is.values;
+  address = is.address;
+  counter = is.counter;
+  depth = is.depth;
+  places = is.places;
+  points = is.points;
+  timer = is.timer;
+  tone = is.tone;
+  keys = is.keys;
+  waits = fits;
+  draws = is.draws;
+}
 
 draws_in : (s : State) (draws : ℕ) → draws < 2 ^ 64 → IsState s → IsState (record s { draws = draws })
-draws_in s draws fits is = record { bytes = is.bytes; no_more_bytes = is.no_more_bytes; registers = is.registers; values = is.values;
-    address = is.address; counter = is.counter; depth = is.depth; places = is.places; points = is.points; timer = is.timer; tone = is.tone;
-    keys = is.keys; waits = is.waits; draws = fits }
+draws_in s draws fits is = record {
+  bytes = is.bytes;
+  no_more_bytes = is.no_more_bytes;
+  registers = is.registers;
+  values = is.values;
+  address = is.address;
+  counter = is.counter;
+  depth = is.depth;
+  places = is.places;
+  points = is.points;
+  timer = is.timer;
+  tone = is.tone;
+  keys = is.keys;
+  waits = is.waits;
+  draws = fits;
+}
 
 stop_in : (s : State) (stop : Option Stop) → IsState s → IsState (record s { stop = stop })
-stop_in s stop is = record { bytes = is.bytes; no_more_bytes = is.no_more_bytes; registers = is.registers; values = is.values;
-    address = is.address; counter = is.counter; depth = is.depth; places = is.places; points = is.points; timer = is.timer; tone = is.tone;
-    keys = is.keys; waits = is.waits; draws = is.draws }
+stop_in s stop is = record {
+  bytes = is.bytes;
+  no_more_bytes = is.no_more_bytes;
+  registers = is.registers;
+  values = is.values;
+  address = is.address;
+  counter = is.counter;
+  depth = is.depth;
+  places = is.places;
+  points = is.points;
+  timer = is.timer;
+  tone = is.tone;
+  keys = is.keys;
+  waits = is.waits;
+  draws = is.draws;
+}
 
 with_register_in : (s : State) (x value : ℕ) → value < 2 ^ 8 → IsState s → IsState (with_register s x value)
 with_register_in s x value value_in is = registers_in s _ (length-set s.registers x value ∙ is.registers)
@@ -214,19 +371,26 @@ drawn_in s left top rows is = screen_in (passed s) _ (exclusive_or_in s.screen (
 digits_in : (value : ℕ) → value < 2 ^ 8 → AllBelow (2 ^ 8) (value / 100 ∷ value / 10 % 10 ∷ value % 10 ∷ [])
 digits_in value value_in =
     below_cons (2 ^ 8) (value / 100) (value / 10 % 10 ∷ value % 10 ∷ []) (omega arith)
-        (below_cons (2 ^ 8) (value / 10 % 10) (value % 10 ∷ []) (omega arith)
-        (below_cons (2 ^ 8) (value % 10) [] (omega arith) (below_none (2 ^ 8) (omega arith))))
+    (below_cons (2 ^ 8) (value / 10 % 10) (value % 10 ∷ []) (omega arith)
+    (below_cons (2 ^ 8) (value % 10) [] (omega arith) (below_none (2 ^ 8) (omega arith))))
 
 loaded_in : (s : State) (x : ℕ) → x < 16 → IsState s
-    → IsState (record (passed s) { registers = map (byte_at s) (range_with_len 0 (x + 1)) ++ drop (x + 1) s.registers;
-    address = (s.address + x + 1) % 0x1000 })
+    → IsState (record (passed s) {
+      registers = map (byte_at s) (range_with_len 0 (x + 1)) ++ drop (x + 1) s.registers;
+      address = (s.address + x + 1) % 0x1000;
+    })
 loaded_in s x x_in is =
     address_in (record (passed s) { registers = map (byte_at s) (range_with_len 0 (x + 1)) ++ drop (x + 1) s.registers }) _ (omega arith)
-    (registers_in (passed s) _ (omega (arith, length-append (map (byte_at s) (range_with_len 0 (x + 1))) (drop (x + 1) s.registers),
-        length-map-range_with_len (byte_at s) 0 (x + 1), length-drop (x + 1) s.registers, is.registers))
+    (registers_in (passed s) _ (omega (
+      arith,
+      length-append (map (byte_at s) (range_with_len 0 (x + 1))) (drop (x + 1) s.registers),
+      length-map-range_with_len (byte_at s) 0 (x + 1),
+      length-drop (x + 1) s.registers,
+      is.registers,
+    ))
     (below_append (2 ^ 8) (map (byte_at s) (range_with_len 0 (x + 1))) (drop (x + 1) s.registers)
     (below_map (2 ^ 8) (byte_at s) 0 (x + 1) (omega arith) (λ k. is.bytes ((s.address + k) % 0x1000)))
-        (below_drop (2 ^ 8) (x + 1) s.registers is.values)) (passed_in s is))
+    (below_drop (2 ^ 8) (x + 1) s.registers is.values)) (passed_in s is))
 
 does_in : (rules : Rules) (keys : ℕ) (i : Instruction) (s t : State) (step : Step) → IsInRange i → IsState s → Does rules keys i s t step → IsState t
 does_in rules keys Clear s t step i_in is (what, same) =
@@ -265,7 +429,7 @@ does_in rules keys (SetAddress to) s t step i_in is (what, same) = moved s t _ (
 does_in rules keys (JumpFrom to) s t step i_in is (what, same) = moved s t _ (counter_in s _ (omega arith) is) same
 does_in rules keys (Random x value) s t step i_in is (what, same) =
     moved s t _ (with_register_in (record (passed s) { draws = (s.draws + 1) % 2 ^ 64 }) x _
-        (omega (arith, and_le_r (random_byte rules.seed s.draws) value, i_in.1)) (draws_in (passed s) _ (omega arith) (passed_in s is))) same
+    (omega (arith, and_le_r (random_byte rules.seed s.draws) value, i_in.1)) (draws_in (passed s) _ (omega arith) (passed_in s is))) same
 does_in rules keys (Draw x y rows) s t step i_in is (what, same) =
     moved s t _ (with_register_in _ 0xF _ (flag_in _) (drawn_in s (register s x) (register s y) rows is)) same
 does_in rules keys (ReadTimer x) s t step i_in is (what, same) = moved s t _ (with_register_in (passed s) x _ is.timer (passed_in s is)) same
@@ -279,7 +443,7 @@ does_in rules keys (StoreDigits x) s t step i_in is (what, same) =
     (digits_in (register s x) (is.values x)) is) same
 does_in rules keys (StoreRegisters x) s t step i_in is (what, same) =
     moved s t _ (address_in _ _ (omega arith)
-        (with_memory_in s (take (x + 1) s.registers) (below_take (2 ^ 8) (x + 1) s.registers (omega arith) is.values) is)) same
+    (with_memory_in s (take (x + 1) s.registers) (below_take (2 ^ 8) (x + 1) s.registers (omega arith) is.values) is)) same
 does_in rules keys (LoadRegisters x) s t step i_in is (what, same) = moved s t _ (loaded_in s x i_in is) same
 
 executes_in : (rules : Rules) (keys : ℕ) (code : ℕ) (i : Option Instruction) (s t : State) (step : Step) → IsInstructionOf code i
@@ -327,7 +491,7 @@ frame_in_by : (rules : Rules) (keys : ℕ) (s t : State) (stop : Option Stop) �
     → MatchOption stop (IsLiveFrame rules keys s t) (λ _. t ≡ s) → IsState t
 frame_in_by rules keys s t None keys_below is live =
     moved s t (ended keys live.mid) (ended_in keys live.mid keys_below
-        (acts_in rules keys (settled s s.waits keys) live.mid (settled s s.waits keys).waits (settled_in s s.waits keys is) live.acts)) live.ends
+    (acts_in rules keys (settled s s.waits keys) live.mid (settled s s.waits keys).waits (settled_in s s.waits keys is) live.acts)) live.ends
 frame_in_by rules keys s t (Some why) keys_below is same = moved s t s is same
 
 pub frame_in : (rules : Rules) (keys : ℕ) (s t : State) → keys < 2 ^ 16 → IsState s → IsFrame rules keys s t → IsState t
@@ -344,7 +508,7 @@ patterns_in = below_all (2 ^ 8) digit_patterns (omega arith) refl
 first_byte_in : (program : List ℕ) (at : ℕ) → AllBelow (2 ^ 8) program → first_memory program at < 2 ^ 8
 first_byte_in program at all =
     let low : cond (nat_le 0x50 at) (get_or digit_patterns (at - 0x50) 0) 0 < 2 ^ 8 =
-        cond_below (2 ^ 8) (nat_le 0x50 at) (get_or digit_patterns (at - 0x50) 0) 0 (patterns_in (at - 0x50)) (omega arith) in
+    cond_below (2 ^ 8) (nat_le 0x50 at) (get_or digit_patterns (at - 0x50) 0) 0 (patterns_in (at - 0x50)) (omega arith) in
     cond_below (2 ^ 8) (nat_le 0x200 at) (get_or program (at - 0x200) 0) _ (all (at - 0x200)) low
 
 no_more_bytes_first : (program : List ℕ) (at : ℕ) → length program ≤ 3584 → 0x1000 ≤ at → first_memory program at ≡ 0
@@ -375,13 +539,16 @@ first_in rules range = record {
 }
 
 masked_in : (rules : Rules) (row : Row) (place : ℕ) → AreInRange rules → masked rules row place < 2 ^ 16
-masked_in rules row place range = omega (arith, and_le_r (get_or row.sets place (record { 0 = 0 })).0 (get_or rules.masks place 0),
-    range.key_sets place)
+masked_in rules row place range = omega (
+  arith,
+  and_le_r (get_or row.sets place (record { 0 = 0 })).0 (get_or rules.masks place 0),
+  range.key_sets place,
+)
 
 joined_in : (rules : Rules) (row : Row) → AreInRange rules → joined rules row < 2 ^ 16
 joined_in rules row range =
     or_lt 16 _ _ (masked_in rules row 0 range)
-        (or_lt 16 _ _ (masked_in rules row 1 range) (or_lt 16 _ _ (masked_in rules row 2 range) (masked_in rules row 3 range)))
+    (or_lt 16 _ _ (masked_in rules row 1 range) (or_lt 16 _ _ (masked_in rules row 2 range) (masked_in rules row 3 range)))
 
 pub run_in : (rules : Rules) (s : State) (rows : List Row) → AreInRange rules → IsState s
     → IsState (fold (λ s row. frame_of rules (joined rules row) s) s rows)

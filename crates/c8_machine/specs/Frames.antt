@@ -1,6 +1,6 @@
 -- One frame, as a relation over chains of steps.
-use Rattle.std.specs.Prelude.{◌≡◌, ℕ, ◌-◌, ◌<◌, ◌&&◌, ◌⊎◌, Bool, true, false, not, Option, Some, None, MatchOption, List, [], ◌∷◌, ◌++◌,
-  find, replicate}
+use Rattle.std.specs.Prelude.{◌≡◌, ℕ, ◌-◌, ◌<◌, ◌&&◌, ◌⊎◌, Bool, true, false, not, Option, Some, None, MatchOption, List, [], ◌∷◌, ◌++◌}
+use Rattle.std.specs.Prelude.{find, replicate}
 use Rattle.c8_game.specs.Rules.{Rules}
 use Rattle.c8_machine.specs.declared.machine.Step.{Step}
 use Rattle.c8_machine.specs.declared.machine.Step.TheVariants.{Went, Drew, Waits, Stopped, Held}

@@ -1,6 +1,6 @@
 -- The state of a machine, apart from how the code stores it.
-use Rattle.std.specs.Prelude.{◌≡◌, ℕ, ◌-◌, ◌^◌, ◌<◌, ◌≤◌, Option, None, IfSome, List, [], ◌∷◌, length, nat_le, replicate, slice_index, take,
-  if◌then◌else◌}
+use Rattle.std.specs.Prelude.{◌≡◌, ℕ, ◌-◌, ◌^◌, ◌<◌, ◌≤◌, Option, None, IfSome, List, [], ◌∷◌, length, nat_le, replicate, slice_index, take}
+use Rattle.std.specs.Prelude.{if◌then◌else◌}
 use Rattle.c8_screen.specs.Points.{Points, no_points, points_of, AreOnScreen}
 use Rattle.c8_game.specs.Rules.{Rules}
 use Rattle.c8_machine.specs.declared.machine.Machine.{Machine}
@@ -115,7 +115,7 @@ digit_patterns =
 abbrev pub first_memory : List ℕ → Memory
 first_memory program at =
     if nat_le program_at at then slice_index program (at - program_at) else if nat_le patterns_at at then slice_index digit_patterns
-        (at - patterns_at) else 0
+    (at - patterns_at) else 0
 
 -- the machine before the first frame
 abbrev pub first_state : Rules → State

@@ -1,7 +1,8 @@
 -- What one instruction does: a relation between the machine before and after it. It has one case for each row of the
 -- instruction table of docs/MACHINE.md, under its code.
-use Rattle.std.specs.Prelude.{◌≡◌, ℕ, ◌+◌, ◌-◌, ◌*◌, ◌/◌, ◌%◌, ◌^◌, ◌==◌, ◌&&◌, Bool, not, MatchBool, Option, Some, None, List, [], ◌∷◌,
-  ◌++◌, length, take, drop, map, nat_le, nat_lt, bit_and, bit_or, bit_xor, slice_index, slice_set, if◌then◌else◌}
+use Rattle.std.specs.Prelude.{◌≡◌, ℕ, ◌+◌, ◌-◌, ◌*◌, ◌/◌, ◌%◌, ◌^◌, ◌==◌, ◌&&◌, Bool, not, MatchBool, Option, Some, None, List, [], ◌∷◌}
+use Rattle.std.specs.Prelude.{◌++◌, length, take, drop, map, nat_le, nat_lt, bit_and, bit_or, bit_xor, slice_index, slice_set}
+use Rattle.std.specs.Prelude.{if◌then◌else◌}
 use Rattle.std.specs.Int.{bit_at, to_be_bytes, w64}
 use Rattle.std.specs.List.{range_with_len}
 use Rattle.sha2.specs.Sha256.{sha256}
@@ -11,9 +12,10 @@ use Rattle.c8_machine.specs.declared.machine.Step.{Step}
 use Rattle.c8_machine.specs.declared.machine.Step.TheVariants.{Went, Drew, Waits, Stopped}
 use Rattle.c8_machine.specs.declared.machine.Stop.{Stop}
 use Rattle.c8_machine.specs.declared.machine.Stop.TheVariants.{UnknownInstruction, StackFull, StackEmpty}
-use Rattle.c8_machine.specs.Instructions.{Instruction, IsInstructionOf, Clear, Return, Jump, Call, SkipIfValue, SkipUnlessValue, SkipIfSame,
-  SetValue, AddValue, Set, Or, And, ExclusiveOr, Add, Subtract, ShiftRight, SubtractFrom, ShiftLeft, SkipUnlessSame, SetAddress, JumpFrom,
-  Random, Draw, SkipIfDown, SkipIfUp, ReadTimer, AwaitKey, SetTimer, SetTone, AddAddress, PointAtDigit, StoreDigits, StoreRegisters, LoadRegisters}
+use Rattle.c8_machine.specs.Instructions.{Instruction, IsInstructionOf, Clear, Return, Jump, Call, SkipIfValue, SkipUnlessValue, SkipIfSame}
+use Rattle.c8_machine.specs.Instructions.{SetValue, AddValue, Set, Or, And, ExclusiveOr, Add, Subtract, ShiftRight, SubtractFrom, ShiftLeft}
+use Rattle.c8_machine.specs.Instructions.{SkipUnlessSame, SetAddress, JumpFrom, Random, Draw, SkipIfDown, SkipIfUp, ReadTimer, AwaitKey}
+use Rattle.c8_machine.specs.Instructions.{SetTimer, SetTone, AddAddress, PointAtDigit, StoreDigits, StoreRegisters, LoadRegisters}
 use Rattle.c8_machine.specs.State.{State, Memory, memory_size, stack_size, patterns_at}
 
 -- ---- parts of a machine
@@ -117,13 +119,13 @@ Does rules keys (Add x y) s t step =
 -- 8XY5
 Does rules keys (Subtract x y) s t step =
     (step ≡ Went) × (t ≡ with_flag (with_register (passed s) x ((register s x + 0x100 - register s y) % 0x100))
-        (flag_if (nat_le (register s y) (register s x))))
+    (flag_if (nat_le (register s y) (register s x))))
 -- 8XY6
 Does rules keys (ShiftRight x y) s t step = (step ≡ Went) × (t ≡ with_flag (with_register (passed s) x (register s y / 2)) (register s y % 2))
 -- 8XY7
 Does rules keys (SubtractFrom x y) s t step =
     (step ≡ Went) × (t ≡ with_flag (with_register (passed s) x ((register s y + 0x100 - register s x) % 0x100))
-        (flag_if (nat_le (register s x) (register s y))))
+    (flag_if (nat_le (register s x) (register s y))))
 -- 8XYE
 Does rules keys (ShiftLeft x y) s t step =
     (step ≡ Went) × (t ≡ with_flag (with_register (passed s) x (register s y * 2 % 0x100)) (register s y / 0x80))
@@ -160,12 +162,16 @@ Does rules keys (StoreDigits x) s t step =
     (step ≡ Went) × (t ≡ record (passed s) { memory = stored decimals s.address s.memory })
 -- FX55
 Does rules keys (StoreRegisters x) s t step =
-    (step ≡ Went) × (t ≡ record (passed s) { memory = stored (take (x + 1) s.registers) s.address s.memory;
-        address = (s.address + x + 1) % memory_size })
+    (step ≡ Went) × (t ≡ record (passed s) {
+      memory = stored (take (x + 1) s.registers) s.address s.memory;
+      address = (s.address + x + 1) % memory_size;
+    })
 -- FX65
 Does rules keys (LoadRegisters x) s t step =
-    (step ≡ Went) × (t ≡ record (passed s) { registers = map (byte_at s) (range_with_len 0 (x + 1)) ++ drop (x + 1) s.registers;
-        address = (s.address + x + 1) % memory_size })
+    (step ≡ Went) × (t ≡ record (passed s) {
+      registers = map (byte_at s) (range_with_len 0 (x + 1)) ++ drop (x + 1) s.registers;
+      address = (s.address + x + 1) % memory_size;
+    })
 
 -- an instruction that depends on no rule of the game and on no key
 abbrev pub Performs : Instruction → State → State → Step → Type 0

@@ -32,7 +32,7 @@ IsMatchOn journal rules room me (Err error) = OfDisk (λ D g disk. HasFailed g d
 abbrev pub IsOutcome : ℕ → ℕ → Result Played PeerError → Type 0
 IsOutcome room me outcome =
     ((journal : Journal) × (rules : Rules) × IsMatchOn journal rules room me outcome)
-        ⊎ ((error : PeerError) × IsUnbegun error × (outcome ≡ Err error))
+    ⊎ ((error : PeerError) × IsUnbegun error × (outcome ≡ Err error))
 
 -- a player's command ends with such an outcome
 abbrev pub HasAnswered : ℕ → ℕ → Option (List ℕ) → Option (List ℕ) → Status → Type 0

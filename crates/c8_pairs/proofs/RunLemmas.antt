@@ -1,6 +1,6 @@
 -- The inputs of a run that begins within its first pair.
-use Rattle.std.proofs.Common.{◌≡◌, ℕ, zero, suc, ◌+◌, ◌-◌, ◌<◌, ◌≤◌, List, [], ◌∷◌, ◌++◌, length, drop, replicate, true, Some, None, refl,
-  sym, ap, ◌∙◌, arith}
+use Rattle.std.proofs.Common.{◌≡◌, ℕ, zero, suc, ◌+◌, ◌-◌, ◌<◌, ◌≤◌, List, [], ◌∷◌, ◌++◌, length, drop, replicate, true, Some, None, refl}
+use Rattle.std.proofs.Common.{sym, ap, ◌∙◌, arith}
 use Rattle.std.specs.Prelude.{slice_get}
 use Rattle.std.proofs.lemmas.List.{drop-drop, drop-append-le, drop-replicate, length-replicate, length-drop}
 use Rattle.std.proofs.Math.Seq.{drop-append-add}
@@ -18,7 +18,7 @@ pub drop_within : (skip times keys : ℕ) (words : List ℕ) → skip ≤ times
     → drop skip (replicate times keys ++ words) ≡ replicate (times - skip) keys ++ words
 drop_within skip times keys words within =
     drop-append-le skip (replicate times keys) words (omega (arith, within, length-replicate times keys))
-        ∙ ap (λ (ws : List ℕ). ws ++ words) (drop-replicate skip times keys)
+    ∙ ap (λ (ws : List ℕ). ws ++ words) (drop-replicate skip times keys)
 
 -- past it
 pub drop_past : (place times keys : ℕ) (words : List ℕ) → times ≤ place → drop place (replicate times keys ++ words) ≡ drop (place - times) words

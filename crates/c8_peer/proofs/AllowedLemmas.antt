@@ -1,14 +1,14 @@
 -- The rules allow each record that a call of an open peer adds.
-use Rattle.std.proofs.Common.{◌≡◌, ◌≢◌, ℕ, zero, suc, ◌+◌, ◌-◌, ◌^◌, ◌<◌, ◌≤◌, List, [], ◌∷◌, length, drop, Bool, true, false, cond, Option,
-  Some, None, refl, sym, ap, subst, ◌∙◌, inl, inr, arith}
+use Rattle.std.proofs.Common.{◌≡◌, ◌≢◌, ℕ, zero, suc, ◌+◌, ◌-◌, ◌^◌, ◌<◌, ◌≤◌, List, [], ◌∷◌, length, drop, Bool, true, false, cond, Option}
+use Rattle.std.proofs.Common.{Some, None, refl, sym, ap, subst, ◌∙◌, inl, inr, arith}
 use Rattle.std.specs.Prelude.{◌==◌, ◌||◌, ◌&&◌, not, nat_le, nat_lt, is_some, Result, Ok, Err}
-use Rattle.std.proofs.lemmas.Bool.{cases_lt, cases_eq, both_ways, not-false, ltb-false, leb-true, leb-false, eqb-true, eqb-false, eq-eqb,
-  and_parts, or_parts}
+use Rattle.std.proofs.lemmas.Bool.{cases_lt, cases_eq, both_ways, not-false, ltb-false, leb-true, leb-false, eqb-true, eqb-false, eq-eqb}
+use Rattle.std.proofs.lemmas.Bool.{and_parts, or_parts}
 use Rattle.std.proofs.lemmas.List.{get_or_past, length-drop, get_or-drop}
 use Rattle.c8_game.specs.Rules.{Rules, AreInRange}
 use Rattle.c8_wire.specs.declared.error.WireError.{WireError}
-use Rattle.c8_wire.specs.Packet.{HeadValue, DataMessage, FreezeMessage, LeaverMessage, Message, Packet, AreWords, IsDataMessage,
-  IsFreezeMessage, IsLeaverMessage, IsMessage, Fits, IsPacket}
+use Rattle.c8_wire.specs.Packet.{HeadValue, DataMessage, FreezeMessage, LeaverMessage, Message, Packet, AreWords, IsDataMessage}
+use Rattle.c8_wire.specs.Packet.{IsFreezeMessage, IsLeaverMessage, IsMessage, Fits, IsPacket}
 use Rattle.c8_wire.specs.Packet as packets
 use Rattle.c8_wire.specs.Sizes.{longest_run}
 use Rattle.c8_wire.specs.checked.WordLaws.{length-spelled_words}
@@ -32,8 +32,9 @@ use Rattle.c8_peer.specs.State.{Memory, Outcome, recorded, Saying, Call, Tick, D
 use Rattle.c8_peer.specs.State as calls
 use Rattle.c8_peer.specs.Calls.{tick, leave, decide, checkpoint}
 use Rattle.c8_peer.specs.Saying.{say, is_not_mine, lacks_record, lacks_link, show}
-use Rattle.c8_peer.specs.Hearing.{got, is_desync, unless_misfit, is_of_other_wire, unless_hand, hear_seen, hear_from_watcher, hear_from,
-  seen_in, hear_data, hear_welcome, hear_freeze, hear_frozen, cut_or_got, hear_end, hear_cut, hear_message, hear_told, deliver}
+use Rattle.c8_peer.specs.Hearing.{got, is_desync, unless_misfit, is_of_other_wire, unless_hand, hear_seen, hear_from_watcher, hear_from}
+use Rattle.c8_peer.specs.Hearing.{seen_in, hear_data, hear_welcome, hear_freeze, hear_frozen, cut_or_got, hear_end, hear_cut, hear_message}
+use Rattle.c8_peer.specs.Hearing.{hear_told, deliver}
 use Rattle.c8_peer.specs.Steps.{outcome}
 use Rattle.c8_peer.specs.Lawful.{IsMemory, IsCall}
 use Rattle.c8_peer.proofs.Tests.{failed, either_way}
@@ -168,7 +169,7 @@ got_allowed rules room past m q (word ∷ words) r is stays plays other uncut ne
       parts = (omega arith, new.fits);
     } in
     the_record rules room past got_these r kept
-        (allowed rules room past got_these is stays plays spelled (record { other = other; next = refl; within = new.within; uncut = uncut }))
+    (allowed rules room past got_these is stays plays spelled (record { other = other; next = refl; within = new.within; uncut = uncut }))
 
 -- ---- leave and decide, of player one
 
@@ -335,7 +336,7 @@ frozen_allowed rules room past m q f r is stays frozen_is fits kept =
     let plays : Plays k f.leaver = plays_by_test k f.leaver (or_parts (f.leaver == q) (not (is_player k f.leaver)) wrong.0).1 in
     let from_two = frozen_is.leaver_from_two in
     got_allowed rules room past (record m { chair = with_report m.chair f.leaver q f.length }) f.leaver
-        (fresh_words k f.leaver f.start f.words) r is stays plays
+    (fresh_words k f.leaver f.start f.words) r is stays plays
     (λ same. omega (arith, same, one, from_two)) (uncut_by_test (player_in k f.leaver).cut whole.0)
     (new_words k f.leaver f.start f.words is.known held.0 frozen_is.run.short fits) held.1
 
@@ -408,7 +409,7 @@ out_allowed rules room past r is elsewhere stays kept =
       parts = tt;
     } in
     the_record rules room past new r kept (allowed rules room past new is (λ other. stays) is.known.me spelled
-        (record { not_one = elsewhere; elsewhere = λ other. refl; once = stays }))
+    (record { not_one = elsewhere; elsewhere = λ other. refl; once = stays }))
 
 cut_allowed : (rules : Rules) (room : ℕ) (past : Past) (m : Memory) (q : ℕ) (c : LeaverMessage) (r : Record) → IsPast past
     → (player_in past.known past.known.me).leaving ≡ false

@@ -15,8 +15,8 @@ use Rattle.c8_known.specs.Known.{KnownValue}
 use Rattle.c8_peer.specs.Told.{told_of}
 use Rattle.c8_peer.specs.State.{Memory, Open, Down, Call, Reply, Outcome, answered, recorded}
 use Rattle.c8_peer.specs.Steps.{Works, Refuses, outcome, refused_by_disk}
-use Rattle.c8_peer.specs.Peer.{PeerValue, known_by, told_by, disk_outcome_of, IsStep, added, most_run, RunsFrames, KeepsWithOrWithout,
-  LeavesJournal, HasAppendCause, IsAnswered, IsSound}
+use Rattle.c8_peer.specs.Peer.{PeerValue, known_by, told_by, disk_outcome_of, IsStep, added, most_run, RunsFrames, KeepsWithOrWithout}
+use Rattle.c8_peer.specs.Peer.{LeavesJournal, HasAppendCause, IsAnswered, IsSound}
 use Rattle.c8_peer.specs.checked.Held.{IsPeer}
 use Rattle.c8_peer.proofs.PeerLemmas.{view}
 use Rattle.c8_peer.proofs.RoomLemmas.{had_room}
@@ -88,7 +88,7 @@ module _ {D : Type 0} (g : Ghosts D) where
     asks = λ other is. let this : Some r ≡ Some other = rw (mode, comes) refl ∙ is in
         let same : r ≡ other = cc in
         rw on_disk (subst (λ (x : Record). Asks g (AppendWithin (g.capacity v.disk) (length v.state.journal) (body_of x)) (Ok tt) v.disk
-            disk) same kept.asks);
+        disk) same kept.asks);
     untouched = λ e. let never : Some r ≡ None = sym (rw (mode, comes) refl) ∙ e in absurd cc;
     changes = kept.changes;
     ran = rw (mode, comes, on_disk) runs;
@@ -111,7 +111,7 @@ module _ {D : Type 0} (g : Ghosts D) where
     asks = λ other is. let this : Some r ≡ Some other = rw (mode, comes) refl ∙ is in
         let same : r ≡ other = cc in
         rw on_disk (subst (λ (x : Record). Asks g (AppendWithin (g.capacity v.disk) (length v.state.journal) (body_of x)) (Err why) v.disk
-            disk) same kept.asks);
+        disk) same kept.asks);
     untouched = λ e. let never : Some r ≡ None = sym (rw (mode, comes) refl) ∙ e in absurd cc;
     changes = kept.changes;
     ran = rw (mode, comes, on_disk) refl;

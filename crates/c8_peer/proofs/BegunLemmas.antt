@@ -27,7 +27,7 @@ mode_begins : (rules : Rules) (room me : ℕ) (s : State) (call : Call) (on_disk
     on_disk).state.journal ≡ begun_at rules s.journal
 mode_begins rules room me s call on_disk Open range from to lawful up =
     done_begins rules room me s call (outcome rules (told_of rules me s.journal) (known_of rules me s.journal) s.memory call).keeps on_disk
-        range from to lawful up refl
+    range from to lawful up refl
 mode_begins rules room me s call on_disk Down range from to lawful down = refl
 mode_begins rules room me s call on_disk Away range from to lawful gone = refl
 
@@ -39,6 +39,6 @@ run_begins rules room me s t [] (answer ∷ answers) range from to low lawful no
 run_begins rules room me s t (call ∷ calls) [] range from to low lawful none = absurd none
 run_begins rules room me s t (call ∷ calls) (answer ∷ answers) range from to low lawful (u, is, run) =
     run_begins rules room me u t calls answers range from to low
-        (run_lawful rules room me s u (Does call.0 call.1 ∷ []) (answer ∷ []) range from to low lawful (u, is, refl)) run
+    (run_lawful rules room me s u (Does call.0 call.1 ∷ []) (answer ∷ []) range from to low lawful (u, is, refl)) run
     ∙ ap (λ (a : After). begun_at rules a.state.journal) (sym is.is)
     ∙ mode_begins rules room me s call.0 call.1 s.mode range from to lawful refl

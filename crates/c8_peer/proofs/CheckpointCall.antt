@@ -1,6 +1,6 @@
 -- What a checkpoint call does, and how it changes the kept checkpoints.
-use Rattle.std.proofs.Common.{◌≡◌, ◌≢◌, inl, inr, ℕ, ◌+◌, ◌*◌, ◌<◌, ◌≤◌, ◌↔◌, List, [], ◌∷◌, ◌++◌, length, take, Bool, true, false, Option,
-  Some, None, Ok, Err, refl, sym, ap, subst, ◌∙◌, arith}
+use Rattle.std.proofs.Common.{◌≡◌, ◌≢◌, inl, inr, ℕ, ◌+◌, ◌*◌, ◌<◌, ◌≤◌, ◌↔◌, List, [], ◌∷◌, ◌++◌, length, take, Bool, true, false, Option}
+use Rattle.std.proofs.Common.{Some, None, Ok, Err, refl, sym, ap, subst, ◌∙◌, arith}
 use Rattle.std.specs.Prelude.{IsErrOf}
 use Rattle.std.proofs.lemmas.Bool.{cases_lt, cases_eq, le-leb, lt-leb, eq-eqb, ne_eqb}
 use Rattle.std.proofs.lemmas.List.{take_all, length-map}
@@ -19,8 +19,8 @@ use Rattle.c8_known.specs.Known.{KnownValue, player_in, known_of, with_record}
 use Rattle.c8_known.specs.Confirmed.{confirmed}
 use Rattle.c8_known.specs.Growth.{IsStillKnown}
 use Rattle.c8_check.specs.declared.checks.Checks.{Checks}
-use Rattle.c8_check.specs.Checks.{Pieces, ChecksValue, before_piece, piece_in, save_bytes, digest_of, with_piece, with_whole, with_check,
-  checks_of, frames_of, MayCheck, begun_at}
+use Rattle.c8_check.specs.Checks.{Pieces, ChecksValue, before_piece, piece_in, save_bytes, digest_of, with_piece, with_whole, with_check}
+use Rattle.c8_check.specs.Checks.{checks_of, frames_of, MayCheck, begun_at}
 use Rattle.c8_check.specs.Seen.{pieces_of, value_of, plan_of}
 use Rattle.c8_check.specs.checked.PieceLaws.{all_before, saved_long}
 use Rattle.c8_roll.specs.Roll.{RollValue, roll_since, origin_at}
@@ -58,9 +58,11 @@ pub record IsCut (rules : Rules) (me : ℕ) (journal : List Record) (c : Checks)
 plan_is : (rules : Rules) (me room : ℕ) (journal : List Record) (c : Checks) → AreInRange rules → 1 ≤ me → me ≤ rules.players
     → IsJournal rules me room journal → IsCut rules me journal c
     → (at : Origin) × IsOrigin at × (plan_of c ≡ save_bytes at)
-plan_is rules me room journal c range from to is cut =
-    (origin_at rules (begun_at rules journal) (known_of rules me journal) c.frames,
-        saved_origin rules me room journal c.frames range from to is cut.starts, cut.planned ∙ saved_is rules me journal c.frames)
+plan_is rules me room journal c range from to is cut = (
+  origin_at rules (begun_at rules journal) (known_of rules me journal) c.frames,
+  saved_origin rules me room journal c.frames range from to is cut.starts,
+  cut.planned ∙ saved_is rules me journal c.frames,
+)
 
 plan_long : (rules : Rules) (me room : ℕ) (journal : List Record) (c : Checks) → AreInRange rules → 1 ≤ me → me ≤ rules.players
     → IsJournal rules me room journal → IsCut rules me journal c → length (plan_of c) ≡ 4548
@@ -77,7 +79,7 @@ comes_first rules me journal m c cut none =
     let first = cut.first none in
     let under : pieces_of c ≡ None = rw (eq-eqb c.count 0 none) refl in
     let last : frames_of t.checks.last ≡ frames_of (value_of c).last =
-        ap (λ (x : ChecksValue). frames_of x.last) (checks_told rules me journal ∙ sym cut.same) in
+    ap (λ (x : ChecksValue). frames_of x.last) (checks_told rules me journal ∙ sym cut.same) in
     let above : frames_of t.checks.last < confirmed k = let low = first.1 in omega (arith, last, low) in
     let other : c.count ≢ 36 = λ all. omega (arith, none, all) in
     let said : Piece 0 ≡ next_said c = rw (ne_eqb c.count 36 other) (ap Piece (sym none)) in
@@ -98,11 +100,11 @@ comes_later rules me journal m c cut some long =
     ap (next_piece t k m) under ∙ elim (cases_eq c.count 36) [
       | inl all ↦
           let whole : take (before_piece c.count) c.bytes ≡ c.bytes =
-              take_all (before_piece c.count) c.bytes (omega (arith, ap before_piece all, all_before, long)) in
+          take_all (before_piece c.count) c.bytes (omega (arith, ap before_piece all, all_before, long)) in
           rw (eq-eqb c.count 36 all) (λ i. recorded m (Checked (Ok (Done c.frames))) (Check k.me c.frames (digest_of (whole i))))
       | inr more ↦
           rw (ne_eqb c.count 36 more) (λ i. recorded m (Checked (Ok (Piece c.count)))
-              (State k.me c.frames c.count (piece_in c.count (sym cut.planned i))))
+          (State k.me c.frames c.count (piece_in c.count (sym cut.planned i))))
     ]
 
 pub checkpoint_comes : (rules : Rules) (me room : ℕ) (journal : List Record) (m : Memory) (c : Checks) → AreInRange rules → 1 ≤ me
@@ -140,8 +142,11 @@ is_cut rules me room journal k v old c range from to is saving known rolls noted
       let frames : c.frames ≡ confirmed (known_of rules me journal) = new.1 ∙ roll_confirmed rules from_here k v rolls ∙ ap confirmed known in
       let at : Origin = origin_at rules from_here (known_of rules me journal) (confirmed (known_of rules me journal)) in
       let origin : ◌≡◌ {A = Origin} (record { frames = v.confirmed; machine = v.base; marks = v.marks }) at =
-      (λ i. record { frames = roll_confirmed rules from_here k v rolls i; machine = roll_base rules from_here k v rolls i;
-          marks = roll_marks rules from_here k v rolls i })
+      (λ i. record {
+        frames = roll_confirmed rules from_here k v rolls i;
+        machine = roll_base rules from_here k v rolls i;
+        marks = roll_marks rules from_here k v rolls i;
+      })
       ∙ ap (λ (x : KnownValue). origin_at rules from_here x (confirmed x)) known in
       record {
         same = same ∙ noted;
@@ -149,9 +154,11 @@ is_cut rules me room journal k v old c range from to is saving known rolls noted
         starts = let confirms = begun_confirmed rules me room journal range from to is in omega (arith, confirms, frames);
         planned = new.2 ∙ ap save_bytes (origin ∙ ap (origin_at rules from_here (known_of rules me journal)) (sym frames))
             ∙ sym (saved_is rules me journal c.frames);
-        first = λ zero_now.
-            (frames, subst (λ (x : ChecksValue). frames_of x.last < confirmed (known_of rules me journal)) (sym same)
-                (subst (λ (x : KnownValue). frames_of (value_of old).last < confirmed x) known (above none)));
+        first = λ zero_now. (
+          frames,
+          subst (λ (x : ChecksValue). frames_of x.last < confirmed (known_of rules me journal)) (sym same)
+              (subst (λ (x : KnownValue). frames_of (value_of old).last < confirmed x) known (above none)),
+        );
       }
   | inr some ↦
       let this : c ≡ old = stays some in
@@ -213,11 +220,11 @@ pub planned_next : (rules : Rules) (me room : ℕ) (journal : List Record) (r : 
 planned_next rules me room journal r c new range from to is may next cut kept =
     let rest = next_leaves rules me journal r next in
     let still : IsStillKnown (known_of rules me journal) (known_of rules me (journal ++ r ∷ [])) =
-        journal_grows rules me room journal (r ∷ []) range from to (journal_more rules me room journal r is may) in
+    journal_grows rules me room journal (r ∷ []) range from to (journal_more rules me room journal r is may) in
     λ some.
     let same = kept some in
     same.0 ∙ cut.planned ∙ sym (saved_stays rules me c.frames journal (journal ++ r ∷ []) rest.begun still cut.low)
-        ∙ ap (told_of rules me (journal ++ r ∷ [])).saved (sym same.1)
+    ∙ ap (told_of rules me (journal ++ r ∷ [])).saved (sym same.1)
 
 -- ---- refusals
 
@@ -241,7 +248,7 @@ nothing_comes rules journal k m old error q leaving own judged stays noted none 
     let under : t.checks.under_way ≡ None = ap (λ (x : ChecksValue). x.under_way) told ∙ rw (eq-eqb old.count 0 none) refl in
     let low : confirmed k ≤ frames_of t.checks.last = subst (λ (x : ChecksValue). confirmed k ≤ frames_of x.last) (sym told) few in
     rw here (ap (next_piece t k m) under ∙ rw (le-leb (confirmed k) (frames_of t.checks.last) low)
-        (ap (λ (e : CheckError). answered m (Checked (Err e))) (sym is)))
+    (ap (λ (e : CheckError). answered m (Checked (Err e))) (sym is)))
 
 -- ---- in a peer
 
@@ -260,9 +267,9 @@ module _ {D : Type 0} where
   comes_inside rules room j k m c is cut stays =
       let journal : List Record = records_of j.bodies in
       let stays_known : (player_in (known_of rules k.me journal) (known_of rules k.me journal).me).leaving ≡ false =
-          subst (λ (x : KnownValue). (player_in x x.me).leaving ≡ false) is.known stays in
+      subst (λ (x : KnownValue). (player_in x x.me).leaving ≡ false) is.known stays in
       subst (λ (x : KnownValue). checkpoint (told_of rules k.me journal) x m ≡ recorded m (Checked (Ok (next_said c))) (next_record x.me c))
-          (sym is.known)
+      (sym is.known)
       (checkpoint_comes rules k.me room journal m c is.range is.from_one is.in_game is.bodies.journal cut stays_known)
 
   -- the next record, by the parts of the peer
@@ -273,7 +280,7 @@ module _ {D : Type 0} where
       let journal : List Record = records_of j.bodies in
       let keeps : (checkpoint (told_of rules k.me journal) (known_of rules k.me journal) m).keeps ≡ Some (next_record k.me c) =
       subst (λ (x : KnownValue). (checkpoint (told_of rules k.me journal) x m).keeps ≡ Some (next_record k.me c)) is.known
-          (ap (λ (o : Outcome). o.keeps) (comes_inside rules room j k m c is cut stays)) in
+      (ap (λ (o : Outcome). o.keeps) (comes_inside rules room j k m c is cut stays)) in
       (adds_next rules k.me room journal m (next_record k.me c) is.range is.from_one is.in_game is.bodies.journal is.memory.saving keeps).1
 
   -- why the disk refused
@@ -292,7 +299,7 @@ module _ {D : Type 0} where
   append_cause g v rules room me j new m r errors.Full seen failed full left =
       let many = length-map j.bodies record_of in
       subst (λ (x : PeerValue D). HasAppendCause g x (without_record g x new r) errors.Full) seen
-          (let lacks = full.0 refl in omega (arith, many, lacks), left refl)
+      (let lacks = full.0 refl in omega (arith, many, lacks), left refl)
 
   -- ---- what holds once the bytes of the next record are cut
 
@@ -313,7 +320,7 @@ module _ {D : Type 0} where
   ready rules room j k m v ran old c q leaving is rolled planned own judged stays same kept above begun =
       let journal : List Record = records_of j.bodies in
       let here : IsCut rules k.me journal c = is_cut rules k.me room journal k v old c is.range is.from_one is.in_game is.bodies.journal
-          is.memory.saving is.known rolled.roll rolled.checks_are planned same kept above begun in
+      is.memory.saving is.known rolled.roll rolled.checks_are planned same kept above begun in
       let stays_here : (player_in k k.me).leaving ≡ false = ap (λ (player : ℕ). (player_in k player).leaving) (sym own) ∙ sym judged ∙ stays in
       let comes = comes_inside rules room j k m c is here stays_here in
       record {
@@ -345,9 +352,9 @@ module _ {D : Type 0} where
   runs_of {ran} v rules room j k m r now seen is may quiet runs =
       let journal : List Record = records_of j.bodies in
       let later : known_of rules k.me (journal ++ r ∷ []) ≡ k =
-          known_more rules k.me room journal r may ∙ ap (λ (x : KnownValue). with_record x r) (sym is.known) ∙ quiet in
+      known_more rules k.me room journal r may ∙ ap (λ (x : KnownValue). with_record x r) (sym is.known) ∙ quiet in
       let from : RunsFromOldest (known_of rules k.me journal) (known_of rules k.me (journal ++ r ∷ [])) now =
       subst (λ (x : KnownValue). RunsFromOldest x (known_of rules k.me (journal ++ r ∷ [])) now) is.known
-          (subst (λ (x : KnownValue). RunsFromOldest k x now) (sym later) runs) in
+      (subst (λ (x : KnownValue). RunsFromOldest k x now) (sym later) runs) in
       subst (λ (x : PeerValue D). RunsFrames 0 (known_by x) (known_of x.rules x.me (x.state.journal ++ r ∷ [])) now) seen
-          (record { few = runs_none k now runs; from_oldest = from })
+      (record { few = runs_none k now runs; from_oldest = from })

@@ -1,6 +1,6 @@
 -- A checkpoint that a peer records: the rules allow each of its records, each is true, and the next one may follow it.
-use Rattle.std.proofs.Common.{◌≡◌, ◌≢◌, ◌⊎◌, inl, inr, ℕ, ◌+◌, ◌-◌, ◌*◌, ◌/◌, ◌%◌, ◌^◌, ◌<◌, ◌≤◌, List, [], ◌∷◌, ◌++◌, take, true, false,
-  Option, Some, None, refl, sym, ap, subst, ◌∙◌, arith}
+use Rattle.std.proofs.Common.{◌≡◌, ◌≢◌, ◌⊎◌, inl, inr, ℕ, ◌+◌, ◌-◌, ◌*◌, ◌/◌, ◌%◌, ◌^◌, ◌<◌, ◌≤◌, List, [], ◌∷◌, ◌++◌, take, true, false}
+use Rattle.std.proofs.Common.{Option, Some, None, refl, sym, ap, subst, ◌∙◌, arith}
 use Rattle.std.specs.Prelude.{◌==◌, nat_le}
 use Rattle.std.proofs.lemmas.Bool.{and_from, cases_eq, eqb-true, eqb-false, leb-false, eq-eqb, ne_eqb, lt-ltb}
 use Rattle.c8_game.specs.Rules.{Rules, AreInRange}
@@ -17,13 +17,13 @@ use Rattle.c8_known.specs.Known.{KnownValue, player_in, known_of, with_record, I
 use Rattle.c8_known.specs.Confirmed.{confirmed}
 use Rattle.c8_known.specs.Growth.{IsStillKnown}
 use Rattle.c8_known.specs.checked.ConfirmedLaws.{confirmed_is}
-use Rattle.c8_check.specs.Checks.{Pieces, ChecksValue, before_piece, piece_length, piece_in, save_bytes, digest_of, with_check, checks_of,
-  bytes_so_far, frames_of, is_next_after, has_shape, may_take, origin_in, MayCheck, or_first, begun_at}
+use Rattle.c8_check.specs.Checks.{Pieces, ChecksValue, before_piece, piece_length, piece_in, save_bytes, digest_of, with_check, checks_of}
+use Rattle.c8_check.specs.Checks.{bytes_so_far, frames_of, is_next_after, has_shape, may_take, origin_in, MayCheck, or_first, begun_at}
 use Rattle.c8_check.specs.declared.checks.Checks.{Checks}
 use Rattle.c8_check.specs.Seen.{pieces_of, value_of}
 use Rattle.c8_check.specs.checked.CheckLaws.{opened_more}
-use Rattle.c8_check.specs.checked.PieceLaws.{none_before, saved_long, saved_low, saved_even, saved_few, digest_long, piece_fits,
-  pieces_more, whole_origin, whole_may_check}
+use Rattle.c8_check.specs.checked.PieceLaws.{none_before, saved_long, saved_low, saved_even, saved_few, digest_long, piece_fits}
+use Rattle.c8_check.specs.checked.PieceLaws.{pieces_more, whole_origin, whole_may_check}
 use Rattle.c8_roll.specs.Roll.{mark_since, marks_since, origin_at, IsOnTheWay}
 use Rattle.c8_roll.specs.checked.RollLaws.{map_same_between, origin_goes_on, confirmed_is_serial, marks_on_the_way}
 use Rattle.c8_record.specs.Body.{HasSpelling}
@@ -50,9 +50,9 @@ origin_stays rules from early late n still within =
     let count : ℕ = n / 32 - from.frames / 32 in
     let marks : marks_since rules from late n ≡ marks_since rules from early n =
     ap (λ (more : List FrameMark). kept (from.marks ++ more))
-        (map_same_between (λ m. mark_since rules from late (32 * m)) (λ m. mark_since rules from early (32 * m)) first count
+    (map_same_between (λ m. mark_since rules from late (32 * m)) (λ m. mark_since rules from early (32 * m)) first count
     (λ i low to. ap (λ (rows : List Row). record { frame = 32 * i; mark = mark_of (run_since rules from rows) })
-        (rows_same early late (32 * i) still (omega (arith, low, to, within))))) in
+    (rows_same early late (32 * i) still (omega (arith, low, to, within))))) in
     λ i. record { frames = n; machine = machine i; marks = marks i }
 
 -- the bytes that a checkpoint there saves
@@ -82,16 +82,16 @@ saving_play rules me room journal r range from to is may play saving =
     let checks = play_checks journal r play in
     let begun = play_begins rules journal r play in
     let still : IsStillKnown (known_of rules me journal) (known_of rules me (journal ++ r ∷ [])) =
-        journal_grows rules me room journal (r ∷ []) range from to (journal_more rules me room journal r is may) in
+    journal_grows rules me room journal (r ∷ []) range from to (journal_more rules me room journal r is may) in
     let was : (p : Pieces) → (checks_of (journal ++ r ∷ [])).under_way ≡ Some p → (checks_of journal).under_way ≡ Some p =
-        λ p e. ap (λ (c : ChecksValue). c.under_way) (sym checks) ∙ e in
+    λ p e. ap (λ (c : ChecksValue). c.under_way) (sym checks) ∙ e in
     record {
       form = ap (λ (c : ChecksValue). c.form) checks ∙ saving.form;
       starts = λ p e. rw begun (saving.starts p (was p e));
       bytes = λ p e.
           let pieces = (checks_in_order rules me room journal range from to is).under_way p (was p e) in
           saving.bytes p (was p e) ∙ ap (take (before_piece p.count))
-              (sym (saved_stays rules me p.frames journal (journal ++ r ∷ []) begun still pieces.confirmed_is));
+          (sym (saved_stays rules me p.frames journal (journal ++ r ∷ []) begun still pieces.confirmed_is));
     }
 
 -- the frames of a checkpoint under way are confirmed
@@ -108,9 +108,9 @@ pub planned_play : (rules : Rules) (me room : ℕ) (journal : List Record) (r : 
     → is_play r ≡ true → value_of c ≡ checks_of journal → IsPlanned rules me journal c → IsPlanned rules me (journal ++ r ∷ []) c
 planned_play rules me room journal r c range from to is may play same planned =
     let still : IsStillKnown (known_of rules me journal) (known_of rules me (journal ++ r ∷ [])) =
-        journal_grows rules me room journal (r ∷ []) range from to (journal_more rules me room journal r is may) in
+    journal_grows rules me room journal (r ∷ []) range from to (journal_more rules me room journal r is may) in
     λ some. planned some ∙ sym (saved_stays rules me c.frames journal (journal ++ r ∷ []) (play_begins rules journal r play) still
-        (planned_low rules me room journal c range from to is same some))
+    (planned_low rules me room journal c range from to is same some))
 
 -- ---- the next record
 
@@ -152,8 +152,8 @@ next_is rules me room journal m None r range from to is saving under keeps =
     let t : Told = told_of rules me journal in
     let fewer = failed (nat_le (confirmed k) (frames_of t.checks.last)) m _ _ r keeps in
     let above : frames_of (checks_of journal).last < confirmed k =
-        leb-false (confirmed k) (frames_of (checks_of journal).last)
-        (subst (λ (c : ChecksValue). nat_le (confirmed k) (frames_of c.last) ≡ false) (checks_told rules me journal) fewer.0) in
+    leb-false (confirmed k) (frames_of (checks_of journal).last)
+    (subst (λ (c : ChecksValue). nat_le (confirmed k) (frames_of c.last) ≡ false) (checks_told rules me journal) fewer.0) in
     inl (record {
       frames = confirmed k;
       piece = 0;
@@ -201,9 +201,11 @@ unfolding checkpoint
 adds_next rules me room journal m r range from to is saving keeps =
     let k : KnownValue = known_of rules me journal in
     let t : Told = told_of rules me journal in
-    let stays = failed (player_in k k.me).leaving m _ _ r keeps in
-    (stays.0, next_is rules me room journal m t.checks.under_way r range from to is saving
-        (ap (λ (c : ChecksValue). c.under_way) (sym (checks_told rules me journal))) stays.1)
+    let stays = failed (player_in k k.me).leaving m _ _ r keeps in (
+      stays.0,
+      next_is rules me room journal m t.checks.under_way r range from to is saving
+          (ap (λ (c : ChecksValue). c.under_way) (sym (checks_told rules me journal))) stays.1,
+    )
 
 -- ---- the rules allow it
 
@@ -250,7 +252,7 @@ piece_may rules me room journal r range from to is saving next =
     let may : may_take (checks_of journal) (confirmed k) next.frames next.piece piece ≡ true =
     and_from _ _ (and_from _ _ (eq-eqb (checks_of journal).form 2 saving.form) next.next) shape in
     subst (λ (one : Record). HasSpelling one × MayFollow rules room (past_of rules me journal) one) (sym is_new)
-        (spelled, record { own = refl; low = piece_low at next.piece origin; next = may })
+    (spelled, record { own = refl; low = piece_low at next.piece origin; next = may })
 
 end_may : (rules : Rules) (me room : ℕ) (journal : List Record) (r : Record) → AreInRange rules → 1 ≤ me → me ≤ rules.players
     → IsJournal rules me room journal → IsEnd rules me journal r
@@ -262,7 +264,7 @@ end_may rules me room journal r range from to is next =
     let origin = saved_origin rules me room journal p.frames range from to is next.starts in
     let known = journal_known rules me room journal range from to is in
     let bytes : p.bytes ≡ take (before_piece p.count) (save_bytes at) =
-        next.bytes ∙ ap (take (before_piece p.count)) (saved_is rules me journal p.frames) in
+    next.bytes ∙ ap (take (before_piece p.count)) (saved_is rules me journal p.frames) in
     let new : Record = Check k.me p.frames (digest_of p.bytes) in
     let whole = whole_may_check (checks_of journal) at p origin next.under_way refl next.all bytes in
     let spelled : HasSpelling new = record {
@@ -274,7 +276,7 @@ end_may rules me room journal r range from to is next =
       parts = (digest_long p.bytes, digest_low p.bytes);
     } in
     subst (λ (one : Record). HasSpelling one × MayFollow rules room (past_of rules me journal) one) (sym next.is)
-        (spelled, record { own = refl; whole = whole })
+    (spelled, record { own = refl; whole = whole })
 
 pub next_may : (rules : Rules) (me room : ℕ) (journal : List Record) (r : Record) → AreInRange rules → 1 ≤ me → me ≤ rules.players
     → IsJournal rules me room journal → IsSaving rules me journal → IsNext rules me journal r
@@ -304,9 +306,13 @@ next_leaves rules me journal r (inr next) =
 -- one more piece, of the saved bytes
 piece_more : (rules : Rules) (me room : ℕ) (journal : List Record) (r : Record) → AreInRange rules → 1 ≤ me → me ≤ rules.players
     → IsJournal rules me room journal → (next : IsPiece rules me journal r)
-    → with_check (checks_of journal) r ≡ record (checks_of journal)
-    { under_way = Some (record { frames = next.frames; count = next.piece + 1;
-    bytes = take (before_piece (next.piece + 1)) ((told_of rules me journal).saved next.frames) }) }
+    → with_check (checks_of journal) r ≡ record (checks_of journal) {
+      under_way = Some (record {
+        frames = next.frames;
+        count = next.piece + 1;
+        bytes = take (before_piece (next.piece + 1)) ((told_of rules me journal).saved next.frames);
+      });
+    }
 piece_more rules me room journal r range from to is next =
     let k : KnownValue = known_of rules me journal in
     let c : ChecksValue = checks_of journal in
@@ -316,7 +322,7 @@ piece_more rules me room journal r range from to is next =
     let origin = saved_origin rules me room journal next.frames range from to is next.starts in
     let more : take (before_piece next.piece) saved ++ piece_in next.piece saved ≡ take (before_piece (next.piece + 1)) saved =
     subst (λ (bytes : List ℕ). take (before_piece next.piece) bytes ++ piece_in next.piece bytes
-        ≡ take (before_piece (next.piece + 1)) bytes) (sym saved_here) (pieces_more next.piece (save_bytes at) (saved_long at origin) next.within) in
+    ≡ take (before_piece (next.piece + 1)) bytes) (sym saved_here) (pieces_more next.piece (save_bytes at) (saved_long at origin) next.within) in
     ap (with_check c) next.is
     ∙ ap (λ (bytes : List ℕ). record c { under_way = Some (record { frames = next.frames; count = next.piece + 1; bytes = bytes }) })
     (ap (λ (bytes : List ℕ). bytes ++ piece_in next.piece saved) next.before ∙ more)
@@ -332,7 +338,7 @@ end_more rules me room journal r range from to is next =
     let at : Origin = origin_at rules (begun_at rules journal) k next.p.frames in
     let origin = saved_origin rules me room journal next.p.frames range from to is next.starts in
     let bytes : next.p.bytes ≡ take (before_piece next.p.count) (save_bytes at) =
-        next.bytes ∙ ap (take (before_piece next.p.count)) (saved_is rules me journal next.p.frames) in
+    next.bytes ∙ ap (take (before_piece next.p.count)) (saved_is rules me journal next.p.frames) in
     ap (with_check c) next.is
     ∙ ap (λ (last : Option Origin). record c { under_way = None; last = last })
     (ap origin_in next.under_way ∙ whole_origin at next.p origin refl next.all bytes)
@@ -347,11 +353,14 @@ saving_next rules me room journal r range from to is may saving (inl next) =
     let rest = next_leaves rules me journal r (inl next) in
     let checks = checks_more journal r ∙ piece_more rules me room journal r range from to is next in
     let still : IsStillKnown (known_of rules me journal) (known_of rules me (journal ++ r ∷ [])) =
-        journal_grows rules me room journal (r ∷ []) range from to (journal_more rules me room journal r is may) in
-    let this : Pieces = record { frames = next.frames; count = next.piece + 1;
-        bytes = take (before_piece (next.piece + 1)) ((told_of rules me journal).saved next.frames) } in
+    journal_grows rules me room journal (r ∷ []) range from to (journal_more rules me room journal r is may) in
+    let this : Pieces = record {
+      frames = next.frames;
+      count = next.piece + 1;
+      bytes = take (before_piece (next.piece + 1)) ((told_of rules me journal).saved next.frames);
+    } in
     let same : (p : Pieces) → (checks_of (journal ++ r ∷ [])).under_way ≡ Some p → this ≡ p =
-        λ p e. some_same this p (ap (λ (c : ChecksValue). c.under_way) (sym checks) ∙ e) in
+    λ p e. some_same this p (ap (λ (c : ChecksValue). c.under_way) (sym checks) ∙ e) in
     record {
       form = ap (λ (c : ChecksValue). c.form) checks ∙ saving.form;
       starts = λ p e. subst (λ (x : Pieces). (begun_at rules (journal ++ r ∷ [])).frames ≤ x.frames) (same p e) (rw rest.begun next.starts);
@@ -400,8 +409,11 @@ next_true rules me room journal r range from to is may (inl next) are =
     let checks = checks_more journal r ∙ piece_more rules me room journal r range from to is next in
     let saved : (told_of rules me journal).saved next.frames ≡ save_bytes (serial_at rules k next.frames) =
     saved_is rules me journal next.frames ∙ ap save_bytes (saved_serial rules k (begun_at rules journal) next.frames are.begun next.starts) in
-    let this : Pieces = record { frames = next.frames; count = next.piece + 1;
-        bytes = take (before_piece (next.piece + 1)) ((told_of rules me journal).saved next.frames) } in
+    let this : Pieces = record {
+      frames = next.frames;
+      count = next.piece + 1;
+      bytes = take (before_piece (next.piece + 1)) ((told_of rules me journal).saved next.frames);
+    } in
     let true_piece : AreTruePieces rules k this = record { confirmed_is = next.low; bytes_are = ap (take (before_piece (next.piece + 1))) saved } in
     all_true rules me (journal ++ r ∷ []) (subst (λ (x : KnownValue). TrueOf rules x (journal ++ r ∷ [])) (sym known) (record {
       begun = rw rest.begun are.begun;

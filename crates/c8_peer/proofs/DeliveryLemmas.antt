@@ -1,6 +1,6 @@
 -- A delivery that the links admit.
-use Rattle.std.proofs.Common.{◌≡◌, ◌≢◌, ℕ, Option, ◌≤◌, ◌<◌, ◌+◌, ◌*◌, ◌++◌, [], ◌∷◌, length, Some, None, false, Ok, Err, refl, sym, ap,
-  subst, ◌∙◌, arith}
+use Rattle.std.proofs.Common.{◌≡◌, ◌≢◌, ℕ, Option, ◌≤◌, ◌<◌, ◌+◌, ◌*◌, ◌++◌, [], ◌∷◌, length, Some, None, false, Ok, Err, refl, sym, ap}
+use Rattle.std.proofs.Common.{subst, ◌∙◌, arith}
 use Rattle.std.specs.Prelude.{IsErrOf}
 use Rattle.c8_disk.specs.declared.disk.Disk.{Ghosts}
 use Rattle.c8_disk.specs.declared.error.DiskError.{DiskError}
@@ -36,12 +36,12 @@ acks_more : (early late : KnownValue) → IsStillKnown early late → (message :
 acks_more early late still Hello within = within
 acks_more early late still (Welcome ack) within =
     let rises : count_in early early.me ≤ count_in late early.me =
-        begins_length (player_in early early.me).held (player_in late early.me).held (still.each early.me).held in
+    begins_length (player_in early early.me).held (player_in late early.me).held (still.each early.me).held in
     let same = still.me in
     rw same (omega (arith, within, rises))
 acks_more early late still (Data d) within =
     let rises : count_in early early.me ≤ count_in late early.me =
-        begins_length (player_in early early.me).held (player_in late early.me).held (still.each early.me).held in
+    begins_length (player_in early early.me).held (player_in late early.me).held (still.each early.me).held in
     let same = still.me in
     rw same (omega (arith, within, rises))
 acks_more early late still (Freeze f) within = within
@@ -113,8 +113,13 @@ module _ {D : Type 0} where
       → is_of_other_wire v.rules p.head ≡ false → refusal v.state.memory.links p.head ≡ None
       → outcome v.rules (told_by v) (known_by v) v.state.memory (Deliver (Ok p))
       ≡ hear_message v.rules (told_by v) (known_by v) v.state.memory p.head p.message
-  heard_is v p is stays wire admitted = rw (own_player v.rules v.me v.state.journal, stays, wire,
-      no_seen v.state.memory.links p.head p.message is.kind admitted, admitted) refl
+  heard_is v p is stays wire admitted = rw (
+    own_player v.rules v.me v.state.journal,
+    stays,
+    wire,
+    no_seen v.state.memory.links p.head p.message is.kind admitted,
+    admitted,
+  ) refl
 
   -- the outcome of a SEEN
   pub seen_is : (v : PeerValue D) (p : Packet) (ack : ℕ) → seen_in p.message ≡ Some ack → (player_in (known_by v) v.me).leaving ≡ false
@@ -135,21 +140,21 @@ module _ {D : Type 0} where
   memory_noted g v p o sound packet is =
       subst (λ (x : Outcome). IsMemory v.rules v.room v.me v.state.journal x.memory) is
       (memory_kept v.rules v.me v.room v.state.journal v.state.memory (Deliver (Ok p)) sound.range sound.plays.0 sound.plays.1
-          sound.is_journal sound.memory packet)
+      sound.is_journal sound.memory packet)
 
   pub record_allowed : (g : Ghosts D) (v : PeerValue D) (p : Packet) (o : Outcome) (r : Record) → IsSound g v → IsPacket p
       → outcome v.rules (told_by v) (known_by v) v.state.memory (Deliver (Ok p)) ≡ o → o.keeps ≡ Some r
       → IsAllowed v.rules v.me v.room v.state.journal r
   record_allowed g v p o r sound packet is keeps =
       keeps_allowed v.rules v.me v.room v.state.journal v.state.memory (Deliver (Ok p)) r sound.range sound.plays.0 sound.plays.1
-          sound.is_journal sound.memory packet (ap (λ (x : Outcome). x.keeps) is ∙ keeps)
+      sound.is_journal sound.memory packet (ap (λ (x : Outcome). x.keeps) is ∙ keeps)
 
   pub acks_kept : (g : Ghosts D) (v : PeerValue D) (message : Message) (r : Record) → IsSound g v → IsAllowed v.rules v.me v.room v.state.journal r
       → AcksWithin (known_by v) message → AcksWithin (known_of v.rules v.me (v.state.journal ++ r ∷ [])) message
   acks_kept g v message r sound may within =
       acks_more (known_by v) (known_of v.rules v.me (v.state.journal ++ r ∷ []))
       (journal_grows v.rules v.me v.room v.state.journal (r ∷ []) sound.range sound.plays.0 sound.plays.1
-          (journal_more v.rules v.me v.room v.state.journal r sound.is_journal may)) message within
+      (journal_more v.rules v.me v.room v.state.journal r sound.is_journal may)) message within
 
   pub cause_of : (g : Ghosts D) (v new : PeerValue D) (why : DiskError)
       → (IsErrOf {T = Unit {0}} (Err why) errors.Failed

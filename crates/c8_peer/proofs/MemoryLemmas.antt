@@ -1,6 +1,6 @@
 -- Each call keeps a peer's memory in order.
-use Rattle.std.proofs.Common.{◌≡◌, ℕ, zero, suc, ◌+◌, ◌^◌, ◌<◌, ◌≤◌, List, [], ◌∷◌, ◌++◌, length, Bool, true, false, Option, Some, None, Ok,
-  Err, refl, ap, arith}
+use Rattle.std.proofs.Common.{◌≡◌, ℕ, zero, suc, ◌+◌, ◌^◌, ◌<◌, ◌≤◌, List, [], ◌∷◌, ◌++◌, length, Bool, true, false, Option, Some, None, Ok}
+use Rattle.std.proofs.Common.{Err, refl, ap, arith}
 use Rattle.std.specs.Prelude.{◌==◌, ◌||◌, not, nat_lt, nat_le, is_some, if◌then◌else◌, Result}
 use Rattle.std.proofs.lemmas.Bool.{ltb-false, ne_eqb}
 use Rattle.c8_game.specs.Rules.{Rules, AreInRange}
@@ -32,11 +32,11 @@ use Rattle.c8_refusals.specs.declared.error.DecideError.{DecideError}
 use Rattle.c8_refusals.specs.declared.error.CheckError.{CheckError}
 use Rattle.c8_peer.specs.declared.check.Check.{Check}
 use Rattle.c8_peer.specs.declared.heard.Heard.{Heard}
-use Rattle.c8_peer.specs.State.{Memory, SeenValue, seen_by, with_seen, Call, Tick, Deliver, Say, Show, Leave, Decide, Checkpoint, Saying,
-  Ticked, Delivered, Said, Left, Decided, Checked, Outcome}
+use Rattle.c8_peer.specs.State.{Memory, SeenValue, seen_by, with_seen, Call, Tick, Deliver, Say, Show, Leave, Decide, Checkpoint, Saying}
+use Rattle.c8_peer.specs.State.{Ticked, Delivered, Said, Left, Decided, Checked, Outcome}
 use Rattle.c8_peer.specs.Calls.{tick, leave, decide, next_piece, checkpoint}
-use Rattle.c8_peer.specs.Hearing.{is_desync, hear_data, hear_welcome, hear_freeze, hear_frozen, hear_cut, hear_end, got, unless_misfit,
-  is_of_other_wire, unless_hand, hear_message, hear_seen, hear_from, seen_in, deliver}
+use Rattle.c8_peer.specs.Hearing.{is_desync, hear_data, hear_welcome, hear_freeze, hear_frozen, hear_cut, hear_end, got, unless_misfit}
+use Rattle.c8_peer.specs.Hearing.{is_of_other_wire, unless_hand, hear_message, hear_seen, hear_from, seen_in, deliver}
 use Rattle.c8_peer.specs.Saying.{is_not_mine, lacks_record, lacks_link, say, show}
 use Rattle.c8_peer.specs.Steps.{outcome}
 use Rattle.c8_peer.specs.Lawful.{IsSaving, IsMemory, IsCall}
@@ -51,8 +51,12 @@ low_of false new old bound is was = was
 -- there is no link to a fifth player
 link_past : (l : LinksValue) (player : ℕ) → 4 < player → link_to l player ≡ no_link
 link_past l player past =
-    rw (ne_eqb player 1 (λ e. omega arith), ne_eqb player 2 (λ e. omega arith), ne_eqb player 3 (λ e. omega arith),
-        ne_eqb player 4 (λ e. omega arith)) refl
+    rw (
+      ne_eqb player 1 (λ e. omega arith),
+      ne_eqb player 2 (λ e. omega arith),
+      ne_eqb player 3 (λ e. omega arith),
+      ne_eqb player 4 (λ e. omega arith),
+    ) refl
 
 -- epochs stay low when a low one replaces another
 low_with : (l : LinksValue) (player other bound : ℕ) (link : LinkValue) → ((q : ℕ) → (link_to l q).known < bound) → link.known < bound
@@ -80,7 +84,7 @@ low_heard : (l : LinksValue) (head : HeadValue) (other bound : ℕ) → ((q : �
     → (link_to (heard l head) other).known < bound
 low_heard l head other bound low is =
     low_with l head.from other bound (link_after head.kind (link_to l head.from) head.sender_epoch) low
-        (low_after head.kind (link_to l head.from) head.sender_epoch bound (low head.from) is)
+    (low_after head.kind (link_to l head.from) head.sender_epoch bound (low head.from) is)
 
 few_of : (test : Bool) (new old bound : ℕ) → new ≤ bound → old ≤ bound → (if test then new else old) ≤ bound
 few_of true new old bound is was = is
@@ -88,8 +92,12 @@ few_of false new old bound is was = was
 
 acked_past : (w : WindowValue) (player : ℕ) → 4 < player → acked_of w player ≡ 0
 acked_past w player past =
-    rw (ne_eqb player 1 (λ e. omega arith), ne_eqb player 2 (λ e. omega arith), ne_eqb player 3 (λ e. omega arith),
-        ne_eqb player 4 (λ e. omega arith)) refl
+    rw (
+      ne_eqb player 1 (λ e. omega arith),
+      ne_eqb player 2 (λ e. omega arith),
+      ne_eqb player 3 (λ e. omega arith),
+      ne_eqb player 4 (λ e. omega arith),
+    ) refl
 
 few_with : (w : WindowValue) (player other n bound : ℕ) → ((q : ℕ) → acked_of w q ≤ bound) → n ≤ bound
     → acked_of (with_acked w player n) other ≤ bound
@@ -160,7 +168,7 @@ with_heard rules room me journal m head is low = record {
 few_seen : (s : SeenValue) (watcher other n bound : ℕ) → ((w : ℕ) → seen_by s w ≤ bound) → n ≤ bound → seen_by (with_seen s watcher n) other ≤ bound
 few_seen s watcher other n bound few is =
     few_of (other == 5) _ _ bound (few_of (watcher == 5) n s.five bound is (few 5))
-        (few_of (other == 6) _ _ bound (few_of (watcher == 6) n s.six bound is (few 6)) (omega arith))
+    (few_of (other == 6) _ _ bound (few_of (watcher == 6) n s.six bound is (few 6)) (omega arith))
 
 with_shown : (rules : Rules) (room me : ℕ) (journal : List Record) (m : Memory) (watcher n : ℕ) → IsMemory rules room me journal m
     → n ≤ confirmed (known_of rules me journal)
@@ -248,7 +256,7 @@ data_is M t k m q d is alarmed acked =
     misfit_is M m (misfit k q d.start d.words) _ is
     (either M (is_desync t d) _ _ (alarmed _ _)
     (got_is M k (record m { acks = acked_more m.acks q d.ack }) q (fresh_words k q d.start d.words)
-        (acked (ltb-false (count_in k k.me) d.ack few))))))
+    (acked (ltb-false (count_in k k.me) d.ack few))))))
 
 welcome_is : (M : Outcome → Type 0) (k : KnownValue) (m : Memory) (head : HeadValue) (ack : ℕ) → Delivers M m
     → (ack ≤ count_in k k.me → Delivers M (record m { links = heard m.links head; acks = acked_more m.acks head.from ack }))
@@ -261,14 +269,14 @@ freeze_is : (M : Outcome → Type 0) (k : KnownValue) (m : Memory) (q : ℕ) (f 
 unfolding hear_freeze
 freeze_is M k m q f is told =
     either M (not (q == 1)) _ _ (is _ _) (either M (f.leaver == k.me || not (is_player k f.leaver)) _ _ (is _ _)
-        (either M (player_in k f.leaver).frozen _ _ (told _ _) (told _ _)))
+    (either M (player_in k f.leaver).frozen _ _ (told _ _) (told _ _)))
 
 frozen_is : (M : Outcome → Type 0) (k : KnownValue) (m : Memory) (q : ℕ) (f : LeaverMessage) → Delivers M m
     → Delivers M (record m { chair = with_report m.chair f.leaver q f.length }) → M (hear_frozen k m q f)
 unfolding hear_frozen
 frozen_is M k m q f is told =
     either M (not (k.me == 1)) _ _ (is _ _) (either M (f.leaver == q || not (is_player k f.leaver)) _ _ (is _ _)
-        (either M (not (player_in k f.leaver).leaving) _ _ (is _ _)
+    (either M (not (player_in k f.leaver).leaving) _ _ (is _ _)
     (either M (is_some (player_in k f.leaver).cut) _ _ (told _ _) (either M (nat_lt k.limit f.length) _ _ (is _ _)
     (misfit_is M m (misfit k f.leaver f.start f.words) _ is
     (got_is M k (record m { chair = with_report m.chair f.leaver q f.length }) f.leaver (fresh_words k f.leaver f.start f.words) told))))))

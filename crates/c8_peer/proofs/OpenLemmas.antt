@@ -1,6 +1,6 @@
 -- The parts of an opening make its contract.
-use Rattle.std.proofs.Common.{◌≡◌, ◌<◌, ◌≤◌, ◌+◌, ◌^◌, ℕ, List, [], ◌∷◌, ◌++◌, length, true, Some, Ok, Err, option_map, refl, sym, ap,
-  subst, ◌∙◌, inl, inr, ⊎_elim, arith}
+use Rattle.std.proofs.Common.{◌≡◌, ◌<◌, ◌≤◌, ◌+◌, ◌^◌, ℕ, List, [], ◌∷◌, ◌++◌, length, true, Some, Ok, Err, option_map, refl, sym, ap}
+use Rattle.std.proofs.Common.{subst, ◌∙◌, inl, inr, ⊎_elim, arith}
 use Rattle.std.specs.Prelude.{Result, IfErr}
 use Rattle.c8_game.specs.Rules.{Rules, AreInRange, id_of}
 use Rattle.c8_disk.specs.declared.disk.Disk.{Ghosts}
@@ -33,8 +33,8 @@ use Rattle.c8_peer.specs.State.{Memory, Opened, fresh_memory}
 use Rattle.c8_peer.specs.Opening.{last_epoch, second_form, unfit, opening_record}
 use Rattle.c8_peer.specs.Peer.{PeerValue, mode_of, IsSound}
 use Rattle.c8_peer.specs.checked.Held.{IsPeer, IsRolled}
-use Rattle.c8_peer.specs.Opened.{opening_body, bodies_found, ReadRun, AllRead, OpenRun, MayBegin, IsOpened, IsSettled, IsUnread, IsUnfit,
-  IsNotWritten, IsRefusedFor, IsRefusedOpening, OpeningLeaves}
+use Rattle.c8_peer.specs.Opened.{opening_body, bodies_found, ReadRun, AllRead, OpenRun, MayBegin, IsOpened, IsSettled, IsUnread, IsUnfit}
+use Rattle.c8_peer.specs.Opened.{IsNotWritten, IsRefusedFor, IsRefusedOpening, OpeningLeaves}
 use Rattle.c8_peer.specs.checked.OpenedParts.{IsRead, BeginRun, IsBegun, IsNotBegun, BeginningLeaves}
 use Rattle.c8_peer.proofs.OpeningLemmas.{opening_allowed, opening_memory}
 use Rattle.c8_peer.proofs.PeerLemmas.{one_body_more, bodies_more, view}
@@ -104,8 +104,11 @@ module _ {D : Type 0} (g : Ghosts D) (reads_now : (disk : D) → g.may_leave dis
       (first : IsSameDisk g disk mid) (reads : ReadsOnly g mid left) where
     unfit_after : (error : ReplayError) → IsRefusal rules me room (bodies_found g mid) error
         → Asks g (ReadRun g disk rules room me (Err error)) (Ok tt) disk left → IsUnfit g disk rules room me error left
-    unfit_after error is asks = (subst (λ (bodies : List (List ℕ)). IsRefusal rules me room bodies error) same is,
-        settled_after disk mid left same mended rests reads, asks)
+    unfit_after error is asks = (
+      subst (λ (bodies : List (List ℕ)). IsRefusal rules me room bodies error) same is,
+      settled_after disk mid left same mended rests reads,
+      asks,
+    )
 
     pub refused_reading : (checks : ChecksValue) (error : ReplayError)
         → Asks g (ReadRun g disk rules room me (Err error)) (told_by (Err error)) disk left
@@ -134,9 +137,9 @@ module _ {D : Type 0} (g : Ghosts D) (disk mid : D) (rules : Rules) (room me : �
       → Asks g (BeginRun g disk rules room me) answer mid left
   begin_run left answer capacity asks =
       subst (λ (c : ℕ). Asks g (AppendWithin c (length (bodies_found g disk)) (opening_body rules room me (bodies_found g disk))) answer mid
-          left) capacity
+      left) capacity
       (subst (λ (bodies : List (List ℕ)). Asks g (AppendWithin (g.capacity mid) (length bodies) (opening_body rules room me bodies)) answer
-          mid left) same asks)
+      mid left) same asks)
 
   pub refused_beginning : (left : D) (error : OpenError) → AreJournalBodies rules me room (bodies_found g disk) → IsSettled g disk mid
       → IsSameDisk g disk mid → g.failures mid ≡ g.failures disk → Asks g (AllRead g disk rules room me) (Ok tt) disk mid
@@ -182,8 +185,10 @@ module _ {D : Type 0} (g : Ghosts D) (disk mid : D) (rules : Rules) (room me : �
       (weaker g mid left (BeginningLeaves g mid rules room me) all second
       (λ image keeps. ⊎_elim
       (λ without. inl (g.seen disk, reads_now disk, without ∙ same))
-      (λ with. inr (subst (MayBegin rules room me) same with.0,
-          with.1 ∙ ap (λ (bodies : List (List ℕ)). bodies ++ opening_body rules room me bodies ∷ []) same))
+      (λ with. inr (
+        subst (MayBegin rules room me) same with.0,
+        with.1 ∙ ap (λ (bodies : List (List ℕ)). bodies ++ opening_body rules room me bodies ∷ []) same,
+      ))
       keeps))
 
 -- ---- the peer
@@ -198,7 +203,7 @@ begins_confirmed g disk rules room me k checks log last from read at are =
     let there : from ≡ or_first rules (checks_of found).last = at ∙ ap (λ (c : ChecksValue). or_first rules c.last) read.checks_are in
     subst (λ (now : KnownValue). from.frames ≤ confirmed now) (sym read.known)
     (subst (λ (o : Origin). o.frames ≤ confirmed (known_of rules me found)) (sym there)
-        (or_first_confirmed rules (checks_of found).last (known_of rules me found) are.last))
+    (or_first_confirmed rules (checks_of found).last (known_of rules me found) are.last))
 
 module _ {D : Type 0} (g : Ghosts D) (disk : D) (rules : Rules) (room me : ℕ) (range : AreInRange rules) (from_one : 1 ≤ me)
     (in_game : me ≤ rules.players) (low : room < 2 ^ 64)

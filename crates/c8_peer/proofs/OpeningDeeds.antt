@@ -66,8 +66,14 @@ module _ {D : Type 0} (g : Ghosts D) where
   refused_for disk left rules room me s finds opens.EpochsSpent within is shut keeps reads tells = record {
     opening = Spent;
     deed = record {
-      may = (shut, (subst (IsJournal rules me room) reads is.bodies.journal,
-          subst (λ (f : List Record). last_epoch ≤ epoch f) reads is.spent, within));
+      may = (
+        shut,
+        (
+          subst (IsJournal rules me room) reads is.bodies.journal,
+          subst (λ (f : List Record). last_epoch ≤ epoch f) reads is.spent,
+          within,
+        ),
+      );
       is = refl;
     };
     tells = λ image may. (false, settled disk left s finds (found s finds) refl is.settled keeps image may);
@@ -90,8 +96,14 @@ module _ {D : Type 0} (g : Ghosts D) where
         | inr tried ↦ record {
           opening = NotWritten why;
           deed = record {
-            may = (shut, (subst (IsJournal rules me room) reads tried.1.bodies.journal,
-                subst (λ (f : List Record). epoch f < last_epoch) reads tried.1.not_spent, within));
+            may = (
+              shut,
+              (
+                subst (IsJournal rules me room) reads tried.1.bodies.journal,
+                subst (λ (f : List Record). epoch f < last_epoch) reads tried.1.not_spent,
+                within,
+              ),
+            );
             is = refl;
           };
           tells = λ image may.
@@ -139,8 +151,14 @@ module _ {D : Type 0} (g : Ghosts D) where
           finds = finds;
           opening = NotWritten errors.Failed;
           leaves = true;
-          may = (shut, (subst (IsJournal rules me room) reads added.0.0.journal,
-              subst (λ (f : List Record). epoch f < last_epoch) reads added.0.1, within));
+          may = (
+            shut,
+            (
+              subst (IsJournal rules me room) reads added.0.0.journal,
+              subst (λ (f : List Record). epoch f < last_epoch) reads added.0.1,
+              within,
+            ),
+          );
           keeps = added.1
               ∙ ap (λ (bodies : List (List ℕ)). bodies ++ opening_body rules room me (kept (g.seen disk)) ∷ []) keeps
               ∙ ap (λ (f : List Record). map body_of (found s finds) ++ body_of (opening_record rules room me f) ∷ []) reads

@@ -1,7 +1,7 @@
 -- The rules allow the record of an opening after the journal that it finds, and the memory of the opened peer is in
 -- order.
-use Rattle.std.proofs.Common.{◌≡◌, ℕ, ◌+◌, ◌^◌, ◌<◌, ◌≤◌, List, [], ◌∷◌, ◌++◌, length, Bool, true, false, cond, inr, refl, sym, ap, ◌∙◌,
-  arith, length-append, replicate}
+use Rattle.std.proofs.Common.{◌≡◌, ℕ, ◌+◌, ◌^◌, ◌<◌, ◌≤◌, List, [], ◌∷◌, ◌++◌, length, Bool, true, false, cond, inr, refl, sym, ap, ◌∙◌}
+use Rattle.std.proofs.Common.{arith, length-append, replicate}
 use Rattle.std.specs.Prelude.{◌==◌}
 use Rattle.std.specs.List.{flat_map, list_any}
 use Rattle.std.proofs.lemmas.Bool.{eq-eqb, or_left, or_right}
@@ -87,7 +87,7 @@ unfolding had_epoch epochs
 had_next journal r number is =
     let before : List ℕ = flat_map epochs_of journal in
     ap (list_any (λ epoch. epoch == number)) (flat_map-append epochs_of journal (r ∷ [])
-        ∙ ap (λ (more : List ℕ). before ++ more) (append-nil (epochs_of r) ∙ is))
+    ∙ ap (λ (more : List ℕ). before ++ more) (append-nil (epochs_of r) ∙ is))
     ∙ list_any-append (λ epoch. epoch == number) before (number ∷ [])
     ∙ or_right (list_any (λ epoch. epoch == number) before) _ (or_left (number == number) false (eq-eqb number number refl))
 
@@ -115,7 +115,7 @@ both_none false one other e f = f
 none_known : (rules : Rules) (me room number q : ℕ) → (link_to (no_links rules me room number) q).known ≡ 0
 none_known rules me room number q =
     both_none (q == 1) no_link _ refl (both_none (q == 2) no_link _ refl
-        (both_none (q == 3) no_link _ refl (both_none (q == 4) no_link no_link refl refl)))
+    (both_none (q == 3) no_link _ refl (both_none (q == 4) no_link no_link refl refl)))
 
 both_few : (test : Bool) (one other most : ℕ) → one ≤ most → other ≤ most → cond test one other ≤ most
 both_few true one other most e f = e
@@ -125,25 +125,32 @@ delay_acked : (delay q : ℕ) → acked_of (first_window delay) q ≤ delay
 delay_acked delay q =
     let all : delay ≤ delay = omega arith in
     both_few (q == 1) delay _ delay all (both_few (q == 2) delay _ delay all
-        (both_few (q == 3) delay _ delay all (both_few (q == 4) delay 0 delay all (omega arith))))
+    (both_few (q == 3) delay _ delay all (both_few (q == 4) delay 0 delay all (omega arith))))
 
 delay_held : (rules : Rules) (q : ℕ) (journal : List Record) → rules.delay ≤ count rules q journal
 unfolding held
-delay_held rules q journal = omega (arith, length-append (replicate rules.delay 0) (flat_map (words_of q) journal),
-    length-replicate {A = ℕ} rules.delay 0)
+delay_held rules q journal = omega (
+  arith,
+  length-append (replicate rules.delay 0) (flat_map (words_of q) journal),
+  length-replicate {A = ℕ} rules.delay 0,
+)
 
 -- the second form begins, and no checkpoint is under way
 opening_saving : (rules : Rules) (room me : ℕ) (found : List Record) → IsSaving rules me (found ++ opening_record rules room me found ∷ [])
 opening_saving rules room me [] =
     let checks = checks_more [] (Head me second_form (id_of rules) room) in
-    record { form = ap (λ (c : ChecksValue). c.form) checks;
-        starts = λ p e. absurd (let none = ap (λ (c : ChecksValue). c.under_way) (sym checks) ∙ e in cc);
-        bytes = λ p e. absurd (let none = ap (λ (c : ChecksValue). c.under_way) (sym checks) ∙ e in cc) }
+    record {
+      form = ap (λ (c : ChecksValue). c.form) checks;
+      starts = λ p e. absurd (let none = ap (λ (c : ChecksValue). c.under_way) (sym checks) ∙ e in cc);
+      bytes = λ p e. absurd (let none = ap (λ (c : ChecksValue). c.under_way) (sym checks) ∙ e in cc);
+    }
 opening_saving rules room me (r ∷ rest) =
     let checks = checks_more (r ∷ rest) (Epoch me (epoch (r ∷ rest) + 1) second_form) in
-    record { form = ap (λ (c : ChecksValue). c.form) checks;
-        starts = λ p e. absurd (let none = ap (λ (c : ChecksValue). c.under_way) (sym checks) ∙ e in cc);
-        bytes = λ p e. absurd (let none = ap (λ (c : ChecksValue). c.under_way) (sym checks) ∙ e in cc) }
+    record {
+      form = ap (λ (c : ChecksValue). c.form) checks;
+      starts = λ p e. absurd (let none = ap (λ (c : ChecksValue). c.under_way) (sym checks) ∙ e in cc);
+      bytes = λ p e. absurd (let none = ap (λ (c : ChecksValue). c.under_way) (sym checks) ∙ e in cc);
+    }
 
 -- no watcher has acknowledged anything
 none_of : (test : Bool) (a b n : ℕ) → a ≤ n → b ≤ n → cond test a b ≤ n

@@ -1,6 +1,6 @@
 -- Calls keep what holds for a peer's parts.
-use Rattle.std.proofs.Common.{◌≡◌, ◌≤◌, ◌+◌, ℕ, List, [], ◌∷◌, ◌++◌, length, map, option_map, Some, true, false, refl, sym, ap, subst, ◌∙◌,
-  inl, inr, ⊎_elim, arith, None, Bool}
+use Rattle.std.proofs.Common.{◌≡◌, ◌≤◌, ◌+◌, ℕ, List, [], ◌∷◌, ◌++◌, length, map, option_map, Some, true, false, refl, sym, ap, subst, ◌∙◌}
+use Rattle.std.proofs.Common.{inl, inr, ⊎_elim, arith, None, Bool}
 use Rattle.std.proofs.lemmas.Bool.{cases_Bool}
 use Rattle.std.proofs.lemmas.List.{map-append, length-map}
 use Rattle.c8_game.specs.Rules.{Rules}
@@ -92,7 +92,7 @@ module _ {D : Type 0} where
         let this : body_of r ≡ body = cc in
         let reads : r ≡ record_of body = sym (read_again r may.spelled) ∙ ap record_of this in
         subst (λ (bodies : List (List ℕ)). IsAllowed rules k.me room (records_of bodies) (record_of body)) (sym same)
-            (subst (IsAllowed rules k.me room (records_of old.bodies)) reads may);
+        (subst (IsAllowed rules k.me room (records_of old.bodies)) reads may);
     known = is.known ∙ ap (λ (bodies : List (List ℕ)). known_of rules k.me (records_of bodies)) (sym same);
     memory = subst (λ (bodies : List (List ℕ)). IsMemory rules room k.me (records_of bodies) m) (sym same) is.memory;
     last = is.last ∙ ap (λ (bodies : List (List ℕ)). epoch (records_of bodies)) (sym same);
@@ -181,7 +181,7 @@ pub runs_anew : (rules : Rules) (journal : List Record) (v : RollValue) (checks 
 runs_anew rules journal v checks rows k later was ran is keeps few again =
     let game : v.rules ≡ rules = roll_rules rules (begun_at rules journal) k v is.roll in
     again (begun_at rules journal) k (since rules journal k checks v was is)
-        (subst (λ (one : Rules). KeepsRows one.window k rows) (sym game) keeps) (omega (arith, few))
+    (subst (λ (one : Rules). KeepsRows one.window k rows) (sym game) keeps) (omega (arith, few))
 
 pub was_roll : (rules : Rules) (journal : List Record) (v : RollValue) (checks : ChecksValue) (k later : KnownValue) (r : Record) (was : ℕ)
     → IsRolled rules journal k checks v was → later ≡ with_record k r → IsStillKnown k later → WasRoll v later
@@ -214,8 +214,14 @@ rolled_more rules before now checks noted v next k later r was ran is same_start
 
 module _ {D : Type 0} where
   abbrev pub view : Rules → ℕ → ℕ → JournalValue D → Memory → ℕ → PeerValue D
-  view rules room me j m ran = record { rules = rules; room = room; me = me; disk = j.disk; state = state_of j.bodies j.pending j.is_down m;
-      last_run = ran }
+  view rules room me j m ran = record {
+    rules = rules;
+    room = room;
+    me = me;
+    disk = j.disk;
+    state = state_of j.bodies j.pending j.is_down m;
+    last_run = ran;
+  }
 
   pub allowed_inside : {v w : PeerValue D} (r : Record) → v ≡ w → IsAllowed w.rules w.me w.room w.state.journal r
       → IsAllowed v.rules v.me v.room v.state.journal r
@@ -227,7 +233,7 @@ module _ {D : Type 0} where
       → view rules room me new m ran ≡ record v { disk = new.disk; state = record v.state { pending = Some r; mode = Down } }
   view_refused v rules room me ran old new m r body is bodies pending down reads =
       subst (λ (x : PeerValue D). view rules room me new m ran
-          ≡ record x { disk = new.disk; state = record x.state { pending = Some r; mode = Down } }) is
+      ≡ record x { disk = new.disk; state = record x.state { pending = Some r; mode = Down } }) is
       (λ i. record {
         rules = rules;
         room = room;
@@ -248,7 +254,7 @@ module _ {D : Type 0} where
       → view rules room later new m ran ≡ record v { disk = new.disk; state = record v.state { journal = v.state.journal ++ r ∷ [] }; last_run = ran }
   view_more v rules room me later before ran old new m r is records pending down same =
       subst (λ (x : PeerValue D). view rules room later new m ran
-          ≡ record x { disk = new.disk; state = record x.state { journal = x.state.journal ++ r ∷ [] }; last_run = ran }) is
+      ≡ record x { disk = new.disk; state = record x.state { journal = x.state.journal ++ r ∷ [] }; last_run = ran }) is
       (λ i. record {
         rules = rules;
         room = room;
@@ -267,12 +273,12 @@ module _ {D : Type 0} where
   runs_frames v rules room j k later m r ran seen is may more few again =
       let journal : List Record = records_of j.bodies in
       let longer : later ≡ known_of rules k.me (journal ++ r ∷ []) =
-          more ∙ ap (λ (before : KnownValue). with_record before r) is.known ∙ sym (known_more rules k.me room journal r may) in
+      more ∙ ap (λ (before : KnownValue). with_record before r) is.known ∙ sym (known_more rules k.me room journal r may) in
       let from : RunsFromOldest (known_of rules k.me journal) (known_of rules k.me (journal ++ r ∷ [])) ran =
       subst (λ (x : KnownValue). RunsFromOldest x (known_of rules k.me (journal ++ r ∷ [])) ran) is.known
-          (subst (λ (x : KnownValue). RunsFromOldest k x ran) longer again) in
+      (subst (λ (x : KnownValue). RunsFromOldest k x ran) longer again) in
       subst (λ (x : PeerValue D). RunsFrames (most_run_with x.rules r) (known_by x) (known_of x.rules x.me (x.state.journal ++ r ∷ [])) ran)
-          seen (record { few = few; from_oldest = from })
+      seen (record { few = few; from_oldest = from })
 
   -- a crash inside a call that adds a record
   pub leaves_records : {ran : ℕ} (g : Ghosts D) (v : PeerValue D) (rules : Rules) (room me : ℕ) (old : JournalValue D) (new : D)
@@ -283,7 +289,7 @@ module _ {D : Type 0} where
       subst (λ (x : PeerValue D). LeavesOnly g x.disk new (KeepsWithOrWithout x.state.journal (Some r))) is
       (weaker g old.disk new (KeepsBodies old.bodies (Some body)) (KeepsWithOrWithout (records_of old.bodies) (Some r)) run
       (λ image keeps. keeps_records rules me room old.bodies r are image
-          (subst (λ (one : List ℕ). KeepsBodies old.bodies (Some one) image) spelled keeps)))
+      (subst (λ (one : List ℕ). KeepsBodies old.bodies (Some one) image) spelled keeps)))
 
   -- the disk calls, in terms of records
   pub asks_records : {ran : ℕ} (g : Ghosts D) (v : PeerValue D) (rules : Rules) (room me : ℕ) (old : JournalValue D) (new : D) (m : Memory)
@@ -307,7 +313,7 @@ module _ {D : Type 0} where
   may_record rules room j k m is call may noted reply r comes =
       let keeps : (outcome rules (told_of rules k.me (records_of j.bodies)) (known_of rules k.me (records_of j.bodies)) m call).keeps ≡ Some r =
       subst (λ (known : KnownValue). (outcome rules (told_of rules k.me (records_of j.bodies)) known m call).keeps ≡ Some r) is.known
-          (ap (λ (o : Outcome). o.keeps) comes) in
+      (ap (λ (o : Outcome). o.keeps) comes) in
       keeps_allowed rules k.me room (records_of j.bodies) m call r is.range is.from_one is.in_game is.bodies.journal is.memory may keeps
 
 pub is_up : (is_down : Bool) → mode_of is_down ≡ Open → is_down ≡ false

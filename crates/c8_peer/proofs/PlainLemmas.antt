@@ -1,6 +1,6 @@
 -- The outcome of a call never blames the disk, so the answer tells whether the peer is down after it.
-use Rattle.std.proofs.Common.{◌≡◌, ◌⊎◌, inl, inr, ⊎_elim, ◌+◌, ◌≤◌, ℕ, List, [], ◌∷◌, ◌++◌, length, Bool, true, Option, Some, None, Ok, Err,
-  refl, sym, ap, ◌∙◌}
+use Rattle.std.proofs.Common.{◌≡◌, ◌⊎◌, inl, inr, ⊎_elim, ◌+◌, ◌≤◌, ℕ, List, [], ◌∷◌, ◌++◌, length, Bool, true, Option, Some, None, Ok, Err}
+use Rattle.std.proofs.Common.{refl, sym, ap, ◌∙◌}
 use Rattle.std.specs.Prelude.{Result, ◌==◌, ◌||◌, not, nat_le, nat_lt, is_some}
 use Rattle.c8_game.specs.Rules.{Rules, AreInRange}
 use Rattle.c8_disk.specs.declared.error.DiskError.{DiskError}
@@ -18,12 +18,12 @@ use Rattle.c8_window.specs.Window.{acked_more}
 use Rattle.c8_round.specs.Round.{is_ready, with_report}
 use Rattle.c8_peer.specs.Told.{Told, told_of}
 use Rattle.c8_refusals.specs.declared.error.Unsayable.{Unsayable}
-use Rattle.c8_peer.specs.State.{Memory, Mode, Open, Down, Away, State, Saying, Call, Tick, Deliver, Say, Show, Leave, Decide, Checkpoint,
-  Said, Outcome, answered}
+use Rattle.c8_peer.specs.State.{Memory, Mode, Open, Down, Away, State, Saying, Call, Tick, Deliver, Say, Show, Leave, Decide, Checkpoint}
+use Rattle.c8_peer.specs.State.{Said, Outcome, answered}
 use Rattle.c8_peer.specs.Steps.{DiskOutcome, Works, Refuses, refused_by_disk, outcome, done, at_mode, step}
 use Rattle.c8_peer.specs.Calls.{tick, leave, decide, next_piece, checkpoint}
-use Rattle.c8_peer.specs.Hearing.{is_desync, unless_misfit, got, cut_or_got, hear_data, hear_welcome, hear_freeze, hear_frozen, hear_end,
-  hear_cut, hear_message, is_of_other_wire, unless_hand, hear_seen, hear_from, seen_in, hear_told}
+use Rattle.c8_peer.specs.Hearing.{is_desync, unless_misfit, got, cut_or_got, hear_data, hear_welcome, hear_freeze, hear_frozen, hear_end}
+use Rattle.c8_peer.specs.Hearing.{hear_cut, hear_message, is_of_other_wire, unless_hand, hear_seen, hear_from, seen_in, hear_told}
 use Rattle.c8_peer.specs.Saying.{say, show}
 use Rattle.c8_peer.specs.Opening.{Opening, NoPlayer, Stands, NotWritten, NoMemory, NotRead, Unfit, Spent, opened}
 use Rattle.c8_peer.specs.Replies.{mode_told}
@@ -64,13 +64,13 @@ unfolding leave
 leave_plain k m leaver =
     either IsPlain (not (k.me == 1)) _ _ (plain _ refl refl) (either IsPlain (leaver == k.me) _ _ (plain _ refl refl)
     (either IsPlain (not (is_player k leaver)) _ _ (plain _ refl refl)
-        (either IsPlain (player_in k leaver).leaving _ _ (plain _ refl refl) (plain _ refl refl))))
+    (either IsPlain (player_in k leaver).leaving _ _ (plain _ refl refl) (plain _ refl refl))))
 
 decide_plain : (k : KnownValue) (m : Memory) (leaver : ℕ) → IsPlain (decide k m leaver)
 unfolding decide
 decide_plain k m leaver =
     either IsPlain (not (k.me == 1) || not (player_in k leaver).leaving) _ _ (plain _ refl refl)
-        (either IsPlain (is_some (player_in k leaver).cut) _ _ (plain _ refl refl)
+    (either IsPlain (is_some (player_in k leaver).cut) _ _ (plain _ refl refl)
     (either IsPlain (not (is_ready m.chair k leaver)) _ _ (plain _ refl refl) (plain _ refl refl)))
 
 -- ---- deliveries
@@ -89,7 +89,7 @@ data_plain rules t k m q d =
     either IsPlain (is_from_leaver k q q) _ _ (plain _ refl refl) (either IsPlain (nat_lt (count_in k k.me) d.ack) _ _ (plain _ refl refl)
     (misfit_plain m (misfit k q d.start d.words) _
     (either IsPlain (is_desync t d) _ _ (plain _ refl refl)
-        (got_plain k (record m { acks = acked_more m.acks q d.ack }) q (fresh_words k q d.start d.words)))))
+    (got_plain k (record m { acks = acked_more m.acks q d.ack }) q (fresh_words k q d.start d.words)))))
 
 welcome_plain : (k : KnownValue) (m : Memory) (head : HeadValue) (ack : ℕ) → IsPlain (hear_welcome k m head ack)
 unfolding hear_welcome
@@ -106,7 +106,7 @@ unfolding hear_frozen
 frozen_plain k m q f =
     either IsPlain (not (k.me == 1)) _ _ (plain _ refl refl) (either IsPlain (f.leaver == q || not (is_player k f.leaver)) _ _ (plain _ refl refl)
     (either IsPlain (not (player_in k f.leaver).leaving) _ _ (plain _ refl refl)
-        (either IsPlain (is_some (player_in k f.leaver).cut) _ _ (plain _ refl refl)
+    (either IsPlain (is_some (player_in k f.leaver).cut) _ _ (plain _ refl refl)
     (either IsPlain (nat_lt k.limit f.length) _ _ (plain _ refl refl)
     (misfit_plain m (misfit k f.leaver f.start f.words) _
     (got_plain k (record m { chair = with_report m.chair f.leaver q f.length }) f.leaver (fresh_words k f.leaver f.start f.words)))))))
@@ -247,7 +247,7 @@ pub keeps_memory : (rules : Rules) (me room : ℕ) (journal : List Record) (m : 
 keeps_memory rules me room journal m call r range from to is memory fits keeps =
     let may = keeps_allowed rules me room journal m call r range from to is memory fits keeps in
     memory_more rules room me journal r _ range from to (journal_more rules me room journal r is may)
-        (memory_kept rules me room journal m call range from to is memory fits)
+    (memory_kept rules me room journal m call range from to is memory fits)
     (⊎_elim
     (λ play. saving_play rules me room journal r range from to is may play memory.saving)
     (λ next. saving_next rules me room journal r range from to is may memory.saving next)

@@ -1,6 +1,6 @@
 -- What holds for every peer between two calls, and what its readers use.
-use Rattle.std.proofs.Common.{◌≡◌, ◌⊎◌, ◌≤◌, ℕ, List, [], ◌∷◌, ◌++◌, map, option_map, Option, Some, None, Bool, true, false, refl, sym, ap,
-  subst, ◌∙◌, inl, inr, ⊎_elim, length, arith}
+use Rattle.std.proofs.Common.{◌≡◌, ◌⊎◌, ◌≤◌, ℕ, List, [], ◌∷◌, ◌++◌, map, option_map, Option, Some, None, Bool, true, false, refl, sym, ap}
+use Rattle.std.proofs.Common.{subst, ◌∙◌, inl, inr, ⊎_elim, length, arith}
 use Rattle.std.specs.Prelude.{option_to_list, if◌then◌else◌}
 use Rattle.std.proofs.lemmas.List.{append-nil}
 use Rattle.c8_record.specs.Allowed.{IsAllowed, IsJournal}
@@ -74,7 +74,7 @@ module _ {D : Type 0} where
       → LeavesOnly g j.disk j.disk (KeepsBodies j.bodies j.pending) → IsSound g v
   peer_sound g v rules room j k m seen is keeps up still =
       let words : (image : List ℕ) → KeepsBodies j.bodies j.pending image
-          → KeepsWithOrWithout (records_of j.bodies) (option_map record_of j.pending) image =
+      → KeepsWithOrWithout (records_of j.bodies) (option_map record_of j.pending) image =
       keeps_pending rules k.me room j.bodies j.pending is.bodies is.pending in
       subst (IsSound g) seen (record {
         range = is.range;
@@ -149,7 +149,7 @@ module _ {D : Type 0} where
       let limit = game.limit in
       let few : (known_of rules k.me journal).ticks ≤ rules.frames = omega (arith, own, within, delay, limit) in
       subst (λ (x : Rules). k.ticks ≤ x.frames) (ap (λ (x : PeerValue D). x.rules) seen)
-          (subst (λ (x : KnownValue). x.ticks ≤ rules.frames) (sym is.known) few)
+      (subst (λ (x : KnownValue). x.ticks ≤ rules.frames) (sym is.known) few)
 
   pub confirmed_few : {ran : ℕ} (v : PeerValue D) (rules : Rules) (room : ℕ) (j : JournalValue D) (k : KnownValue) (m : Memory)
       → view rules room k.me j m ran ≡ v → IsPeer rules room j k m → confirmed k ≤ v.rules.frames
@@ -167,7 +167,7 @@ module _ {D : Type 0} where
       let limit = (of_game rules k.me journal).limit in
       let few : count_in (known_of rules k.me journal) q ≤ limit_of rules = omega (arith, within, limit) in
       subst (λ (x : Rules). count_in k q ≤ limit_of x) (ap (λ (x : PeerValue D). x.rules) seen)
-          (subst (λ (x : KnownValue). count_in x q ≤ limit_of rules) (sym is.known) few)
+      (subst (λ (x : KnownValue). count_in x q ≤ limit_of rules) (sym is.known) few)
 
   pub acks_few : {ran : ℕ} (v : PeerValue D) (rules : Rules) (room : ℕ) (j : JournalValue D) (k : KnownValue) (m : Memory) (q : ℕ)
       → view rules room k.me j m ran ≡ v → IsPeer rules room j k m

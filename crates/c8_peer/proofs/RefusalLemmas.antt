@@ -19,12 +19,12 @@ use Rattle.c8_check.specs.Checks.{Pieces, frames_of}
 use Rattle.c8_peer.specs.Told.{Told, told_of}
 use Rattle.c8_refusals.specs.declared.error.Refused.{Refused}
 use Rattle.c8_refusals.specs.declared.error.Refused.TheVariants as refusals
-use Rattle.c8_peer.specs.State.{Memory, Mode, Open, Down, Away, State, Saying, Call, Tick, Deliver, Say, Show, Leave, Decide, Checkpoint,
-  Reply, Delivered, Outcome, answered}
+use Rattle.c8_peer.specs.State.{Memory, Mode, Open, Down, Away, State, Saying, Call, Tick, Deliver, Say, Show, Leave, Decide, Checkpoint}
+use Rattle.c8_peer.specs.State.{Reply, Delivered, Outcome, answered}
 use Rattle.c8_peer.specs.Calls.{tick, leave, decide, next_piece, checkpoint}
 use Rattle.c8_peer.specs.Saying.{say, show}
-use Rattle.c8_peer.specs.Hearing.{refused, unless_misfit, got, is_desync, hear_data, hear_welcome, hear_freeze, hear_frozen, hear_end,
-  hear_cut, hear_message, is_of_other_wire, unless_hand, hear_seen, hear_from, seen_in, deliver}
+use Rattle.c8_peer.specs.Hearing.{refused, unless_misfit, got, is_desync, hear_data, hear_welcome, hear_freeze, hear_frozen, hear_end}
+use Rattle.c8_peer.specs.Hearing.{hear_cut, hear_message, is_of_other_wire, unless_hand, hear_seen, hear_from, seen_in, deliver}
 use Rattle.c8_peer.specs.Steps.{outcome, DiskOutcome, Works, Refuses, refused_by_disk, when_down, Stepped, done, at_mode, step, IsPlainRefusal}
 use Rattle.c8_peer.proofs.MemoryLemmas.{either, say_is, show_is}
 
@@ -60,7 +60,7 @@ tick_fits rules k m keys =
     either (OutcomeFits m) (player_in k k.me).leaving _ _ (answered_fits m _ (λ e. cc e))
     (either (OutcomeFits m) (nat_le rules.frames k.ticks) _ _ (answered_fits m _ (λ e. cc e))
     (either (OutcomeFits m) (nat_le (confirmed k + rules.window) k.ticks) _ _ (answered_fits m _ (λ e. cc e))
-        (taken_fits m _ (λ none. none) (λ e. cc e))))
+    (taken_fits m _ (λ none. none) (λ e. cc e))))
 
 leave_fits : (k : KnownValue) (m : Memory) (leaver : ℕ) → OutcomeFits m (leave k m leaver)
 unfolding leave
@@ -103,7 +103,7 @@ data_fits rules t k m q d =
     (either (OutcomeFits m) (nat_lt (count_in k k.me) d.ack) _ _ (refused_fits m _ (λ e. cc e))
     (misfit_fits m (misfit k q d.start d.words) _
     (either (OutcomeFits m) (is_desync t d) _ _ (desync_fits m)
-        (got_fits k m (record m { acks = acked_more m.acks q d.ack }) q (fresh_words k q d.start d.words)))))
+    (got_fits k m (record m { acks = acked_more m.acks q d.ack }) q (fresh_words k q d.start d.words)))))
 
 welcome_fits : (k : KnownValue) (m : Memory) (head : HeadValue) (ack : ℕ) → OutcomeFits m (hear_welcome k m head ack)
 unfolding hear_welcome
@@ -116,7 +116,7 @@ freeze_fits k m q f =
     either (OutcomeFits m) (not (q == 1)) _ _ (refused_fits m _ (λ e. cc e))
     (either (OutcomeFits m) (f.leaver == k.me || not (is_player k f.leaver)) _ _ (refused_fits m _ (λ e. cc e))
     (either (OutcomeFits m) (player_in k f.leaver).frozen _ _ (taken_fits m _ (λ none. none) (λ e. cc e))
-        (taken_fits m _ (λ none. none) (λ e. cc e))))
+    (taken_fits m _ (λ none. none) (λ e. cc e))))
 
 frozen_fits : (k : KnownValue) (m : Memory) (q : ℕ) (f : LeaverMessage) → OutcomeFits m (hear_frozen k m q f)
 unfolding hear_frozen
@@ -136,7 +136,7 @@ end_fits k m c None =
     either (OutcomeFits m) (nat_lt c.length (count_in k c.leaver)) _ _ (refused_fits m _ (λ e. cc e))
     (misfit_fits m (misfit k c.leaver c.start c.words) _
     (either (OutcomeFits m) (count_in k c.leaver + length words == c.length) _ _ (taken_fits m _ (λ none. none) (λ e. cc e))
-        (got_fits k m m c.leaver words)))
+    (got_fits k m m c.leaver words)))
 
 cut_fits : (k : KnownValue) (m : Memory) (q : ℕ) (c : LeaverMessage) → OutcomeFits m (hear_cut k m q c)
 unfolding hear_cut

@@ -22,15 +22,15 @@ pub part_of_rows : {X : Type 0} (f : ℕ → X) (start all n most : ℕ) → sta
 part_of_rows {X} f start all n most low least =
     let from : 0 + start ≡ start = omega arith in
     let dropped : drop start (map f (range_with_len 0 all)) ≡ map f (range_with_len start (all - start)) =
-        drop-map f start (range_with_len 0 all) ∙ ap (map f) (drop_counting start 0 all low ∙ ap (λ b. range_with_len b (all - start)) from) in
+    drop-map f start (range_with_len 0 all) ∙ ap (map f) (drop_counting start 0 all low ∙ ap (λ b. range_with_len b (all - start)) from) in
     elim (cases_lt most (all - start)) [
       | inl more ↦
           let is : n ≡ most = omega (arith, least, more) in
           ap (λ k. map f (range_with_len start k)) is ∙ sym (take-map-range_with_len f start (all - start) most (omega (arith, more)))
-              ∙ sym (ap (take most) dropped)
+          ∙ sym (ap (take most) dropped)
       | inr few ↦
           let is : n ≡ all - start = omega (arith, least, few) in
           ap (λ k. map f (range_with_len start k)) is
-              ∙ sym (take_all most (map f (range_with_len start (all - start)))
-              (omega (arith, few, length-map-range_with_len f start (all - start)))) ∙ sym (ap (take most) dropped)
+          ∙ sym (take_all most (map f (range_with_len start (all - start)))
+          (omega (arith, few, length-map-range_with_len f start (all - start)))) ∙ sym (ap (take most) dropped)
     ]

@@ -1,7 +1,7 @@
 -- In every run of a peer its journal follows the rules and only grows, and what it said stays true. What a crash leaves
 -- on its disk is what a run finds.
-use Rattle.std.proofs.Common.{◌≡◌, ◌≢◌, ℕ, zero, suc, ◌^◌, ◌<◌, ◌≤◌, List, [], ◌∷◌, ◌++◌, Option, Some, None, Bool, true, false, Ok, refl,
-  sym, ap, subst, ◌∙◌, ⊎_elim, append_assoc}
+use Rattle.std.proofs.Common.{◌≡◌, ◌≢◌, ℕ, zero, suc, ◌^◌, ◌<◌, ◌≤◌, List, [], ◌∷◌, ◌++◌, Option, Some, None, Bool, true, false, Ok, refl}
+use Rattle.std.proofs.Common.{sym, ap, subst, ◌∙◌, ⊎_elim, append_assoc}
 use Rattle.std.specs.Prelude.{option_to_list}
 use Rattle.std.specs.List.{slice_get}
 use Rattle.std.proofs.lemmas.List.{append-nil}
@@ -22,16 +22,16 @@ use Rattle.c8_peer.specs.Told.{told_of}
 use Rattle.c8_peer.specs.State.{Mode, Open, Down, Away, State, Call, Reply, Said, Outcome}
 use Rattle.c8_peer.specs.State as states
 use Rattle.c8_peer.specs.Steps.{outcome, DiskOutcome, Works, Refuses, refused_by_disk, when_down, done, at_mode, step}
-use Rattle.c8_peer.specs.Opening.{last_epoch, found, opening_record, Opening, NoPlayer, Stands, NotWritten, NoMemory, NotRead, Unfit, Spent,
-  away, opened, MayBecome}
+use Rattle.c8_peer.specs.Opening.{last_epoch, found, opening_record, Opening, NoPlayer, Stands, NotWritten, NoMemory, NotRead, Unfit, Spent}
+use Rattle.c8_peer.specs.Opening.{away, opened, MayBecome}
 use Rattle.c8_peer.specs.Truth.{IsTrue, CarriesMark}
 use Rattle.c8_peer.specs.TrueChecks.{HasTrueChecks}
 use Rattle.c8_peer.specs.checked.TrueCheckLaws.{none_true}
 use Rattle.c8_peer.specs.checked.TruthLaws.{truth_stays, confirmed_counts, confirmed_stays}
 use Rattle.c8_peer.specs.Lawful.{IsMemory, IsCall}
 use Rattle.c8_peer.specs.Peer.{PeerValue, disk_outcome_of, Keeps, KeepsWithOrWithout, or_pending, added_at, MayLeave, IsAnswered, IsSaid, IsSound}
-use Rattle.c8_peer.specs.Runs.{never_opened, Deed, Does, Opens, Closes, Stops, StopsOpening, After, as_answered, crashed, after, MayDo,
-  IsDone, IsRun, IsLawful, TellsTruly, IsReached, IsAmong, known_at}
+use Rattle.c8_peer.specs.Runs.{never_opened, Deed, Does, Opens, Closes, Stops, StopsOpening, After, as_answered, crashed, after, MayDo}
+use Rattle.c8_peer.specs.Runs.{IsDone, IsRun, IsLawful, TellsTruly, IsReached, IsAmong, known_at}
 use Rattle.c8_peer.proofs.AllowedLemmas.{keeps_allowed}
 use Rattle.c8_peer.proofs.MemoryLemmas.{memory_kept}
 use Rattle.c8_peer.proofs.OpeningLemmas.{opening_allowed, opening_memory, opening_stays}
@@ -180,7 +180,7 @@ done_held rules room me s call None on_disk game held up fits keeps = record {
 }
 done_held rules room me s call (Some r) Works game held up fits keeps =
     let may : IsAllowed rules me room s.journal r =
-        keeps_allowed rules me room s.journal s.memory call r game.range game.from game.to held.journal (held.memory up) fits keeps in
+    keeps_allowed rules me room s.journal s.memory call r game.range game.from game.to held.journal (held.memory up) fits keeps in
     let more : IsJournal rules me room (s.journal ++ r ∷ []) = journal_more rules me room s.journal r held.journal may in
     record {
       journal = more;
@@ -202,7 +202,7 @@ mode_held : (rules : Rules) (room me : ℕ) (s : State) (call : Call) (on_disk :
     on_disk).state
 mode_held rules room me s call on_disk Open game held up fits =
     done_held rules room me s call (outcome rules (told_of rules me s.journal) (known_of rules me s.journal) s.memory call).keeps on_disk
-        game held up fits refl
+    game held up fits refl
 mode_held rules room me s call on_disk Down game held down fits = held
 mode_held rules room me s call on_disk Away game held gone fits = held
 
@@ -289,7 +289,7 @@ pub run_lawful : (rules : Rules) (room me : ℕ) (s t : State) (deeds : List Dee
     → IsLawful rules room me s → IsRun rules room me s deeds answers t → IsLawful rules room me t
 run_lawful rules room me s t deeds answers range from to low lawful run =
     lawful_of rules room me t (run_held rules room me s t deeds answers (match_of rules room me range from to low)
-        (held_of rules room me s lawful) run)
+    (held_of rules room me s lawful) run)
 
 pub reached_lawful : (rules : Rules) (room me : ℕ) (s : State) → AreInRange rules → 1 ≤ me → me ≤ rules.players → room < 2 ^ 64
     → IsReached rules room me s → IsLawful rules room me s
@@ -342,7 +342,7 @@ mode_checked : (rules : Rules) (room me : ℕ) (s : State) (call : Call) (on_dis
     → AreChecked rules me (at_mode s call (outcome rules (told_of rules me s.journal) (known_of rules me s.journal) s.memory call) mode on_disk).state
 mode_checked rules room me s call on_disk Open game held are up fits =
     done_checked rules room me s call (outcome rules (told_of rules me s.journal) (known_of rules me s.journal) s.memory call).keeps on_disk
-        game held are up fits refl
+    game held are up fits refl
 mode_checked rules room me s call on_disk Down game held are down fits = are
 mode_checked rules room me s call on_disk Away game held are gone fits = are
 
@@ -375,7 +375,7 @@ opens_checked : (rules : Rules) (room me : ℕ) (s : State) (finds : Bool) (open
     → AreChecked rules me (opened rules room me s (found s finds) opening).state
 opens_checked rules room me s finds opening game held are may =
     opened_checked rules room me s (found s finds) opening game are (found_journal rules room me s finds held)
-        (found_checked rules me s finds are) may
+    (found_checked rules me s finds are) may
 
 after_checked : (rules : Rules) (room me : ℕ) (s : State) (deed : Deed) → IsMatch rules room me → IsHeld rules room me s
     → AreChecked rules me s → MayDo rules room me s deed → AreChecked rules me (after rules room me s deed).state
@@ -386,7 +386,7 @@ after_checked rules room me s (Stops call on_disk leaves) game held are may =
     crash_checked rules me (step rules me s call on_disk).state leaves (step_checked rules room me s call on_disk game held are may)
 after_checked rules room me s (StopsOpening finds opening leaves) game held are may =
     crash_checked rules me (opened rules room me s (found s finds) opening).state leaves
-        (opens_checked rules room me s finds opening game held are may.1)
+    (opens_checked rules room me s finds opening game held are may.1)
 
 done_deed_checked : (rules : Rules) (room me : ℕ) (s u : State) (deed : Deed) (answer : Option Reply) → IsMatch rules room me
     → IsHeld rules room me s → AreChecked rules me s → IsDone rules room me s deed answer u → AreChecked rules me u
@@ -400,7 +400,7 @@ run_checked rules room me s t [] (answer ∷ answers) game held are none = absur
 run_checked rules room me s t (deed ∷ deeds) [] game held are none = absurd none
 run_checked rules room me s t (deed ∷ deeds) (answer ∷ answers) game held are (u, is, run) =
     run_checked rules room me u t deeds answers game (done_deed_held rules room me s u deed answer game held is)
-        (done_deed_checked rules room me s u deed answer game held are is) run
+    (done_deed_checked rules room me s u deed answer game held are is) run
 
 checked_of : (rules : Rules) (me : ℕ) (s : State) → TellsTruly rules me s → AreChecked rules me s
 checked_of rules me s tells = record { journal = tells false; longer = tells true }
@@ -414,13 +414,13 @@ pub run_tells : (rules : Rules) (room me : ℕ) (s t : State) (deeds : List Deed
     → IsLawful rules room me s → TellsTruly rules me s → IsRun rules room me s deeds answers t → TellsTruly rules me t
 run_tells rules room me s t deeds answers range from to low lawful tells run = λ finds.
     found_checked rules me t finds (run_checked rules room me s t deeds answers (match_of rules room me range from to low)
-        (held_of rules room me s lawful) (checked_of rules me s tells) run)
+    (held_of rules room me s lawful) (checked_of rules me s tells) run)
 
 pub reached_tells : (rules : Rules) (room me : ℕ) (s : State) → AreInRange rules → 1 ≤ me → me ≤ rules.players → room < 2 ^ 64
     → IsReached rules room me s → TellsTruly rules me s
 reached_tells rules room me s range from to low reached =
     run_tells rules room me never_opened s reached.deeds reached.answers range from to low (never_lawful rules room me)
-        (never_tells rules me) reached.run
+    (never_tells rules me) reached.run
 
 -- ---- what was said stays true
 
@@ -460,7 +460,7 @@ mode_says : (rules : Rules) (room me : ℕ) (s : State) (call : Call) (packet : 
     ≡ Said (Ok packet) → IsTrue rules me s.journal packet
 mode_says rules room me s call packet Open on_disk game held are up fits said =
     done_says rules room me s call packet (outcome rules (told_of rules me s.journal) (known_of rules me s.journal) s.memory call).keeps
-        on_disk game held are up fits said
+    on_disk game held are up fits said
 mode_says rules room me s call packet Down on_disk game held are down fits said = absurd (down_says_nothing call packet said)
 mode_says rules room me s call packet Away on_disk game held are gone fits said = absurd (down_says_nothing call packet said)
 
@@ -502,11 +502,11 @@ run_says rules room me s t (deed ∷ deeds) (answer ∷ answers) packet zero gam
     let said : (after rules room me s deed).answer ≡ Some (Said (Ok packet)) = ap (λ (a : After). a.answer) is.is ∙ cc in
     let grows : Grows s t = grows_then s u t (done_deed_grows rules room me s u deed answer is) (run_grows rules room me u t deeds answers run) in
     let later : IsHeld rules room me t = run_held rules room me u t deeds answers game
-        (done_deed_held rules room me s u deed answer game held is) run in
+    (done_deed_held rules room me s u deed answer game held is) run in
     stays_true rules room me s t packet game grows later (after_says rules room me s deed packet game held are is.may said)
 run_says rules room me s t (deed ∷ deeds) (answer ∷ answers) packet (suc n) game held are (u, is, run) there =
     run_says rules room me u t deeds answers packet n game (done_deed_held rules room me s u deed answer game held is)
-        (λ carries. done_deed_checked rules room me s u deed answer game held (are carries) is) run there
+    (λ carries. done_deed_checked rules room me s u deed answer game held (are carries) is) run there
 
 pub said_stands : (rules : Rules) (room me : ℕ) (s t : State) (deeds : List Deed) (answers : List (Option Reply)) (packet : Packet)
     → AreInRange rules → 1 ≤ me → me ≤ rules.players → room < 2 ^ 64
@@ -514,7 +514,7 @@ pub said_stands : (rules : Rules) (room me : ℕ) (s t : State) (deeds : List De
     → IsAmong answers packet → IsTrue rules me t.journal packet
 said_stands rules room me s t deeds answers packet range from to low lawful tells run (n, there) =
     run_says rules room me s t deeds answers packet n (match_of rules room me range from to low) (held_of rules room me s lawful)
-        (λ carries. checked_of rules me s (tells carries)) run there
+    (λ carries. checked_of rules me s (tells carries)) run there
 
 -- ---- what is confirmed stays
 
@@ -533,7 +533,7 @@ run_confirms rules room me s t deeds answers range from to low lawful run =
     let more = run_grows rules room me s t deeds answers run in
     subst (λ (journal : List Record). confirmed (known_of rules me s.journal) ≤ confirmed (known_of rules me journal)) (sym more.1)
     (confirmed_counts rules me room s.journal more.0 range from to
-        (later_journal rules room me s t deeds answers (match_of rules room me range from to low) lawful run))
+    (later_journal rules room me s t deeds answers (match_of rules room me range from to low) lawful run))
 
 pub run_keeps_rows : (rules : Rules) (room me n : ℕ) (s t : State) (deeds : List Deed) (answers : List (Option Reply)) → AreInRange rules
     → 1 ≤ me → me ≤ rules.players → room < 2 ^ 64
@@ -543,7 +543,7 @@ run_keeps_rows rules room me n s t deeds answers range from to low lawful run wi
     let more = run_grows rules room me s t deeds answers run in
     subst (λ (journal : List Record). rows_below (known_of rules me journal) n ≡ rows_below (known_of rules me s.journal) n) (sym more.1)
     (confirmed_stays rules me room n s.journal more.0 range from to
-        (later_journal rules room me s t deeds answers (match_of rules room me range from to low) lawful run) within)
+    (later_journal rules room me s t deeds answers (match_of rules room me range from to low) lawful run) within)
 
 -- ---- what a crash leaves on a disk
 

@@ -1,6 +1,6 @@
 -- What an open peer says is true of its journal.
-use Rattle.std.proofs.Common.{◌≡◌, ◌≢◌, ℕ, zero, suc, ◌-◌, ◌/◌, ◌≤◌, List, [], ◌∷◌, ◌++◌, length, take, drop, Bool, true, false, Option,
-  Some, None, Ok, Err, refl, sym, ap, subst, ◌∙◌, inl, inr, arith, ◌⊎◌}
+use Rattle.std.proofs.Common.{◌≡◌, ◌≢◌, ℕ, zero, suc, ◌-◌, ◌/◌, ◌≤◌, List, [], ◌∷◌, ◌++◌, length, take, drop, Bool, true, false, Option}
+use Rattle.std.proofs.Common.{Some, None, Ok, Err, refl, sym, ap, subst, ◌∙◌, inl, inr, arith, ◌⊎◌}
 use Rattle.std.specs.Prelude.{◌*◌, ◌==◌, ◌||◌, not, nat_le, is_none, replicate, unwrap_or}
 use Rattle.std.proofs.lemmas.Bool.{cases_lt, cases_eq, ne_eqb, eqb-true, eqb-false, leb-true, not-false, or_parts, and_parts, both_ways, eq-eqb}
 use Rattle.std.proofs.lemmas.List.{length-drop, get_or_past}
@@ -10,8 +10,8 @@ use Rattle.c8_wire.specs.Carried.{fits_in}
 use Rattle.c8_wire.specs.Packet.{Packet}
 use Rattle.c8_known.specs.Journal as journals
 use Rattle.c8_known.specs.Journal.{Record, Head, Epoch, Own, Got, held, count, has_freeze}
-use Rattle.c8_known.specs.Known.{PlayerValue, KnownValue, nobody, player_in, count_in, is_frozen_of, is_frozen_in, is_player, known_of,
-  said_of, Plays, IsKnown}
+use Rattle.c8_known.specs.Known.{PlayerValue, KnownValue, nobody, player_in, count_in, is_frozen_of, is_frozen_in, is_player, known_of}
+use Rattle.c8_known.specs.Known.{said_of, Plays, IsKnown}
 use Rattle.c8_known.specs.Growth.{Begins, Stands}
 use Rattle.c8_known.specs.checked.BeginsLaws.{begins_length, begins_more, begins_take}
 use Rattle.c8_known.specs.checked.OneMore.{player_known}
@@ -27,11 +27,11 @@ use Rattle.c8_round.specs.Round.{owed, answer_from}
 use Rattle.c8_record.specs.Allowed.{IsJournal, IsOrderly}
 use Rattle.c8_record.specs.checked.JournalLaws.{of_game, journal_known}
 use Rattle.c8_record.specs.checked.LeaverLaws.{journal_orderly}
-use Rattle.c8_peer.specs.State.{Memory, Call, Tick, Deliver, Say, Show, Leave, Decide, Checkpoint, Saying, Hello, Welcome, Data, Freeze,
-  Frozen, Cut, Said, Outcome, seen_by}
+use Rattle.c8_peer.specs.State.{Memory, Call, Tick, Deliver, Say, Show, Leave, Decide, Checkpoint, Saying, Hello, Welcome, Data, Freeze}
+use Rattle.c8_peer.specs.State.{Frozen, Cut, Said, Outcome, seen_by}
 use Rattle.c8_peer.specs.Told.{Told, told_of}
-use Rattle.c8_peer.specs.Saying.{is_not_mine, lacks_record, lacks_link, run_from, newest_mark, cut_length, message, packet, say, rows_for,
-  show_packet, show}
+use Rattle.c8_peer.specs.Saying.{is_not_mine, lacks_record, lacks_link, run_from, newest_mark, cut_length, message, packet, say, rows_for}
+use Rattle.c8_peer.specs.Saying.{show_packet, show}
 use Rattle.c8_peer.specs.Steps.{outcome}
 use Rattle.c8_peer.specs.Truth.{IsTrueMark, IsFrozenAt, IsTrueMessage, IsTrue, CarriesMark}
 use Rattle.c8_peer.specs.TrueChecks.{HasTrueChecks}
@@ -172,7 +172,7 @@ frozen_at : (rules : Rules) (q : ℕ) (journal : List Record) (n : ℕ) → has_
 frozen_at rules q journal n is all =
     let at = splits q journal is in
     let longer : count rules q at.before ≤ count rules q (at.before ++ journals.Freeze q ∷ at.rest) =
-        count_rises rules q at.before (journals.Freeze q ∷ at.rest) in
+    count_rises rules q at.before (journals.Freeze q ∷ at.rest) in
     let whole : count rules q journal ≡ count rules q (at.before ++ journals.Freeze q ∷ at.rest) = ap (count rules q) at.is in
     record { before = at.before; rest = at.rest; is = at.is; few = omega (arith, longer, whole, all) }
 
@@ -204,8 +204,10 @@ stands_less : (start n : ℕ) (words ys : List ℕ) → Stands start words ys �
 stands_less start n words ys stands =
     let fewer = begins_take n words in
     let within = stands.within in
-    record { within = omega (arith, within, begins_length (take n words) words fewer);
-        is = begins_more (take n words) words (drop start ys) fewer stands.is }
+    record {
+      within = omega (arith, within, begins_length (take n words) words fewer);
+      is = begins_more (take n words) words (drop start ys) fewer stands.is;
+    }
 
 -- ---- each kind
 
@@ -225,7 +227,7 @@ newest_is rules me journal true_checks =
     let k : KnownValue = known_of rules me journal in
     let way = true_checks.begun in
     ap (λ (marks : List FrameMark). unwrap_or (newest_of marks) (record { frame = 0; mark = replicate 8 0 }))
-        (marks_on_the_way rules k (begun_at rules journal) (confirmed k) way way.confirmed_is)
+    (marks_on_the_way rules k (begun_at rules journal) (confirmed k) way way.confirmed_is)
     ∙ ap (λ (newest : Option FrameMark). unwrap_or newest (record { frame = 0; mark = replicate 8 0 })) (newest_up_to rules k (confirmed k))
 
 mark_true : (rules : Rules) (me : ℕ) (journal : List Record) → HasTrueChecks rules me journal
@@ -241,11 +243,11 @@ data_true rules me journal m to true_checks known acked plays =
     let k : KnownValue = known_of rules me journal in
     let own : (player_in k k.me).held ≡ held rules me journal =
     ap (λ (p : PlayerValue). p.held) (said_is rules me k.me journal known.me)
-        ∙ ap (λ (q : ℕ). held rules q journal) (own_player rules me journal) in (
+    ∙ ap (λ (q : ℕ). held rules q journal) (own_player rules me journal) in (
       omega (arith, count_is rules me to journal plays),
       stands_less (acked_of m.acks to) (fits_in rules.wire (pending_of m.acks k to)) (pending_of m.acks k to) (held rules me journal)
           (stands_in (player_in k k.me).held (held rules me journal) longest_run (acked_of m.acks to) own
-              (omega (arith, acked, ap (λ (xs : List ℕ). length xs) own))),
+          (omega (arith, acked, ap (λ (xs : List ℕ). length xs) own))),
       mark_true rules me journal true_checks,
     )
 
@@ -257,8 +259,8 @@ run_stands : (rules : Rules) (me q start : ℕ) (journal : List Record) → Play
     → start ≤ count_in (known_of rules me journal) q → Stands start (run_from rules (known_of rules me journal) q start) (held rules q journal)
 run_stands rules me q start journal plays from =
     stands_in (player_in (known_of rules me journal) q).held (held rules q journal)
-        (fits_in rules.wire (drop start (player_in (known_of rules me journal) q).held)) start
-        (ap (λ (p : PlayerValue). p.held) (said_is rules me q journal plays)) from
+    (fits_in rules.wire (drop start (player_in (known_of rules me journal) q).held)) start
+    (ap (λ (p : PlayerValue). p.held) (said_is rules me q journal plays)) from
 
 freeze_true : (rules : Rules) (me : ℕ) (journal : List Record) (m : Memory) (to leaver : ℕ) → IsOrderly (known_of rules me journal)
     → is_not_mine (known_of rules me journal) to (Freeze leaver) ≡ false → lacks_record (known_of rules me journal) (Freeze leaver) ≡ false
@@ -327,9 +329,10 @@ show_true : (rules : Rules) (me room : ℕ) (journal : List Record) (m : Memory)
 show_true rules me room journal m watcher one is =
     let k : KnownValue = known_of rules me journal in
     let all : length (confirmed_rows k) ≡ confirmed k = length-map-range_with_len (row k) 0 (confirmed k) in
-    let few = is.shown watcher in
-    (sym (own_player rules me journal) ∙ one,
-        stands_in (confirmed_rows k) (confirmed_rows k) most_rows (seen_by m.seen watcher) refl (omega (arith, few, all)))
+    let few = is.shown watcher in (
+      sym (own_player rules me journal) ∙ one,
+      stands_in (confirmed_rows k) (confirmed_rows k) most_rows (seen_by m.seen watcher) refl (omega (arith, few, all)),
+    )
 
 -- ---- all of it
 

@@ -1,6 +1,6 @@
 -- What an open peer says has a spelling.
-use Rattle.std.proofs.Common.{◌+◌, ◌≡◌, ◌≢◌, ℕ, zero, suc, ◌^◌, ◌<◌, ◌≤◌, List, [], ◌∷◌, ◌++◌, length, take, drop, replicate, get_or, Bool,
-  true, false, Option, Some, Ok, refl, sym, ap, subst, ◌∙◌, arith, None, inl, inr}
+use Rattle.std.proofs.Common.{◌+◌, ◌≡◌, ◌≢◌, ℕ, zero, suc, ◌^◌, ◌<◌, ◌≤◌, List, [], ◌∷◌, ◌++◌, length, take, drop, replicate, get_or, Bool}
+use Rattle.std.proofs.Common.{true, false, Option, Some, Ok, refl, sym, ap, subst, ◌∙◌, arith, None, inl, inr}
 use Rattle.std.specs.Prelude.{◌-◌, ◌==◌, slice_index, unwrap_or, if◌then◌else◌, IfSome, nat_le, map}
 use Rattle.std.specs.Int.{from_be_bytes, to_be_bytes, w64}
 use Rattle.std.specs.List.{slice_get, flat_map, range_with_len}
@@ -15,8 +15,8 @@ use Rattle.c8_game.specs.declared.wire.WireVersion.{WireVersion}
 use Rattle.c8_wire.specs.Sizes.{longest_run, most_rows}
 use Rattle.c8_wire.specs.Carried.{fits_in, carried}
 use Rattle.c8_wire.specs.checked.CarriedLaws.{carried_few, carried_room}
-use Rattle.c8_wire.specs.Packet.{Message, Packet, IsLeaverMessage, AreBytes, AreWords, IsMark, IsRun, Fits, IsMessage, IsHead, IsPacket,
-  has_room, kind_of, IsRow, AreRows}
+use Rattle.c8_wire.specs.Packet.{Message, Packet, IsLeaverMessage, AreBytes, AreWords, IsMark, IsRun, Fits, IsMessage, IsHead, IsPacket}
+use Rattle.c8_wire.specs.Packet.{has_room, kind_of, IsRow, AreRows}
 use Rattle.c8_hand.specs.Links.{head_to}
 use Rattle.c8_known.specs.Journal as journals
 use Rattle.c8_known.specs.Journal.{Record, Head, Epoch, Own, Got, words_of, held, count}
@@ -104,7 +104,7 @@ pub held_words : (rules : Rules) (me room q : ℕ) (journal : List Record) → I
 unfolding held
 held_words rules me room q journal is =
     append_low (replicate rules.delay 0) (flat_map (words_of q) journal) (2 ^ 16) (empty_sets rules.delay)
-        (all_words q journal (λ n r e. (is n r e).spelled))
+    (all_words q journal (λ n r e. (is n r e).spelled))
 
 known_words : (rules : Rules) (me room q : ℕ) (journal : List Record) → IsJournal rules me room journal
     → Plays (known_of rules me journal) q → AreWords (player_in (known_of rules me journal) q).held
@@ -156,7 +156,7 @@ newest_fits rules me room journal range from to is =
     let starts = begun_confirmed rules me room journal range from to is in
     let marks = (origin_goes_on rules (begun_at rules journal) k (confirmed k) range origin starts).marks_are in
     let (m, newest, fits, low) = newest_of_marks (confirmed k) (marks_since rules (begun_at rules journal) k (confirmed k))
-        (record { frame = 0; mark = replicate 8 0 }) marks in
+    (record { frame = 0; mark = replicate 8 0 }) marks in
     subst (λ (x : FrameMark). IsMark x.mark × (x.frame ≤ confirmed k)) (sym newest) (fits, low)
 
 data_spelled : (rules : Rules) (me room : ℕ) (journal : List Record) (m : Memory) (to : ℕ) → AreInRange rules → 1 ≤ me → me ≤ rules.players
@@ -170,7 +170,7 @@ data_spelled rules me room journal m to range from within is memory known =
     let pending : List ℕ = take longest_run left in
     let all : count_in k k.me ≡ count rules me journal =
     ap (λ (p : PlayerValue). length p.held) (said_is rules me k.me journal known.me)
-        ∙ ap (λ (q : ℕ). count rules q journal) (own_player rules me journal) in
+    ∙ ap (λ (q : ℕ). count rules q journal) (own_player rules me journal) in
     let acked = memory.acked to in
     let least = few k k.me known in
     let ticked = (confirmed_is k).ticked in
@@ -195,8 +195,15 @@ freeze_spelled : (rules : Rules) (t : Told) (k : KnownValue) (m : Memory) (to le
 freeze_spelled rules t k m to leaver known leaves =
     let four = known.at_most_four in
     let within = leaves.in_game in
-    record { fits = tt; may = record { leaver_from_two = leaves.from_two; leaver_to_four = omega (arith, four, within);
-        have = few k leaver known }; room = refl }
+    record {
+      fits = tt;
+      may = record {
+        leaver_from_two = leaves.from_two;
+        leaver_to_four = omega (arith, four, within);
+        have = few k leaver known;
+      };
+      room = refl;
+    }
 
 -- FROZEN and CUT carry inputs of a leaver from a start that is not past the length
 leaver_spelled : (rules : Rules) (k : KnownValue) (leaver : ℕ) (end start : ℕ) → IsKnown k → IsLeaver k leaver → count_in k leaver ≡ end → start ≤ end
@@ -244,18 +251,18 @@ message_spelled rules me room journal m to Data range from within is memory orde
 message_spelled rules me room journal m to (Freeze leaver) range from within is memory orderly known has =
     let k : KnownValue = known_of rules me journal in
     freeze_spelled rules (told_of rules me journal) k m to leaver known
-        (is_leaver k leaver orderly (leaving_or (player_in k leaver) (not-false (player_in k leaver).leaving has)))
+    (is_leaver k leaver orderly (leaving_or (player_in k leaver) (not-false (player_in k leaver).leaving has)))
 message_spelled rules me room journal m to (Frozen leaver) range from within is memory orderly known has =
     let k : KnownValue = known_of rules me journal in
     let leaves = is_leaver k leaver orderly (frozen_or (player_in k leaver) (not-false (player_in k leaver).frozen has)) in
     frozen_spelled rules (told_of rules me journal) k m to leaver known leaves
-        (known_words rules me room leaver journal is (leaver_plays k leaver leaves))
+    (known_words rules me room leaver journal is (leaver_plays k leaver leaves))
 message_spelled rules me room journal m to (Cut leaver) range from within is memory orderly known has =
     let k : KnownValue = known_of rules me journal in
     let ends = known.cuts leaver (cut_length (player_in k leaver).cut) (some_cut (player_in k leaver).cut has) in
     let leaves = is_leaver k leaver orderly ends.leaves in
     cut_spelled rules (told_of rules me journal) k m to leaver known leaves ends.count
-        (known_words rules me room leaver journal is (leaver_plays k leaver leaves))
+    (known_words rules me room leaver journal is (leaver_plays k leaver leaves))
 
 -- ---- the head, and all of it
 
@@ -293,7 +300,7 @@ head_spelled rules me room journal m to what range from within memory apart play
     let last = plays.in_game in
     let are : are_two_players m.links.me to ≡ true =
     are_players m.links.me to (omega (arith, player, from)) (omega (arith, player, within, four)) first
-        (omega (arith, last, four, players_known rules me journal)) (λ same. apart (sym same ∙ player ∙ sym (own_player rules me journal))) in
+    (omega (arith, last, four, players_known rules me journal)) (λ same. apart (sym same ∙ player ∙ sym (own_player rules me journal))) in
     head_of rules me room journal m to _ memory (seats_of rules (told_of rules me journal) (known_of rules me journal) m m.links.me to what are)
 
 -- ---- rows for a watcher
@@ -376,8 +383,15 @@ show_spelled rules me room journal m watcher range from in_game is memory one wa
       fits = rows_taken most_rows left (rows_dropped start (confirmed_rows k) (rows_between rules me room journal is 0 (confirmed k)));
       message = record {
         short = omega (arith, length-take most_rows left);
-        within = omega (arith, length-take most_rows left, length-drop start (confirmed_rows k), all, few,
-            confirmed_frames rules me room journal range from in_game is, range.frames);
+        within = omega (
+          arith,
+          length-take most_rows left,
+          length-drop start (confirmed_rows k),
+          all,
+          few,
+          confirmed_frames rules me room journal range from in_game is,
+          range.frames,
+        );
       };
       room = refl;
     }
@@ -394,7 +408,7 @@ said_spelled rules me room journal m call p range from within journal_is memory 
     elim (what_is_said rules (told_of rules me journal) k m call p said) [
       | inl s ↦
           let spelled = message_spelled rules me room journal m s.to s.what range from within journal_is memory
-              (journal_orderly rules me room journal journal_is) known s.has in
+          (journal_orderly rules me room journal journal_is) known s.has in
           subst IsPacket (sym s.is) (record {
             head = head_spelled rules me room journal m s.to s.what range from within memory s.apart s.plays;
             kind = refl;
@@ -403,5 +417,5 @@ said_spelled rules me room journal m call p range from within journal_is memory 
             room = ap (λ (v : WireVersion). has_room v (message rules (told_of rules me journal) k m s.to s.what)) memory.version ∙ spelled.room;
           })
       | inr s ↦ subst IsPacket (sym s.is) (show_spelled rules me room journal m s.watcher range from within journal_is memory s.one
-      (subst IsCall s.call_is fits))
+          (subst IsCall s.call_is fits))
     ]

@@ -82,10 +82,10 @@ module _ {D : Type 0} where
       let same : kind_of (message rules t k m to what) ≡ wire_of kind = kind_said rules t k m to kind in
       let replies : (outcome rules t (known_of rules k.me (records_of j.bodies)) m (Say to what)).reply ≡ Said (Ok (packet rules t k m to what)) =
       subst (λ (known : KnownValue). (outcome rules t known m (Say to what)).reply ≡ Said (Ok (packet rules t k m to what))) is.known
-          (ap (λ (o : Outcome). o.reply) comes) in
+      (ap (λ (o : Outcome). o.reply) comes) in
       let spelled : IsPacket (packet rules t k m to what) =
       said_spelled rules k.me room (records_of j.bodies) m (Say to what) (packet rules t k m to what) is.range is.from_one is.in_game
-          is.bodies.journal is.memory tt replies in
+      is.bodies.journal is.memory tt replies in
       record {
         is = λ i. record { head = (heads ∙ ap (head_to m.links to) (sym same)) i; message = says i };
         kind = rw (heads, says) (sym same);
@@ -100,9 +100,9 @@ module _ {D : Type 0} where
   is_said v rules room j k m to what bytes p seen is mode comes spells =
       let t : Told = told_in rules j k in
       let here : outcome v.rules (told_by v) (known_by v) v.state.memory (Say to what) ≡ answered v.state.memory (Said (Ok p)) =
-          outcome_seen v rules room j k m is seen (Say to what) (λ noted. answered noted (Said (Ok p))) comes in
+      outcome_seen v rules room j k m is seen (Say to what) (λ noted. answered noted (Said (Ok p))) comes in
       let sound : (CarriesMark p.message → HasTrueChecks rules k.me (records_of j.bodies)) → IsTrue rules k.me (records_of j.bodies) p =
-          λ true_checks.
+      λ true_checks.
       said_true rules k.me room (records_of j.bodies) m (Say to what) p is.range is.from_one is.in_game is.bodies.journal is.memory tt true_checks
       (subst (λ (known : KnownValue). (outcome rules t known m (Say to what)).reply ≡ Said (Ok p)) is.known (ap (λ (o : Outcome). o.reply) comes)) in
       record {
@@ -120,10 +120,10 @@ module _ {D : Type 0} where
       let t : Told = told_in rules j k in
       let replies : (outcome rules t (known_of rules k.me (records_of j.bodies)) m (Show watcher)).reply ≡ Said (Ok (show_packet k m watcher)) =
       subst (λ (known : KnownValue). (show known m watcher).reply ≡ Said (Ok (show_packet k m watcher))) is.known
-          (ap (λ (o : Outcome). o.reply) (shows k m watcher one)) in
+      (ap (λ (o : Outcome). o.reply) (shows k m watcher one)) in
       let spelled : IsPacket (show_packet k m watcher) =
       said_spelled rules k.me room (records_of j.bodies) m (Show watcher) (show_packet k m watcher) is.range is.from_one is.in_game
-          is.bodies.journal is.memory watches replies in
+      is.bodies.journal is.memory watches replies in
       record {
         is = λ i. record { head = heads i; message = rows i };
         kind = rw (heads, rows) refl;
@@ -139,11 +139,11 @@ module _ {D : Type 0} where
       let p : Packet = show_packet k m watcher in
       let comes = shows k m watcher one in
       let here : outcome v.rules (told_by v) (known_by v) v.state.memory (Show watcher) ≡ answered v.state.memory (Said (Ok p)) =
-          outcome_seen v rules room j k m is seen (Show watcher) (λ noted. answered noted (Said (Ok p))) comes in
+      outcome_seen v rules room j k m is seen (Show watcher) (λ noted. answered noted (Said (Ok p))) comes in
       let sound : (CarriesMark p.message → HasTrueChecks rules k.me (records_of j.bodies)) → IsTrue rules k.me (records_of j.bodies) p =
-          λ true_checks.
+      λ true_checks.
       said_true rules k.me room (records_of j.bodies) m (Show watcher) p is.range is.from_one is.in_game is.bodies.journal is.memory watches
-          true_checks
+      true_checks
       (subst (λ (known : KnownValue). (show known m watcher).reply ≡ Said (Ok p)) is.known (ap (λ (o : Outcome). o.reply) comes)) in
       record {
         packet = p;
@@ -159,5 +159,5 @@ module _ {D : Type 0} where
   show_refused v rules room j k m watcher seen is mode other =
       let here : outcome v.rules (told_by v) (known_by v) v.state.memory (Show watcher) ≡ answered v.state.memory (Said (Err unsayables.NotMine)) =
       outcome_seen v rules room j k m is seen (Show watcher) (λ noted. answered noted (Said (Err unsayables.NotMine)))
-          (shows_nothing k m watcher other) in
+      (shows_nothing k m watcher other) in
       rw (mode, here) refl

@@ -1,6 +1,6 @@
 -- What a delivery does. Its refusals stand in the order of judging.
-use Rattle.std.specs.Prelude.{ℕ, ◌+◌, ◌==◌, ◌||◌, List, [], ◌∷◌, length, Bool, true, false, not, nat_lt, is_some, Option, Some, None,
-  Result, Ok, Err, if◌then◌else◌}
+use Rattle.std.specs.Prelude.{ℕ, ◌+◌, ◌==◌, ◌||◌, List, [], ◌∷◌, length, Bool, true, false, not, nat_lt, is_some, Option, Some, None}
+use Rattle.std.specs.Prelude.{Result, Ok, Err, if◌then◌else◌}
 use Rattle.c8_game.specs.Rules.{Rules}
 use Rattle.c8_game.specs.Wire.{version_number}
 use Rattle.c8_wire.specs.declared.error.WireError.{WireError}

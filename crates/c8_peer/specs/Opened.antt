@@ -145,4 +145,4 @@ module _ {D : Type 0} (g : Ghosts D) (disk : D) (rules : Rules) (room me : ℕ) 
   abbrev pub OpeningLeaves : List ℕ → Type 0
   OpeningLeaves image =
       KeepsOneOf (g.may_leave disk) image ⊎ (MayBegin rules room me (bodies_found g disk)
-          × (kept image ≡ bodies_found g disk ++ opening_body rules room me (bodies_found g disk) ∷ []))
+      × (kept image ≡ bodies_found g disk ++ opening_body rules room me (bodies_found g disk) ∷ []))

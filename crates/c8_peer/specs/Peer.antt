@@ -1,6 +1,6 @@
 -- A peer as its callers see it, the contract that its calls share, and what a crash may leave.
-use Rattle.std.specs.Prelude.{◌≡◌, ◌⊎◌, ℕ, ◌+◌, ◌*◌, ◌^◌, ◌<◌, ◌≤◌, List, length, ◌++◌, map, Bool, Option, Some, None, Result, Ok, Err,
-  option_map, option_to_list, if◌then◌else◌}
+use Rattle.std.specs.Prelude.{◌≡◌, ◌⊎◌, ℕ, ◌+◌, ◌*◌, ◌^◌, ◌<◌, ◌≤◌, List, length, ◌++◌, map, Bool, Option, Some, None, Result, Ok, Err}
+use Rattle.std.specs.Prelude.{option_map, option_to_list, if◌then◌else◌}
 use Rattle.c8_game.specs.Rules.{Rules, AreInRange}
 use Rattle.c8_disk.specs.declared.disk.Disk.{Ghosts}
 use Rattle.c8_disk.specs.declared.error.DiskError.{DiskError}
@@ -27,8 +27,8 @@ use Rattle.c8_refusals.specs.declared.error.DecideError.TheVariants as decides
 use Rattle.c8_refusals.specs.declared.error.CheckError.{CheckError}
 use Rattle.c8_refusals.specs.declared.error.CheckError.TheVariants as checks
 use Rattle.c8_peer.specs.declared.check.Check.{Check}
-use Rattle.c8_peer.specs.State.{Memory, Mode, Open, Down, Away, State, Call, Tick, Deliver, Say, Show, Leave, Decide, Checkpoint, Reply,
-  Opened, Ticked, Delivered, Said, Left, Decided, Checked}
+use Rattle.c8_peer.specs.State.{Memory, Mode, Open, Down, Away, State, Call, Tick, Deliver, Say, Show, Leave, Decide, Checkpoint, Reply}
+use Rattle.c8_peer.specs.State.{Opened, Ticked, Delivered, Said, Left, Decided, Checked}
 use Rattle.c8_wire.specs.Packet.{Packet}
 use Rattle.c8_wire.specs.Spelling.{Spells}
 use Rattle.c8_peer.specs.Truth.{IsTrue, CarriesMark}

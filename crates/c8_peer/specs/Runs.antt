@@ -26,8 +26,17 @@ never_opened = record {
   pending = None;
   mode = Away;
   memory = record {
-    links = record { me = 0; players = 0; version = versions.One; session = 0; epoch = 0; one = no_link; two = no_link; three = no_link;
-        four = no_link };
+    links = record {
+      me = 0;
+      players = 0;
+      version = versions.One;
+      session = 0;
+      epoch = 0;
+      one = no_link;
+      two = no_link;
+      three = no_link;
+      four = no_link;
+    };
     acks = first_window 0;
     chair = no_reports;
     stayer = no_haves;

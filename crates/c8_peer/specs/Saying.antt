@@ -1,6 +1,6 @@
 -- What a peer says when it is asked to, or why it refuses. The refusals stand in the order of judging.
-use Rattle.std.specs.Prelude.{ℕ, ◌==◌, ◌||◌, List, take, drop, replicate, unwrap_or, Bool, false, not, is_none, Option, Some, None, Ok, Err,
-  if◌then◌else◌}
+use Rattle.std.specs.Prelude.{ℕ, ◌==◌, ◌||◌, List, take, drop, replicate, unwrap_or, Bool, false, not, is_none, Option, Some, None, Ok, Err}
+use Rattle.std.specs.Prelude.{if◌then◌else◌}
 use Rattle.c8_game.specs.Rules.{Rules}
 use Rattle.c8_wire.specs.Sizes.{most_rows}
 use Rattle.c8_wire.specs.Carried.{carried}

@@ -11,8 +11,8 @@ use Rattle.c8_refusals.specs.declared.error.LeaveError.TheVariants as leaves
 use Rattle.c8_refusals.specs.declared.error.DecideError.TheVariants as decides
 use Rattle.c8_refusals.specs.declared.error.CheckError.TheVariants as checks
 use Rattle.c8_peer.specs.Told.{Told, told_of}
-use Rattle.c8_peer.specs.State.{Memory, Mode, Open, Down, Away, State, Call, Tick, Deliver, Say, Show, Leave, Decide, Checkpoint, Reply,
-  Opened, Ticked, Delivered, Said, Left, Decided, Checked, Outcome}
+use Rattle.c8_peer.specs.State.{Memory, Mode, Open, Down, Away, State, Call, Tick, Deliver, Say, Show, Leave, Decide, Checkpoint, Reply}
+use Rattle.c8_peer.specs.State.{Opened, Ticked, Delivered, Said, Left, Decided, Checked, Outcome}
 use Rattle.c8_peer.specs.Calls.{tick, leave, decide, checkpoint}
 use Rattle.c8_peer.specs.Hearing.{deliver}
 use Rattle.c8_peer.specs.Saying.{say, show}

@@ -17,8 +17,11 @@ pub record Told : Type 0 where
   pub saved : ℕ → List ℕ
 
 abbrev pub told_since : Rules → Origin → KnownValue → ChecksValue → Told
-told_since rules from k checks = record { marks = marks_since rules from k (confirmed k); checks = checks;
-    saved = λ n. save_bytes (origin_at rules from k n) }
+told_since rules from k checks = record {
+  marks = marks_since rules from k (confirmed k);
+  checks = checks;
+  saved = λ n. save_bytes (origin_at rules from k n);
+}
 
 unfoldable pub told_of : Rules → ℕ → List Record → Told
 told_of rules me journal = told_since rules (begun_at rules journal) (known_of rules me journal) (checks_of journal)

@@ -24,7 +24,7 @@ module _ {D W C : Type 0} (disk : DiskGhosts D) (wire : WireGhosts W) (console :
   frames_more window patience n p played ready q before between due after old rested awake new led so_far leads frames waited frame =
       let more : suc n ≡ n + 1 = omega arith in
       subst (λ (m : ℕ). AreFrames disk wire console window patience m p q before after old new led leads) more
-          (played, ready, between, due, rested, awake, so_far, frames, waited, frame)
+      (played, ready, between, due, rested, awake, so_far, frames, waited, frame)
 
   -- a frame of the same window and patience
   pub led_with : (p q : PeerValue D) (before after : W) (old new : Desk C) (led leads window patience same_window same_patience : ℕ)

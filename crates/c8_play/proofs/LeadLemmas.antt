@@ -11,19 +11,31 @@ module _ {D : Type 0} (window patience : ℕ) (peer : PeerValue D) (out : Bool) 
   pub led_out : out ≡ true → Judged → (IsTrue out → after ≡ 0) → HasLed window patience peer true false before after
   led_out is judged anew =
       let none : after ≡ 0 = anew is in
-      record { left_out = subst (λ (b : Bool). IsTrue b ↔ (IsAhead window peer × (patience ≤ before + 1))) is judged;
-          counted = λ ahead taken. cc taken; behind = λ not. none; waited = λ same. none }
+      record {
+        left_out = subst (λ (b : Bool). IsTrue b ↔ (IsAhead window peer × (patience ≤ before + 1))) is judged;
+        counted = λ ahead taken. cc taken;
+        behind = λ not. none;
+        waited = λ same. none;
+      }
 
   pub led_taken : out ≡ false → Judged → (¬ IsAhead window peer → after ≡ 0) → (IsAhead window peer → out ≡ false → after ≡ before + 1)
       → HasLed window patience peer false true before after
   led_taken is judged behind counted =
-      record { left_out = subst (λ (b : Bool). IsTrue b ↔ (IsAhead window peer × (patience ≤ before + 1))) is judged;
-          counted = λ ahead taken. counted ahead is; behind = behind; waited = λ same. cc same }
+      record {
+        left_out = subst (λ (b : Bool). IsTrue b ↔ (IsAhead window peer × (patience ≤ before + 1))) is judged;
+        counted = λ ahead taken. counted ahead is;
+        behind = behind;
+        waited = λ same. cc same;
+      }
 
   pub led_refused : out ≡ false → Judged → after ≡ 0 → HasLed window patience peer false false before after
   led_refused is judged none =
-      record { left_out = subst (λ (b : Bool). IsTrue b ↔ (IsAhead window peer × (patience ≤ before + 1))) is judged;
-          counted = λ ahead taken. cc taken; behind = λ not. none; waited = λ same. none }
+      record {
+        left_out = subst (λ (b : Bool). IsTrue b ↔ (IsAhead window peer × (patience ≤ before + 1))) is judged;
+        counted = λ ahead taken. cc taken;
+        behind = λ not. none;
+        waited = λ same. none;
+      }
 
 -- for the same peer
 pub led_at : {D : Type 0} (window patience : ℕ) (seen peer : PeerValue D) (out taken : Bool) (before after : ℕ) → seen ≡ peer

@@ -1,6 +1,6 @@
 -- How the bytes of a keyboard join.
-use Rattle.std.proofs.Common.{◌≡◌, ◌<◌, ◌+◌, ℕ, suc, length, take, get_or, arith, List, [], ◌∷◌, ◌++◌, Option, Some, None, refl, ap, sym,
-  ◌∙◌, append_assoc}
+use Rattle.std.proofs.Common.{◌≡◌, ◌<◌, ◌+◌, ℕ, suc, length, take, get_or, arith, List, [], ◌∷◌, ◌++◌, Option, Some, None, refl, ap, sym}
+use Rattle.std.proofs.Common.{◌∙◌, append_assoc}
 use Rattle.std.proofs.Math.Seq.{take-suc}
 use Rattle.c8_terminal.specs.declared.signal.Signal.{Signal}
 use Rattle.c8_terminal.specs.Decoding.{Decoding, step, pause}
@@ -24,7 +24,7 @@ pub told-append : (xs ys : List ℕ) (d : Decoding) → told_by (xs ++ ys) d ≡
 told-append [] ys d = refl
 told-append (x ∷ xs) ys d =
     ap (with_told (step x d).told) (told-append xs ys (step x d).next)
-        ∙ with_told-append (step x d).told (told_by xs (step x d).next) (told_by ys (read_after xs (step x d).next))
+    ∙ with_told-append (step x d).told (told_by xs (step x d).next) (told_by ys (read_after xs (step x d).next))
 
 pub signals-append : (hold : ℕ) (xs ys : List Signal) (key : ℕ) (p : Press)
     → after_signals hold (xs ++ ys) key p ≡ after_signals hold ys key (after_signals hold xs key p)

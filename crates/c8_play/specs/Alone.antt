@@ -31,7 +31,7 @@ abbrev pub AreFramesAlone : {C : Type 0} → Ghosts C → Rules → ℕ → List
 AreFramesAlone console rules zero rows old new = (rows ≡ []) × IsSameDesk console old new
 AreFramesAlone {C} console rules (suc fewer) rows old new =
     (before : List Row) × (row : Row) × (rested ready : Desk C) × (rows ≡ before ++ row ∷ [])
-        × AreFramesAlone console rules fewer before old rested × IsSameDesk console rested ready
+    × AreFramesAlone console rules fewer before old rested × IsSameDesk console rested ready
     × IsFrameAlone console rules before row ready new
 
 -- at most the frames of the game, each with the keys held in it; the machine is that of the serial run

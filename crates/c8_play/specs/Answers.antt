@@ -14,7 +14,7 @@ use Rattle.c8_net.specs.Answers.{HasReported}
 abbrev pub HasReportedAlone : Option (List ℕ) → Option (List ℕ) → Type 0
 HasReportedAlone old new =
     (rules : Rules) × (rows : List Row) × (played : Played) × (played.frames ≡ length rows) × (state played.machine ≡ serial rules rows)
-        × Reports old new played
+    × Reports old new played
 
 -- done only after a game alone, or a match, with its report
 abbrev pub EndsPlay : Option (List ℕ) → Option (List ℕ) → Status → Type 0

@@ -1,6 +1,6 @@
 -- Blocks of lines, and what they say.
-use Rattle.std.proofs.Common.{◌≡◌, ℕ, zero, suc, take, drop, ◌-◌, ◌<◌, true, false, length, List, [], ◌∷◌, ◌++◌, get_or, refl, ap, sym, ◌∙◌,
-  inl, inr, arith, ◌==◌, append_assoc}
+use Rattle.std.proofs.Common.{◌≡◌, ℕ, zero, suc, take, drop, ◌-◌, ◌<◌, true, false, length, List, [], ◌∷◌, ◌++◌, get_or, refl, ap, sym, ◌∙◌}
+use Rattle.std.proofs.Common.{inl, inr, arith, ◌==◌, append_assoc}
 use Rattle.std.specs.Prelude.{codes, slice_index}
 use Rattle.std.specs.List.{All, AllZip, list_all, slice_split}
 use Rattle.std.specs.Str.Lines.{lines, lines_of_parts, strip_carriage_return}
@@ -28,7 +28,7 @@ stripped line inner =
     let other : (get_or line (length line - 1) 0 == 13) ≡ false =
     elim (cases_lt (length line - 1) (length line)) [
       | inl within ↦ let above = ltb-true 13 (get_or line (length line - 1) 0)
-      (AllPass-from_list_all is_inner line inner (length line - 1) 0 within) in
+          (AllPass-from_list_all is_inner line inner (length line - 1) 0 within) in
           ne_eqb (get_or line (length line - 1) 0) 13 (λ return. omega arith)
       | inr past ↦ rw (get_or_past line (length line - 1) 0 past) refl
     ] in
@@ -100,7 +100,7 @@ program_more text bytes more written some each = record {
   items = written.items ++ Code more ∷ [];
   block = block_both text (line_text (codes "code") (encode_lower more)) written.items (Code more ∷ []) written.block
       (block_line (codes "code") (encode_lower more) (Code more) (pair_inner (codes "code") (encode_lower more) refl (code_inner more each))
-          (encode_lower more, refl, decode_of-encode_lower more each, some));
+      (encode_lower more, refl, decode_of-encode_lower more each, some));
   code = flat_map-append code_in written.items (Code more ∷ []) ∙ ap (λ front. front ++ (more ++ [])) written.code
       ∙ ap (λ end. bytes ++ end) (append-nil more);
   numberless = λ field. flat_map-append (number_in field) written.items (Code more ∷ []) ∙ ap (λ front. front ++ []) (written.numberless field);

@@ -1,6 +1,6 @@
 -- The lines of the fields, and the game that they give.
-use Rattle.std.proofs.Common.{◌≡◌, ℕ, ◌+◌, ◌^◌, ◌<◌, ◌≤◌, Bool, true, false, cond, List, [], ◌∷◌, ◌++◌, get_or, take, refl, ap, sym, ◌∙◌,
-  inl, inr, arith, add-one, append_assoc}
+use Rattle.std.proofs.Common.{◌≡◌, ℕ, ◌+◌, ◌^◌, ◌<◌, ◌≤◌, Bool, true, false, cond, List, [], ◌∷◌, ◌++◌, get_or, take, refl, ap, sym, ◌∙◌}
+use Rattle.std.proofs.Common.{inl, inr, arith, add-one, append_assoc}
 use Rattle.std.specs.Prelude.{nat_le, flat_map, slice_index, if◌then◌else◌}
 use Rattle.std.specs.List.{list_all}
 use Rattle.std.proofs.lemmas.Bool.{cases_Bool, lt-leb, le-leb}
@@ -178,7 +178,7 @@ one_more_field rules initial text new place within before longer =
     let field = get_or fields place Players in
     let taken : take (place + 1) fields ≡ take place fields ++ get_or fields place Players ∷ [] = rw (add-one, take-suc fields place Players) refl in
     longer ∙ ap (λ front. front ++ field_text rules (get_or fields place Players)) before
-        ∙ append_assoc initial (flat_map (field_text rules) (take place fields)) (field_text rules (get_or fields place Players))
+    ∙ append_assoc initial (flat_map (field_text rules) (take place fields)) (field_text rules (get_or fields place Players))
     ∙ ap (λ end. initial ++ end) (ap (λ end. flat_map (field_text rules) (take place fields) ++ end)
     (sym (append-nil (field_text rules (get_or fields place Players))))
     ∙ sym (flat_map-append (field_text rules) (take place fields) (get_or fields place Players ∷ [])) ∙ ap (flat_map (field_text rules)) (sym taken))

@@ -1,6 +1,6 @@
 -- The text that is written spells the game that is asked for.
-use Rattle.std.proofs.Common.{◌≡◌, ℕ, zero, suc, ◌<◌, ◌≤◌, Bool, true, false, cond, length, List, [], ◌∷◌, ◌++◌, Option, Some, None, get_or,
-  refl, ap, sym, ◌∙◌, inl, inr, arith, nat_lt, ◌==◌, ◌||◌}
+use Rattle.std.proofs.Common.{◌≡◌, ℕ, zero, suc, ◌<◌, ◌≤◌, Bool, true, false, cond, length, List, [], ◌∷◌, ◌++◌, Option, Some, None, get_or}
+use Rattle.std.proofs.Common.{refl, ap, sym, ◌∙◌, inl, inr, arith, nat_lt, ◌==◌, ◌||◌}
 use Rattle.std.specs.Prelude.{nat_le, flat_map}
 use Rattle.std.specs.List.{list_any}
 use Rattle.std.proofs.lemmas.Bool.{cases_Bool, or_parts, ltb-false, eqb-false, le-ltb}
@@ -35,10 +35,10 @@ pub fine : (settings : Settings) (program : List ℕ) → fault_of settings prog
 fine settings program none =
     let range = cond (has_shared (masks_of settings)) (Some Twice) None in
     let first = passed (length program == 0) Missing
-        (cond (nat_lt most_program (length program) || list_any (is_outside settings) fields || has_stray settings) (Some Range)
-        (cond (has_shared (masks_of settings)) (Some Twice) None)) none in
+    (cond (nat_lt most_program (length program) || list_any (is_outside settings) fields || has_stray settings) (Some Range)
+    (cond (has_shared (masks_of settings)) (Some Twice) None)) none in
     let second = passed (nat_lt most_program (length program) || list_any (is_outside settings) fields || has_stray settings) Range
-        (cond (has_shared (masks_of settings)) (Some Twice) None) first.1 in
+    (cond (has_shared (masks_of settings)) (Some Twice) None) first.1 in
     let parts = or_parts (nat_lt most_program (length program) || list_any (is_outside settings) fields) (has_stray settings) second.0 in
     let both = or_parts (nat_lt most_program (length program)) (list_any (is_outside settings) fields) parts.0 in
     record {
@@ -71,9 +71,10 @@ within : (settings : Settings) → list_any (is_outside settings) fields ≡ fal
 within settings none field =
     let number = rule_of field (rules_of settings []) in
     let parts = or_parts (nat_lt (rule_of field (rules_of settings [])) (least_of field))
-        (nat_lt (greatest_of field) (rule_of field (rules_of settings []))) (each_inside (is_outside settings) none field) in
-    (ltb-false (rule_of field (rules_of settings [])) (least_of field) parts.0,
-        ltb-false (greatest_of field) (rule_of field (rules_of settings [])) parts.1)
+    (nat_lt (greatest_of field) (rule_of field (rules_of settings []))) (each_inside (is_outside settings) none field) in (
+      ltb-false (rule_of field (rules_of settings [])) (least_of field) parts.0,
+      ltb-false (greatest_of field) (rule_of field (rules_of settings [])) parts.1,
+    )
 
 -- ---- what the lines give
 
@@ -127,9 +128,9 @@ game_spelled settings program text code none is written =
     let told = flat_map (field_items (rules_of settings [])) fields in
     let block : IsBlock text (flat_map (field_items (rules_of settings [])) fields ++ written.items) =
     rw is (block_both (fields_text (rules_of settings [])) code (flat_map (field_items (rules_of settings [])) fields) written.items
-        (fields_say (rules_of settings []) fields lies) written.block) in
+    (fields_say (rules_of settings []) fields lies) written.block) in
     let numbers : (field : Field) → numbers_for field (flat_map (field_items (rules_of settings [])) fields ++ written.items)
-        ≡ numbers_for field (flat_map (field_items (rules_of settings [])) fields) =
+    ≡ numbers_for field (flat_map (field_items (rules_of settings [])) fields) =
     λ field. flat_map-append (number_in field) (flat_map (field_items (rules_of settings [])) fields) written.items
     ∙ ap (λ end. numbers_for field (flat_map (field_items (rules_of settings [])) fields) ++ end) (written.numberless field)
     ∙ append-nil (numbers_for field (flat_map (field_items (rules_of settings [])) fields)) in
@@ -141,8 +142,10 @@ game_spelled settings program text code none is written =
       record {
         once = λ field there. inl (numbers field ∙ told_once (rules_of settings []) two field there
             ∙ ap (λ number. number ∷ []) (same_rule settings program field));
-        nowhere = λ field beyond. (numbers field ∙ told_nowhere (rules_of settings []) two field beyond,
-            sym (same_rule settings program field) ∙ absent_rule settings field two beyond);
+        nowhere = λ field beyond. (
+          numbers field ∙ told_nowhere (rules_of settings []) two field beyond,
+          sym (same_rule settings program field) ∙ absent_rule settings field two beyond,
+        );
         masks = refl;
         program = sym bytes;
         some_code = omega (arith, good.some);

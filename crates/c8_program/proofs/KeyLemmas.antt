@@ -1,13 +1,13 @@
 -- Key sets, key by key.
-use Rattle.std.proofs.Common.{◌≡◌, ℕ, zero, suc, ◌+◌, ◌*◌, ◌/◌, ◌%◌, ◌^◌, ◌<◌, ◌≤◌, ◌⊎◌, Bool, true, false, length, List, Option, Some,
-  None, refl, ap, sym, ◌∙◌, inl, inr, arith, nat_lt, bit_and, bit_or}
+use Rattle.std.proofs.Common.{◌≡◌, ℕ, zero, suc, ◌+◌, ◌*◌, ◌/◌, ◌%◌, ◌^◌, ◌<◌, ◌≤◌, ◌⊎◌, Bool, true, false, length, List, Option, Some}
+use Rattle.std.proofs.Common.{None, refl, ap, sym, ◌∙◌, inl, inr, arith, nat_lt, bit_and, bit_or}
 use Rattle.std.specs.Prelude.{◌↔◌, slice_index, IfSome, ◌||◌}
 use Rattle.std.specs.Int.{bit_at, w16}
 use Rattle.std.proofs.lemmas.Bool.{cases_Bool, cases_eq, cases_lt, lt-ltb, ltb-true}
 use Rattle.std.proofs.lemmas.List.{get_or_past}
 use Rattle.std.proofs.lemmas.Nat.{or_of_16}
-use Rattle.std.proofs.lemmas.Nat.Bits.{bit_at_and, bit_at_or, bit_at-lt, bit_at-zero, bit_at-suc, bit_at_lowest, bit_at_not,
-  bit_at_set_same, bit_at_set_other}
+use Rattle.std.proofs.lemmas.Nat.Bits.{bit_at_and, bit_at_or, bit_at-lt, bit_at-zero, bit_at-suc, bit_at_lowest, bit_at_not}
+use Rattle.std.proofs.lemmas.Nat.Bits.{bit_at_set_same, bit_at_set_other}
 use Rattle.hex.specs.Hex.{hex_digit_value}
 use Rattle.c8_game.specs.Rules.{HasKey}
 use Rattle.c8_program.specs.Asked.{usual_keys, given_or, given_at, AreKeySets, later_mask, keys_of_others, masks_of}
@@ -51,7 +51,7 @@ named_then digits count keys digit key named names small has =
       | inl same ↦ rw same (bit_at_set_same w16 keys digit small)
       | inr other ↦ elim (cases_lt has.place count) [
         | inl within ↦ bit_at_set_other w16 keys digit small key other
-        ∙ (named key).1 (record { place = has.place; within = within; names = has.names })
+            ∙ (named key).1 (record { place = has.place; within = within; names = has.names })
         | inr past ↦
             let here : has.place ≡ count = omega (arith, has.within) in
             let is : Some key ≡ Some digit = sym has.names ∙ ap (λ place. hex_digit_value (slice_index digits place)) here ∙ names in
@@ -75,8 +75,10 @@ some_bit (suc fuel) number few some =
     ]
 
 in_both : (one other key : ℕ) → HasKey (bit_and one other) key → HasKey one key × HasKey other key
-in_both one other key has = (omega (arith, bit_at_and one other key, bit_at-lt one key, bit_at-lt other key),
-    omega (arith, bit_at_and one other key, bit_at-lt one key, bit_at-lt other key))
+in_both one other key has = (
+  omega (arith, bit_at_and one other key, bit_at-lt one key, bit_at-lt other key),
+  omega (arith, bit_at_and one other key, bit_at-lt one key, bit_at-lt other key),
+)
 
 from_both : (one other key : ℕ) → HasKey one key → HasKey other key → do_meet one other ≡ true
 from_both one other key first second =
@@ -90,8 +92,8 @@ shared_at : (masks : List ℕ) (one other : ℕ) → one < other → do_meet (sl
 shared_at masks one other apart meet =
     let both = bit_and (slice_index masks one) (slice_index masks other) in
     let some = some_bit (bit_and (slice_index masks one) (slice_index masks other))
-        (bit_and (slice_index masks one) (slice_index masks other)) (omega arith)
-        (ltb-true 0 (bit_and (slice_index masks one) (slice_index masks other)) meet) in
+    (bit_and (slice_index masks one) (slice_index masks other)) (omega arith)
+    (ltb-true 0 (bit_and (slice_index masks one) (slice_index masks other)) meet) in
     let has = in_both (slice_index masks one) (slice_index masks other) some.0 some.1 in
     record { one = one; other = other; key = some.0; apart = apart; first = has.0; second = has.1 }
 
@@ -126,8 +128,14 @@ any_pair false false false true e f some = refl
 any_pair false false false false true f some = refl
 any_pair false false false false false true some = refl
 any_pair false false false false false false some =
-    elim some [ inl a ↦ a | inr (inl b) ↦ b | inr (inr (inl c)) ↦ c | inr (inr (inr (inl d))) ↦ d | inr (inr (inr (inr (inl e)))) ↦ e
-    | inr (inr (inr (inr (inr f)))) ↦ f ]
+    elim some [
+      | inl a ↦ a
+      | inr (inl b) ↦ b
+      | inr (inr (inl c)) ↦ c
+      | inr (inr (inr (inl d))) ↦ d
+      | inr (inr (inr (inr (inl e)))) ↦ e
+      | inr (inr (inr (inr (inr f)))) ↦ f
+    ]
 
 pub shared_pair : (masks : List ℕ) (one other key : ℕ) → length masks ≡ 4 → one < other → HasKey (slice_index masks one) key
     → HasKey (slice_index masks other) key
@@ -196,8 +204,8 @@ key_kept settings small none key within =
     elim (cases_lt (bit_at (keys_of_others settings) key) 1) [
       | inl free ↦ (0, rw none (bit_at_not w16 (keys_of_others settings) key (others_small settings small) within ∙ omega arith))
       | inr taken ↦ elim (in_either (later_mask settings 1) (bit_or (later_mask settings 2) (later_mask settings 3)) key
-      (omega (arith, bit_at-lt (keys_of_others settings) key))) [
-        | inl two ↦ (1, two)
-        | inr more ↦ elim (in_either (later_mask settings 2) (later_mask settings 3) key more) [ inl three ↦ (2, three) | inr four ↦ (3, four) ]
-      ]
+          (omega (arith, bit_at-lt (keys_of_others settings) key))) [
+            | inl two ↦ (1, two)
+            | inr more ↦ elim (in_either (later_mask settings 2) (later_mask settings 3) key more) [ inl three ↦ (2, three) | inr four ↦ (3, four) ]
+          ]
     ]

@@ -1,6 +1,6 @@
 -- Values that are written say their numbers, and have no byte that ends a line.
-use Rattle.std.proofs.Common.{◌≡◌, ℕ, zero, suc, ◌+◌, ◌-◌, ◌*◌, ◌/◌, ◌%◌, ◌^◌, ◌<◌, ◌≤◌, Bool, true, false, cond, length, List, [], ◌∷◌,
-  ◌++◌, refl, ◌∙◌, inl, inr, arith, nat_lt, ◌&&◌, length-append}
+use Rattle.std.proofs.Common.{◌≡◌, ℕ, zero, suc, ◌+◌, ◌-◌, ◌*◌, ◌/◌, ◌%◌, ◌^◌, ◌<◌, ◌≤◌, Bool, true, false, cond, length, List, [], ◌∷◌}
+use Rattle.std.proofs.Common.{◌++◌, refl, ◌∙◌, inl, inr, arith, nat_lt, ◌&&◌, length-append}
 use Rattle.std.specs.Prelude.{nat_le, slice_index, decimal}
 use Rattle.std.specs.Char.{is_ascii_digit}
 use Rattle.std.specs.Int.{to_be_bytes, w16}
@@ -58,7 +58,7 @@ decimal_fine number small =
     let few = length-decimal-le 20 number (omega arith) (omega arith) small in (
       and_from (nat_lt 0 (length (decimal number)) && nat_le (length (decimal number)) 20) (list_all is_ascii_digit (decimal number))
           (and_from (nat_lt 0 (length (decimal number))) (nat_le (length (decimal number)) 20) (lt-ltb 0 (length (decimal number)) some)
-              (le-leb (length (decimal number)) 20 few))
+          (le-leb (length (decimal number)) 20 few))
           read.0,
       read.1,
     )

@@ -1,6 +1,6 @@
 -- Which fault refuses a game that is asked for.
-use Rattle.std.specs.Prelude.{ℕ, ◌<◌, ◌==◌, ◌&&◌, ◌||◌, Bool, nat_lt, List, [], length, Option, Some, None, is_some, bit_and, slice_index,
-  if◌then◌else◌}
+use Rattle.std.specs.Prelude.{ℕ, ◌<◌, ◌==◌, ◌&&◌, ◌||◌, Bool, nat_lt, List, [], length, Option, Some, None, is_some, bit_and, slice_index}
+use Rattle.std.specs.Prelude.{if◌then◌else◌}
 use Rattle.std.specs.List.{list_any}
 use Rattle.c8_game.specs.Fields.{fields, least_of, greatest_of}
 use Rattle.c8_game.specs.GameText.{rule_of}
@@ -28,9 +28,9 @@ do_meet one other = nat_lt 0 (bit_and one other)
 abbrev pub has_shared : List ℕ → Bool
 has_shared masks =
     do_meet (slice_index masks 0) (slice_index masks 1) || do_meet (slice_index masks 0) (slice_index masks 2) || do_meet
-        (slice_index masks 0) (slice_index masks 3)
+    (slice_index masks 0) (slice_index masks 3)
     || do_meet (slice_index masks 1) (slice_index masks 2) || do_meet (slice_index masks 1) (slice_index masks 3) || do_meet
-        (slice_index masks 2) (slice_index masks 3)
+    (slice_index masks 2) (slice_index masks 3)
 
 -- a key that the players at two places have
 pub record IsShared (masks : List ℕ) : Type 0 where

@@ -1,6 +1,6 @@
 -- How far a replay has come, and what it gives.
-use Rattle.std.proofs.Common.{◌≡◌, ◌<◌, ◌≤◌, ◌*◌, ◌-◌, min, ℕ, zero, suc, ◌+◌, List, [], ◌∷◌, ◌++◌, length, take, Some, Result, Ok, Err,
-  false, refl, sym, ap, subst, ◌∙◌, arith}
+use Rattle.std.proofs.Common.{◌≡◌, ◌<◌, ◌≤◌, ◌*◌, ◌-◌, min, ℕ, zero, suc, ◌+◌, List, [], ◌∷◌, ◌++◌, length, take, Some, Result, Ok, Err}
+use Rattle.std.proofs.Common.{false, refl, sym, ap, subst, ◌∙◌, arith}
 use Rattle.std.specs.List.{slice_get, All}
 use Rattle.std.proofs.Math.Seq.{take-length}
 use Rattle.std.proofs.lemmas.List.{map-append, length-map, length-take-le, take_more}
@@ -22,8 +22,8 @@ use Rattle.c8_check.specs.Checks.{ChecksValue, no_checks, with_check, checks_of}
 use Rattle.c8_record.specs.Body.{Spells, record_of, records_of}
 use Rattle.c8_record.specs.Allowed.{Past, past_of, IsAllowedAfter, IsAllowed, IsJournal}
 use Rattle.c8_record.specs.checked.Taken.{epoch_after, IsOfOtherGame, IsOfOtherPlayer, IsUnfitBody, IsTaken, IsReadTo, AreNext}
-use Rattle.c8_record.specs.Replay.{AreJournalBodies, IsRefusal, is_failed, taken_before, told_by, AreSaid, IsReplayed, IsReplayedFromDisk,
-  LooksAt, ReplayRun}
+use Rattle.c8_record.specs.Replay.{AreJournalBodies, IsRefusal, is_failed, taken_before, told_by, AreSaid, IsReplayed, IsReplayedFromDisk}
+use Rattle.c8_record.specs.Replay.{LooksAt, ReplayRun}
 use Rattle.c8_record.specs.checked.JournalLaws.{journal_none, journal_more, checks_more, epoch_more, known_more, of_game}
 
 one_holds : {X : Type 0} (P : X → Type 0) (x : X) → P x → All P (x ∷ [])
@@ -34,9 +34,14 @@ module _ (rules : Rules) (me room : ℕ) (bodies : List (List ℕ)) where
   pub read_none : (now : KnownValue) (checks : ChecksValue) → now ≡ known_of rules me [] → checks ≡ no_checks
       → IsReadTo rules me room bodies 0 now checks 0
   unfolding epochs known_of checks_of
-  read_none now checks is new = record { within = omega arith; whose = ap (λ (k : KnownValue). k.me) is;
-      journal = record { spelled = λ k d within. absurd (omega (arith, within)); journal = journal_none rules me room }; known = is;
-      saved = new; epoch = refl }
+  read_none now checks is new = record {
+    within = omega arith;
+    whose = ap (λ (k : KnownValue). k.me) is;
+    journal = record { spelled = λ k d within. absurd (omega (arith, within)); journal = journal_none rules me room };
+    known = is;
+    saved = new;
+    epoch = refl;
+  }
 
   -- what the records before say, as the code has it
   same_past : (n : ℕ) (now : KnownValue) (checks : ChecksValue) (last : ℕ) → IsReadTo rules me room bodies n now checks last
@@ -64,12 +69,12 @@ module _ (rules : Rules) (me room : ℕ) (bodies : List (List ℕ)) where
       let before : List Record = records_of (take n bodies) in
       let r : Record = record_of body in
       let allowed : IsAllowed rules me room before r =
-          subst (λ (past : Past). IsAllowedAfter rules room past r) (same_past n old checks last read) taken.allowed in
+      subst (λ (past : Past). IsAllowedAfter rules room past r) (same_past n old checks last read) taken.allowed in
       let next = next_body n body is in
       let records : records_of (take (n + 1) bodies) ≡ before ++ r ∷ [] = ap records_of next ∙ map-append record_of (take n bodies) (body ∷ []) in
       let now : new ≡ known_of rules me (records_of (take (n + 1) bodies)) =
       taken.known ∙ ap (λ (k : KnownValue). with_record k r) read.known ∙ sym (known_more rules me room before r allowed)
-          ∙ ap (known_of rules me) (sym records) in
+      ∙ ap (known_of rules me) (sym records) in
       record {
         within = omega (arith, slice_get_within bodies n body is);
         whose = ap (λ (k : KnownValue). k.me) now;
@@ -109,9 +114,17 @@ module _ (rules : Rules) (me room : ℕ) (bodies : List (List ℕ)) where
 
   other_player : (body : List ℕ) (r : Record) → slice_get bodies 0 ≡ Some body → Spells body r → IsOfOtherPlayer rules me room r
       → IsRefusal rules me room bodies WrongPlayer
-  other_player body (Head player form id named) first spells other =
-      (player, (body, form, first, subst (λ (one : List ℕ). Spells body (Head player form one room)) other.0
-          (subst (λ (one : ℕ). Spells body (Head player form id one)) other.1 spells)), other.2)
+  other_player body (Head player form id named) first spells other = (
+    player,
+    (
+      body,
+      form,
+      first,
+      subst (λ (one : List ℕ). Spells body (Head player form one room)) other.0
+          (subst (λ (one : ℕ). Spells body (Head player form id one)) other.1 spells),
+    ),
+    other.2,
+  )
   other_player body (Epoch player number form) first spells other = absurd other
   other_player body (Own player start word) first spells other = absurd other
   other_player body (Got player start words) first spells other = absurd other
@@ -124,9 +137,10 @@ module _ (rules : Rules) (me room : ℕ) (bodies : List (List ℕ)) where
   -- what is known and noted, where the bodies before are these
   said : (n : ℕ) (now : KnownValue) (checks : ChecksValue) (last : ℕ) → IsReadTo rules me room bodies n now checks last
       → (some : List (List ℕ)) → take n bodies ≡ some → AreSaid rules me some now checks
-  said n now checks last read some is =
-      (read.known ∙ ap (λ (before : List (List ℕ)). known_of rules me (records_of before)) is,
-          read.saved ∙ ap (λ (before : List (List ℕ)). checks_of (records_of before)) is)
+  said n now checks last read some is = (
+    read.known ∙ ap (λ (before : List (List ℕ)). known_of rules me (records_of before)) is,
+    read.saved ∙ ap (λ (before : List (List ℕ)). checks_of (records_of before)) is,
+  )
 
   -- why a body is refused after those before it
   pub read_bad : (n : ℕ) (now : KnownValue) (checks : ChecksValue) (last : ℕ) (body : List ℕ) (error : ReplayError)
@@ -139,9 +153,10 @@ module _ (rules : Rules) (me room : ℕ) (bodies : List (List ℕ)) where
       (other_game body unfit.1 first unfit.2 unfit.3, said n now checks last read [] none)
   read_bad n now checks last body WrongPlayer read is unfit =
       let none : take n bodies ≡ [] = ap (λ (m : ℕ). take m bodies) unfit.0 in
-      let first : slice_get bodies 0 ≡ Some body = subst (λ (m : ℕ). slice_get bodies m ≡ Some body) unfit.0 is in
-      (other_player body unfit.1 first unfit.2 (subst (λ (q : ℕ). IsOfOtherPlayer rules q room unfit.1) read.whose unfit.3),
-          said n now checks last read [] none)
+      let first : slice_get bodies 0 ≡ Some body = subst (λ (m : ℕ). slice_get bodies m ≡ Some body) unfit.0 is in (
+        other_player body unfit.1 first unfit.2 (subst (λ (q : ℕ). IsOfOtherPlayer rules q room unfit.1) read.whose unfit.3),
+        said n now checks last read [] none,
+      )
   read_bad n now checks last body (BadRecord m) read is unfit =
       let at : m ≡ n = unfit.0 in
       subst (λ (k : ℕ). IsReplayed rules me room bodies (Err (BadRecord k)) now checks) (sym at) (
@@ -152,7 +167,7 @@ module _ (rules : Rules) (me room : ℕ) (bodies : List (List ℕ)) where
             bad = λ b r there spells may.
                 let same : b ≡ body = cc in
                 unfit.2 r (subst (λ (one : List ℕ). Spells one r) same spells)
-                    (subst (λ (past : Past). IsAllowedAfter rules room past r) (sym (same_past n now checks last read)) may);
+                (subst (λ (past : Past). IsAllowedAfter rules room past r) (sym (same_past n now checks last read)) may);
           },
           λ player id named begins none.
               let b = begins.0 in

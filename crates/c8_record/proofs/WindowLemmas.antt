@@ -49,10 +49,10 @@ within_from rules me room (r ∷ more) journal range from to is within =
     let known = known_more rules me room journal r may in
     let still = journal_grows rules me room journal (r ∷ []) range from to (journal_begins rules me room (journal ++ r ∷ []) more all) in
     let rises = subst (λ (k : KnownValue). confirmed (known_of rules me journal) ≤ confirmed k) known
-        (confirmed_rises (known_of rules me journal) (known_of rules me (journal ++ r ∷ [])) still) in
+    (confirmed_rises (known_of rules me journal) (known_of rules me (journal ++ r ∷ [])) still) in
     let one = subst (IsWithin rules) (sym known) (one_within rules room (past_of rules me journal) r may within rises) in
     subst (λ (now : List Record). IsWithin rules (known_of rules me now)) split
-        (within_from rules me room more (journal ++ r ∷ []) range from to all one)
+    (within_from rules me room more (journal ++ r ∷ []) range from to all one)
 
 -- nothing was ticked at first
 nothing_ticked : (rules : Rules) (me : ℕ) → (known_of rules me []).ticks ≡ 0

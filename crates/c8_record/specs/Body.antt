@@ -1,6 +1,6 @@
 -- The spelling of a record in the 143 bytes of a slot's body.
-use Rattle.std.specs.Prelude.{ℕ, ◌-◌, ◌*◌, ◌/◌, ◌%◌, ◌^◌, ◌≡◌, ◌<◌, ◌≤◌, ◌==◌, ◌⊎◌, if◌then◌else◌, List, [], ◌∷◌, ◌++◌, length, take, drop,
-  replicate, slice_index, map}
+use Rattle.std.specs.Prelude.{ℕ, ◌-◌, ◌*◌, ◌/◌, ◌%◌, ◌^◌, ◌≡◌, ◌<◌, ◌≤◌, ◌==◌, ◌⊎◌, if◌then◌else◌, List, [], ◌∷◌, ◌++◌, length, take, drop}
+use Rattle.std.specs.Prelude.{replicate, slice_index, map}
 use Rattle.byteorder.specs.Endian.{big_bytes}
 use Rattle.c8_wire.specs.Packet.{AreBytes, AreWords}
 use Rattle.c8_wire.specs.Reading.{number_at, words_of}
@@ -44,7 +44,7 @@ fields_of (Check player frames digest) = record { kind = 9; player = player; num
 abbrev pub field_bytes : Fields → List ℕ
 field_bytes f =
     f.kind ∷ f.player ∷ big_bytes 4 f.number ++ big_bytes 4 f.start ++ big_bytes 2 (length f.run / 2) ++ f.run ++ replicate
-        (run_room - length f.run) 0
+    (run_room - length f.run) 0
 
 unfoldable pub body_of : Record → List ℕ
 body_of r = field_bytes (fields_of r)

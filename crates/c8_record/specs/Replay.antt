@@ -55,7 +55,7 @@ AreSaid rules me bodies known checks = (known ≡ known_of rules me (records_of 
 abbrev pub IsReplayed : Rules → ℕ → ℕ → List (List ℕ) → Result ℕ ReplayError → KnownValue → ChecksValue → Type 0
 IsReplayed rules me room bodies (Ok last) known checks =
     AreJournalBodies rules me room bodies × (known ≡ known_of rules me (records_of bodies)) × (last ≡ epoch (records_of bodies))
-        × (checks ≡ checks_of (records_of bodies))
+    × (checks ≡ checks_of (records_of bodies))
 IsReplayed rules me room bodies (Err error) known checks =
     IsRefusal rules me room bodies error × AreSaid rules me (take (taken_before error) bodies) known checks
 

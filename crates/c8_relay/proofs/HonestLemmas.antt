@@ -1,6 +1,6 @@
 -- What was sent stays due, as more is received.
-use Rattle.std.proofs.Common.{◌≡◌, ◌≤◌, ◌⊎◌, ◌+◌, ℕ, List, [], ◌∷◌, ◌++◌, length, refl, arith, subst, rules, inl, inr, length-append,
-  add_assoc, sym, ap, ◌∙◌}
+use Rattle.std.proofs.Common.{◌≡◌, ◌≤◌, ◌⊎◌, ◌+◌, ℕ, List, [], ◌∷◌, ◌++◌, length, refl, arith, subst, rules, inl, inr, length-append}
+use Rattle.std.proofs.Common.{add_assoc, sym, ap, ◌∙◌}
 use Rattle.std.specs.List.{All, Contains}
 use Rattle.std.proofs.lemmas.List.Elements.{All-append, Contains-append_left, Contains-append_right}
 use Rattle.c8_relay.specs.Ether.{MaySend}
@@ -78,7 +78,7 @@ module _ (now : ℕ) (from : Address) (packet : List ℕ) (old new : Standing) (
   after_one after to other went due short =
       let Q : List (Address × List ℕ) → Type 0 = λ xs. IsHonest new (received ++ (from, packet) ∷ []) xs in
       let P : List ℕ → Type 0 = λ k. IsHonest (record { key = k; members = new.members }) (received ++ (from, packet) ∷ [])
-          (sent ++ (to, other) ∷ []) in
+      (sent ++ (to, other) ∷ []) in
       elim went [
         | inl same ↦ subst Q (sym same) after_nothing
         | inr one ↦ subst Q (sym one) (subst P (sym key) (record {
@@ -117,7 +117,7 @@ module _ (now : ℕ) (from : Address) (packet : List ℕ) (old new : Standing) (
       → IsHonest new (received ++ (from, packet) ∷ []) after
   after_answer after answer join went is short =
       after_one after from answer went (inr (packet, last received (from, packet), (join, is, short)))
-          (let size = is.size in omega (arith, size, short))
+      (let size = is.size in omega (arith, size, short))
 
 -- nothing was received and nothing sent
 pub at_first : (key : List ℕ) → IsHonest (record { key = key; members = [] }) [] []

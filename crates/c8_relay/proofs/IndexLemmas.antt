@@ -33,7 +33,7 @@ module _ (members after : List (Sender × Seated)) (places left : List (Place ×
               let same : sender ≡ q = one_sender sender q (one_value _ _ (sym other ∙ found)) (ap (λ (p : Place). p.lane) place) in
               absurd (both_ways _ apart ((sender_decides sender q).1 same)))
           | inr other ↦ gone (place_of q s) ∙ cond-false (same_place (place_of sender seated) (place_of q s)) None
-          (lookup (same_place (place_of q s)) places) other ∙ found
+              (lookup (same_place (place_of q s)) places) other ∙ found
         ])
   ]
 
@@ -47,15 +47,15 @@ module _ (members after : List (Sender × Seated)) (places left : List (Place ×
         let who : sender ≡ q = (sender_decides sender q).0 same in
         let P : Sender × Seated → Type 0 = λ p. lookup (same_place (place_of p.0 p.1)) left ≡ Some p.0.address in
         let here : P (sender, seated) = put (place_of sender seated)
-            ∙ cond-true (same_place (place_of sender seated) (place_of sender seated)) (Some sender.address) _
-            ((place_decides (place_of sender seated) (place_of sender seated)).1 refl) in
+        ∙ cond-true (same_place (place_of sender seated) (place_of sender seated)) (Some sender.address) _
+        ((place_decides (place_of sender seated) (place_of sender seated)).1 refl) in
         subst P (ap₂ (λ (a : Sender) (b : Seated). (a, b)) who is) here)
     | inr apart ↦ (
         let was : seat_of members q ≡ Some s = sym (change q ∙ cond-false (same_sender sender q) (Some seated) (seat_of members q) apart) ∙ at in
         elim (cases_Bool (same_place (place_of sender seated) (place_of q s))) [
           | inl one ↦ absurd (nothing q.address (free q s was (sym ((place_decides (place_of sender seated) (place_of q s)).0 one))))
           | inr other ↦ put (place_of q s) ∙ cond-false (same_place (place_of sender seated) (place_of q s)) (Some sender.address)
-          (lookup (same_place (place_of q s)) places) other ∙ indexed q s was
+              (lookup (same_place (place_of q s)) places) other ∙ indexed q s was
         ])
   ]
 

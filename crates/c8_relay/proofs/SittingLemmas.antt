@@ -1,6 +1,6 @@
 -- Who sits where, once an address took a place.
-use Rattle.std.proofs.Common.{◌≡◌, ℕ, Bool, true, false, List, Option, Some, None, Result, Ok, Err, IfOk, IfErr, IfSome, MatchBool, refl,
-  sym, ap, ◌∙◌, subst, inl, inr}
+use Rattle.std.proofs.Common.{◌≡◌, ℕ, Bool, true, false, List, Option, Some, None, Result, Ok, Err, IfOk, IfErr, IfSome, MatchBool, refl}
+use Rattle.std.proofs.Common.{sym, ap, ◌∙◌, subst, inl, inr}
 use Rattle.std.proofs.lemmas.Bool.{cases_Bool, cond-true, cond-false, false_from_ne_true}
 use Rattle.c8_relay.specs.declared.address.Address.{Address}
 use Rattle.c8_relay.specs.declared.address.Place.{Place}
@@ -49,7 +49,7 @@ module _ (address : Address) (place : Place) (seated : Seated) (old vacated left
       → seat_of old other ≡ Some s → (place_of other s ≡ place → ⊥) → seat_of new other ≡ Some s
   others_stay done put other s far at elsewhere =
       let no : same_sender (sender_at address place) other ≡ false =
-          false_from_ne_true _ (λ t. far (sym (ap (λ (a : Sender). a.address) ((sender_decides (sender_at address place) other).0 t)))) in
+      false_from_ne_true _ (λ t. far (sym (ap (λ (a : Sender). a.address) ((sender_decides (sender_at address place) other).0 t)))) in
       apart done put other no ∙ (vacates other s).1 at elsewhere
 
   pub sits_only : seated.name ≡ place.name → seated.seat ≡ place.seat → (done : Bool)

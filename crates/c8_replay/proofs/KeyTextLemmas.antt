@@ -1,6 +1,6 @@
 -- Which rows the lines of a text of keys spell.
-use Rattle.std.proofs.Common.{◌≡◌, ◌≢◌, ℕ, zero, suc, ◌+◌, ◌-◌, ◌/◌, ◌%◌, ◌^◌, ◌≤◌, ◌<◌, ◌==◌, true, false, ◌&&◌, None, Some, Ok, List, [],
-  ◌∷◌, ◌++◌, length, map, take, slice_index, if◌then◌else◌, refl, ap, sym, subst, ◌∙◌, arith}
+use Rattle.std.proofs.Common.{◌≡◌, ◌≢◌, ℕ, zero, suc, ◌+◌, ◌-◌, ◌/◌, ◌%◌, ◌^◌, ◌≤◌, ◌<◌, ◌==◌, true, false, ◌&&◌, None, Some, Ok, List, []}
+use Rattle.std.proofs.Common.{◌∷◌, ◌++◌, length, map, take, slice_index, if◌then◌else◌, refl, ap, sym, subst, ◌∙◌, arith}
 use Rattle.std.specs.Prelude.{is_ok}
 use Rattle.std.proofs.lemmas.Bool.{lt-leb, ne_eqb}
 use Rattle.std.proofs.lemmas.List.{append_assoc, append-nil, length-append}
@@ -58,7 +58,7 @@ plain_at d within = ne_eqb (slice_index lower_digits d) 10 (not_feed (slice_inde
 all_four : (a b c d : ℕ) → IsPlain a → IsPlain b → IsPlain c → IsPlain d → All IsPlain (a ∷ b ∷ c ∷ d ∷ [])
 all_four a b c d first second third fourth =
     All-cons IsPlain a (b ∷ c ∷ d ∷ []) first
-        (All-cons IsPlain b (c ∷ d ∷ []) second (All-cons IsPlain c (d ∷ []) third (All-cons IsPlain d [] fourth (All-nil IsPlain))))
+    (All-cons IsPlain b (c ∷ d ∷ []) second (All-cons IsPlain c (d ∷ []) third (All-cons IsPlain d [] fourth (All-nil IsPlain))))
 
 two_bytes : (high low : ℕ) → high < 256 → low < 256 → IsBytes (high ∷ low ∷ [])
 two_bytes high low first second zero = first
@@ -84,9 +84,9 @@ digits_of n fits =
       number = ap (λ r. from_be_bytes w16 (result_unwrap_or r [])) back ∙ from_be_bytes-to_be_bytes_2 n fits;
       plain =
           all_four (slice_index lower_digits (high / 16)) (slice_index lower_digits (high % 16)) (slice_index lower_digits (low / 16))
-              (slice_index lower_digits (low % 16))
+          (slice_index lower_digits (low % 16))
           (plain_at (high / 16) (omega arith)) (plain_at (high % 16) (omega arith)) (plain_at (low / 16) (omega arith))
-              (plain_at (low % 16) (omega arith));
+          (plain_at (low % 16) (omega arith));
       end = not_return (slice_index lower_digits (low % 16)) (low % 16) (IsDigits-lower_digits (low % 16) (omega arith));
     }
 
@@ -143,7 +143,7 @@ of_three a b c fits_a fits_b fits_c =
     let is : line_of 3 (four a b c 0) ≡ line = λ i. x.text_is i ++ 32 ∷ (y.text_is i ++ 32 ∷ z.text_is i) in
     let good : is_key_line 3 line ≡ true =
     ap (λ p. p && (is_keys_text ys && (is_keys_text zs && true))) x.spelled ∙ ap (λ p. p && (is_keys_text zs && true)) y.spelled
-        ∙ ap (λ p. p && true) z.spelled in
+    ∙ ap (λ p. p && true) z.spelled in
     let row_is : row_of 3 line ≡ four a b c 0 = λ i. four (x.number i) (y.number i) (z.number i) 0 in
     subst (SpellsAs 3 (four a b c 0)) (sym is) (record {
       good = good;
@@ -168,7 +168,7 @@ of_four a b c d fits_a fits_b fits_c fits_d =
     let is : line_of 4 (four a b c d) ≡ line = λ i. x.text_is i ++ 32 ∷ (y.text_is i ++ 32 ∷ (z.text_is i ++ 32 ∷ w.text_is i)) in
     let good : is_key_line 4 line ≡ true =
     ap (λ p. p && (is_keys_text ys && (is_keys_text zs && (is_keys_text ws && true)))) x.spelled
-        ∙ ap (λ p. p && (is_keys_text zs && (is_keys_text ws && true))) y.spelled
+    ∙ ap (λ p. p && (is_keys_text zs && (is_keys_text ws && true))) y.spelled
     ∙ ap (λ p. p && (is_keys_text ws && true)) z.spelled ∙ ap (λ p. p && true) w.spelled in
     let row_is : row_of 4 line ≡ four a b c d = λ i. four (x.number i) (y.number i) (z.number i) (w.number i) in
     subst (SpellsAs 4 (four a b c d)) (sym is) (record {
@@ -177,7 +177,7 @@ of_four a b c d fits_a fits_b fits_c fits_d =
       plain =
           All-append IsPlain xs (32 ∷ (ys ++ 32 ∷ (zs ++ 32 ∷ ws))) x.plain (All-cons IsPlain 32 (ys ++ 32 ∷ (zs ++ 32 ∷ ws)) refl
           (All-append IsPlain ys (32 ∷ (zs ++ 32 ∷ ws)) y.plain
-              (All-cons IsPlain 32 (zs ++ 32 ∷ ws) refl (All-append IsPlain zs (32 ∷ ws) z.plain (All-cons IsPlain 32 ws refl w.plain)))));
+          (All-cons IsPlain 32 (zs ++ 32 ∷ ws) refl (All-append IsPlain zs (32 ∷ ws) z.plain (All-cons IsPlain 32 ws refl w.plain)))));
       whole = unstripped line w.d refl w.end;
     })
 
@@ -220,7 +220,7 @@ first_line line rest plain whole =
     let split : slice_split (λ b. b == 10) ((line ++ 10 ∷ []) ++ rest) ≡ line ∷ slice_split (λ b. b == 10) rest =
     ap (slice_split (λ b. b == 10)) (append_assoc line (10 ∷ []) rest) ∙ slice_split_at (λ b. b == 10) line 10 rest plain refl in
     ap lines_of_parts split ∙ first_part line (slice_split (λ b. b == 10) rest) (omega (arith, length-slice_split (λ b. b == 10) rest))
-        ∙ ap (λ l. l ∷ lines rest) whole
+    ∙ ap (λ l. l ∷ lines rest) whole
 
 lines_are : (players : ℕ) (rows : List Row) → All (SpellsRow players) rows → lines (keys_text players rows) ≡ map (line_of players) rows
 lines_are players [] all = refl
@@ -251,7 +251,7 @@ faultless_after rules before (one ∷ rows) faultless few all =
     let more = faultless_more (key_line_fault rules) before line faultless (good_line rules before line (omega (arith, few)) here.good) in
     subst (AreFaultless (key_line_fault rules)) (append_assoc before (line ∷ []) (map (line_of rules.players) rows))
     (faultless_after rules (before ++ line ∷ []) rows more (omega (arith, few, length-append before (line ∷ [])))
-        (All-tail (SpellsRow rules.players) one rows all))
+    (All-tail (SpellsRow rules.players) one rows all))
 
 pub spell_rows : (rules : Rules) (rows : List Row) → length rows ≤ rules.frames → All (SpellsRow rules.players) rows
     → SpellRows rules (keys_text rules.players rows) rows

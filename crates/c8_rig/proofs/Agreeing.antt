@@ -50,7 +50,7 @@ module _ (law : AgreeInWorlds) (rules : Rules) (log : List NoteValue) (peers : L
       let place : i + 1 - 1 ≡ i = omega arith in
       let state : q.state ≡ peer_of is.world (i + 1) =
       ap (λ (x : PeerValue MemDisk). x.state) (sym (get_or_from_slice_get peers i q q at))
-          ∙ sym (get_or-map (λ (x : PeerValue MemDisk). x.state) peers i q never_opened within)
+      ∙ sym (get_or-map (λ (x : PeerValue MemDisk). x.state) peers i q never_opened within)
       ∙ ap (λ (j : ℕ). slice_index_or (map (λ (x : PeerValue MemDisk). x.state) peers) j never_opened) (sym place)
       ∙ sym (is.peers (i + 1) (player_at i within)) in
       let one = plays i q at in
@@ -64,7 +64,7 @@ module _ (law : AgreeInWorlds) (rules : Rules) (log : List NoteValue) (peers : L
     known_here i one at =
         let a = mapped known_by (slice_get peers i) (known_at one)
         (sym (ap (option_map known_at) at) ∙ sym (slice_get-map known_at standings i) ∙ ap (λ (ks : List KnownValue). slice_get ks i) known
-            ∙ slice_get-map known_by peers i) in
+        ∙ slice_get-map known_by peers i) in
         a.2 ∙ known_there i a.0 a.1
 
     stayed : (i : ℕ) (one : Standing) → slice_get standings i ≡ Some one → HasStayedAt standings i → has_leave (i + 1) (journal 1) ≡ false
@@ -82,10 +82,10 @@ module _ (law : AgreeInWorlds) (rules : Rules) (log : List NoteValue) (peers : L
         let a = known_of rules (i + 1) (journal (i + 1)) in
         let b = known_of rules (j + 1) (journal (j + 1)) in
         let same = law rules 0 is.world none_is_read (i + 1) (j + 1) range (omega arith) reached
-            (player_at i (omega (arith, i_within, as_many))) (player_at j (omega (arith, j_within, as_many)))
+        (player_at i (omega (arith, i_within, as_many))) (player_at j (omega (arith, j_within, as_many)))
         (stayed i one i_at i_stays) (stayed j other j_at j_stays) (both a b) (omega arith) (omega arith) in
         subst (λ (k : KnownValue). AreSameRows k (known_at other)) (sym (known_here i one i_at))
-            (subst (λ (k : KnownValue). AreSameRows a k) (sym (known_here j other j_at)) same.rows)
+        (subst (λ (k : KnownValue). AreSameRows a k) (sym (known_here j other j_at)) same.rows)
 
   pub agreed : (agree : Bool) → HaveAgreedOrNot peers agree → agree ≡ true
   agreed agree told = told.2.1 (all_agreed told.0 told.1)

@@ -108,7 +108,7 @@ pub picked : (said pool : List (List ℕ)) (number : ℕ) (packet : List ℕ) �
     → packet ≡ slice_index_or pool number packet → slice_get said number ≡ Some packet
 picked said pool number packet is within at =
     subst (λ (x : List (List ℕ)). slice_get x number ≡ Some packet) is
-        (slice_get-get_or pool number packet within ∙ ap (λ (x : List ℕ). Some x) (sym at))
+    (slice_get-get_or pool number packet within ∙ ap (λ (x : List ℕ). Some x) (sym at))
 
 -- what is copied to the front of a buffer is there
 pub copied : (bytes front rest : List ℕ) → front ≡ bytes → take (length bytes) (front ++ rest) ≡ bytes

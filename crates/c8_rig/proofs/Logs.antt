@@ -1,7 +1,7 @@
 -- A lawful log is a list of events of a world: note by note, what follows at a peer follows in the world.
 use Rattle.std.specs.Prelude.{slice_set, replicate}
-use Rattle.std.proofs.Common.{◌≡◌, ◌≢◌, ◌<◌, ◌^◌, inl, inr, ℕ, zero, suc, ◌-◌, append-nil, append_assoc, length-set, List, [], ◌∷◌, ◌++◌,
-  length, map, true, false, Some, Ok, refl, sym, ap, subst, ◌∙◌, arith}
+use Rattle.std.proofs.Common.{◌≡◌, ◌≢◌, ◌<◌, ◌^◌, inl, inr, ℕ, zero, suc, ◌-◌, append-nil, append_assoc, length-set, List, [], ◌∷◌, ◌++◌}
+use Rattle.std.proofs.Common.{length, map, true, false, Some, Ok, refl, sym, ap, subst, ◌∙◌, arith}
 use Rattle.std.specs.List.{slice_get}
 use Rattle.std.proofs.lemmas.List.{length-replicate, get_or-set_same, get_or-set_other, get_or-replicate, get_or_past}
 use Rattle.std.proofs.lemmas.Bool.{cases_eq, cases_lt, eq-eqb, ne_eqb, le-leb}
@@ -15,14 +15,14 @@ use Rattle.c8_peer.specs.State as calls
 use Rattle.c8_peer.specs.State.{Mode, Down, Away, State, Call, Reply, Said}
 use Rattle.c8_peer.specs.Steps.{DiskOutcome, Works, Stepped, outcome, when_down, at_mode, step}
 use Rattle.c8_peer.specs.Opening.{NoMemory, found, opened}
-use Rattle.c8_world.specs.World.{World, is_player, start, never_opened, peer_of, Act, Open, Tick, Say, Give, Leave, Decide, player_of,
-  Event, Answer, Happening, said_by as said_in_reply, stepped, call_at_mode, call_at, open_at_mode, open_at, give_to, acted, CanHappen,
-  Chain, IsReached, Check, Show, Hear, Seen, Fresh}
+use Rattle.c8_world.specs.World.{World, is_player, start, never_opened, peer_of, Act, Open, Tick, Say, Give, Leave, Decide, player_of}
+use Rattle.c8_world.specs.World.{Event, Answer, Happening, said_by as said_in_reply, stepped, call_at_mode, call_at, open_at_mode, open_at}
+use Rattle.c8_world.specs.World.{give_to, acted, CanHappen, Chain, IsReached, Check, Show, Hear, Seen, Fresh}
 use Rattle.c8_world.specs.Agreement.{IsPlayer}
 use Rattle.c8_world.specs.Headline.{IsHeadline}
 use Rattle.c8_live.specs.Turns.{SpellsAnswer}
-use Rattle.c8_rig.specs.Log.{NoteValue, said_in, said_by, WasSaid, MayFollow, IsLawful, part_of, IsCalled, IsOpenedAnew, IsAnything,
-  Follows, Leads, AreLed, event_of, AreSpelled, GoesOn, IsWorld, AreMoments}
+use Rattle.c8_rig.specs.Log.{NoteValue, said_in, said_by, WasSaid, MayFollow, IsLawful, part_of, IsCalled, IsOpenedAnew, IsAnything}
+use Rattle.c8_rig.specs.Log.{Follows, Leads, AreLed, event_of, AreSpelled, GoesOn, IsWorld, AreMoments}
 use Rattle.c8_rig.proofs.Silent.{IsNoSaying, step_silent, down_silent, opened_silent}
 
 -- ---- worlds
@@ -49,7 +49,7 @@ peer_at_start rules p =
     elim (cases_lt (p - 1) rules.players) [
       | inl within ↦ get_or-replicate rules.players (p - 1) never_opened never_opened within
       | inr past ↦ get_or_past (replicate rules.players never_opened) (p - 1) never_opened
-      (omega (arith, past, length-replicate rules.players never_opened))
+          (omega (arith, past, length-replicate rules.players never_opened))
     ]
 
 plays_so : (rules : Rules) (p : ℕ) → IsPlayer rules p → is_player rules p ≡ true
@@ -89,15 +89,15 @@ mode_becomes rules w p call on_disk calls.Open size plays is = stepped_becomes r
 mode_becomes rules w p call on_disk Down size plays is =
     let at : step rules p (peer_of w p) call on_disk ≡ record { reply = when_down call; state = peer_of w p } =
     ap (λ (mode : Mode). at_mode (peer_of w p) call
-        (outcome rules (told_of rules p (peer_of w p).journal) (known_of rules p (peer_of w p).journal) (peer_of w p).memory call) mode on_disk) is in
+    (outcome rules (told_of rules p (peer_of w p).journal) (known_of rules p (peer_of w p).journal) (peer_of w p).memory call) mode on_disk) is in
     stays_becomes rules w p (step rules p (peer_of w p) call on_disk) (ap (λ (t : Stepped). t.state) at)
-        (ap (λ (t : Stepped). said_in_reply t.reply) at ∙ down_silent call)
+    (ap (λ (t : Stepped). said_in_reply t.reply) at ∙ down_silent call)
 mode_becomes rules w p call on_disk Away size plays is =
     let at : step rules p (peer_of w p) call on_disk ≡ record { reply = when_down call; state = peer_of w p } =
     ap (λ (mode : Mode). at_mode (peer_of w p) call
-        (outcome rules (told_of rules p (peer_of w p).journal) (known_of rules p (peer_of w p).journal) (peer_of w p).memory call) mode on_disk) is in
+    (outcome rules (told_of rules p (peer_of w p).journal) (known_of rules p (peer_of w p).journal) (peer_of w p).memory call) mode on_disk) is in
     stays_becomes rules w p (step rules p (peer_of w p) call on_disk) (ap (λ (t : Stepped). t.state) at)
-        (ap (λ (t : Stepped). said_in_reply t.reply) at ∙ down_silent call)
+    (ap (λ (t : Stepped). said_in_reply t.reply) at ∙ down_silent call)
 
 call_becomes : (rules : Rules) (w : World) (p : ℕ) (call : Call) (on_disk : DiskOutcome) → length w.peers ≡ rules.players → IsPlayer rules p
     → Becomes rules w p (step rules p (peer_of w p) call on_disk) (call_at rules w p call on_disk).world
@@ -199,7 +199,7 @@ unfolding acted
 says rules room w p to what bytes t size plays is =
     let becomes = call_becomes rules w p (calls.Say to what) is.on_disk size plays in
     let replied : Some (step rules p (peer_of w p) (calls.Say to what) is.on_disk).reply ≡ Some (Said (Ok is.tells.0)) =
-        ap (λ a. a.answer) is.done.is ∙ is.tells.1 in
+    ap (λ a. a.answer) is.done.is ∙ is.tells.1 in
     let reply : (step rules p (peer_of w p) (calls.Say to what) is.on_disk).reply ≡ Said (Ok is.tells.0) = cc in
     record {
       world = (call_at rules w p (calls.Say to what) is.on_disk).world;
@@ -240,8 +240,10 @@ unfolding acted
 turn reads rules room w (Open p) bytes said t size plays are was follows = opens rules room w p bytes t size plays follows
 turn reads rules room w (Tick p keys) bytes said t size plays are was follows =
     silent_turns rules room w (record { act = Tick p keys; bytes = bytes }) t (calls.Tick keys) size plays tt refl
-    (λ on_disk. ((call_at rules w p (calls.Tick keys) on_disk).answer,
-        record { happening = with_outcome on_disk; may = follows.done.may; is = refl })) follows
+    (λ on_disk. (
+      (call_at rules w p (calls.Tick keys) on_disk).answer,
+      record { happening = with_outcome on_disk; may = follows.done.may; is = refl },
+    )) follows
 turn reads rules room w (Say p to what) bytes said t size plays are was follows = says rules room w p to what bytes t size plays follows
 turn reads rules room w (Give number p) bytes said t size plays are was follows =
     gives reads rules room w number p bytes said t size plays are was follows
@@ -315,7 +317,7 @@ pass reads rules room states front (n ∷ rest) more w size lawful are leads =
           (subst (λ (s : State). Leads rules room p s (part_of p (rest ++ more)) (states p)) (sym turns.here) mine.2)
       | inr apart ↦ subst (λ (s : State). Leads rules room q s (part_of q (rest ++ more)) (states q)) (sym (turns.there q plays apart))
           (subst (λ (notes : List NoteValue). Leads rules room q (peer_of w q) notes (states q)) (part_other q n (rest ++ more) apart)
-              (leads q plays))
+          (leads q plays))
     ]) in
     record {
       world = next.world;
@@ -350,7 +352,7 @@ moments_of_log reads agree rules room front between rest states range few lawful
     let lawful' : IsLawful rules.players (front ++ (between ++ rest)) = subst (λ (log : List NoteValue). IsLawful rules.players log) joins lawful in
     let led' : AreLed rules room (front ++ (between ++ rest)) states = subst (λ (log : List NoteValue). AreLed rules room log states) joins led in
     let first = pass reads rules room states [] front (between ++ rest) (start rules) (length-replicate rules.players never_opened) lawful'
-        tt (λ p plays. rw (peer_at_start rules p) (led' p plays)) in
+    tt (λ p plays. rw (peer_at_start rules p) (led' p plays)) in
     let second = pass reads rules room states front between rest first.world first.size lawful' first.goes.spelled first.left in
     record {
       earlier = first.world;

@@ -1,6 +1,6 @@
 -- Each step keeps the ether's rule.
-use Rattle.std.proofs.Common.{◌≡◌, ◌≢◌, ◌⊎◌, ◌≤◌, ℕ, zero, suc, ◌+◌, List, [], ◌∷◌, ◌++◌, length, set, refl, sym, ap, ◌∙◌, subst, inl, inr,
-  ⊎_elim, append-nil, arith}
+use Rattle.std.proofs.Common.{◌≡◌, ◌≢◌, ◌⊎◌, ◌≤◌, ℕ, zero, suc, ◌+◌, List, [], ◌∷◌, ◌++◌, length, set, refl, sym, ap, ◌∙◌, subst, inl, inr}
+use Rattle.std.proofs.Common.{⊎_elim, append-nil, arith}
 use Rattle.std.specs.Prelude.{◌==◌}
 use Rattle.std.proofs.lemmas.Bool.{eq-eqb, ne_eqb}
 use Rattle.std.proofs.lemmas.List.Elements.{filter-append}
@@ -48,7 +48,7 @@ fit_snoc : (players : ℕ) (log : List NoteValue) (views : List View) (w : View)
     → ((seat : ℕ) → Fits players log seat w) → AllFit players log (views ++ w ∷ [])
 fit_snoc players log views w others mine seat v e =
     ⊎_elim (λ (x : get_elem? views seat ≡ some v). others seat v x)
-        (λ (x : w ≡ v). subst (λ (y : View). Fits players log seat y) x (mine seat)) (at_snoc views w v seat e)
+    (λ (x : w ≡ v). subst (λ (y : View). Fits players log seat y) x (mine seat)) (at_snoc views w v seat e)
 
 -- the last of a list, or one before it
 at_end : (views : List View) (w v : View) (seat : ℕ) → get_elem? (views ++ w ∷ []) seat ≡ some v
@@ -69,7 +69,7 @@ alone_set views id old w alone at no_more p a b v x here there owns also =
     (λ (l : (a ≡ id) × (w ≡ v)). ⊎_elim
     (λ (r : (b ≡ id) × (w ≡ x)). l.0 ∙ sym r.0)
     (λ (r : (b ≢ id) × (get_elem? views b ≡ some x)). l.0
-        ∙ alone p id b old x at r.1 (no_more p (subst (λ (y : View). Owns p y) (sym l.1) owns)) also)
+    ∙ alone p id b old x at r.1 (no_more p (subst (λ (y : View). Owns p y) (sym l.1) owns)) also)
     (at_set views id b w x there))
     (λ (l : (a ≢ id) × (get_elem? views a ≡ some v)). ⊎_elim
     (λ (r : (b ≡ id) × (w ≡ x)). alone p a id v old l.1 at owns (no_more p (subst (λ (y : View). Owns p y) (sym r.1) also)) ∙ sym r.0)
@@ -159,14 +159,14 @@ module _ {S : Type 0} where
         log = k.log;
         fits = fit_snoc (k.players + 1) k.log (set s.views id (Keeper (n + 1) all)) (Own (n + 1) [])
             (fit_set (k.players + 1) k.log s.views id (Keeper (n + 1) all)
-                (λ seat v apart e. more_fit k.players k.log seat v (λ z. apart (z ∙ sym mine.0)) (k.fits seat v e)) (mine.0, next, mine.2))
+            (λ seat v apart e. more_fit k.players k.log seat v (λ z. apart (z ∙ sym mine.0)) (k.fits seat v e)) (mine.0, next, mine.2))
             (λ seat. (omega (arith, next), sym (k.later (n + 1) (omega (arith, next)))));
         alone = alone_snoc (set s.views id (Keeper (n + 1) all)) (Own (n + 1) [])
             (alone_set s.views id (Keeper n all) (Keeper (n + 1) all) k.alone at (λ p never. never))
             (λ p a v e owns also. ⊎_elim
             (λ (x : (a ≡ id) × (Keeper (n + 1) all ≡ v)). no_owner p v (Keeper (n + 1) all) x.1 (λ never. never) owns)
             (λ (x : (a ≢ id) × (get_elem? s.views a ≡ some v)). let few = within k.players k.log a v p (k.fits a v x.1) owns in
-                omega (arith, few, also, next))
+            omega (arith, few, also, next))
             (at_set s.views id a (Keeper (n + 1) all) v e));
         later = λ p more. k.later p (omega (arith, more));
       }
@@ -186,7 +186,7 @@ module _ {S : Type 0} where
         log = k.log;
         fits = fit_set k.players k.log (set s.views id (Both n all p own)) other Spent
             (λ seat v away e. fit_set k.players k.log s.views id (Both n all p own) (λ seat' v' _ e'. k.fits seat' v' e')
-                (mine.0, mine.1, mine.2, theirs.0, theirs.1) seat v e)
+            (mine.0, mine.1, mine.2, theirs.0, theirs.1) seat v e)
             tt;
         alone = alone_pair s.views id other n all p own k.alone before;
         later = k.later;
@@ -221,7 +221,7 @@ module _ {S : Type 0} where
       let now : View = Both n (all ++ note ∷ []) p (own ++ note ∷ []) in
       let part : own ++ note ∷ [] ≡ part_of p log =
       ap (λ (notes : List NoteValue). notes ++ note ∷ []) mine.4
-          ∙ subst (λ (q : ℕ). part_of q k.log ++ note ∷ [] ≡ part_of q log) of (sym (part_with note k.log)) in (
+      ∙ subst (λ (q : ℕ). part_of q k.log ++ note ∷ [] ≡ part_of q log) of (sym (part_with note k.log)) in (
         now,
         keeps,
         tt,

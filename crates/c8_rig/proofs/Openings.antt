@@ -15,5 +15,5 @@ pub entry_more : (ether : TableId) (n : ℕ)
 entry_more ether n =
     let entry : ℕ → EntryValue = λ p. record { ether = ether; player = p; notes = [] } in
     ap (λ (k : ℕ). first_entries ether k) (let e : n + 1 ≡ suc n = omega arith in e) ∙ ap (map entry) (range_last 1 n)
-        ∙ map-append entry (range_with_len 1 n) ((1 + n) ∷ [])
-        ∙ ap (λ (p : ℕ). first_entries ether n ++ entry p ∷ []) (let e : 1 + n ≡ n + 1 = omega arith in e)
+    ∙ map-append entry (range_with_len 1 n) ((1 + n) ∷ [])
+    ∙ ap (λ (p : ℕ). first_entries ether n ++ entry p ∷ []) (let e : 1 + n ≡ n + 1 = omega arith in e)

@@ -36,8 +36,17 @@ module _ {D : Type 0} (g : Ghosts D) where
   played_joined old between new (n ∷ notes) more is next = (is.0, is.1, played_joined is.0 between new notes more is.2 next)
 
   pub stays : (e : EntryValue) (p : PeerValue D) → HasPlayed g e p e p
-  stays e p = record { ether = refl; player = refl; rules = refl; room = refl; me = refl; notes = []; noted = sym (append-nil e.notes);
-      leads = refl; played = refl }
+  stays e p = record {
+    ether = refl;
+    player = refl;
+    rules = refl;
+    room = refl;
+    me = refl;
+    notes = [];
+    noted = sym (append-nil e.notes);
+    leads = refl;
+    played = refl;
+  }
 
   pub joins : (first middle last : EntryValue) (old between new : PeerValue D) → HasPlayed g first old middle between
       → HasPlayed g middle between last new → HasPlayed g first old last new
@@ -72,8 +81,16 @@ module _ {D : Type 0} (g : Ghosts D) where
     me = is.same.me;
     notes = record { act = act; bytes = bytes } ∷ [];
     noted = refl;
-    leads = (new.state, follows (record { on_disk = disk_outcome_of reply; answer = Some reply; done = deeds old new call reply fits is;
-        tells = tt }), refl);
+    leads = (
+      new.state,
+      follows (record {
+        on_disk = disk_outcome_of reply;
+        answer = Some reply;
+        done = deeds old new call reply fits is;
+        tells = tt;
+      }),
+      refl,
+    );
     played = (new, plays (reply, is), refl);
   }
 
@@ -89,8 +106,16 @@ module _ {D : Type 0} (g : Ghosts D) where
     me = refl;
     notes = record { act = acts.Say player to what; bytes = bytes } ∷ [];
     noted = refl;
-    leads = (p.state, record { on_disk = Works; answer = Some (Said (Ok is.packet)); done = deeds p (Say to what) bytes tt is;
-        tells = (is.packet, refl, is.spelled) }, refl);
+    leads = (
+      p.state,
+      record {
+        on_disk = Works;
+        answer = Some (Said (Ok is.packet));
+        done = deeds p (Say to what) bytes tt is;
+        tells = (is.packet, refl, is.spelled);
+      },
+      refl,
+    );
     played = (p, (is, refl), refl);
   }
 
@@ -131,5 +156,10 @@ module _ {D : Type 0} (g : Ghosts D) where
       → number ≡ player → IsOpened g begun rules 0 number peer → HasPlayed g opened peer last new → HasPlayedOn g rules player begun last.notes new
   played_on rules number player begun first opened last peer new none is same opens played =
       subst (λ (p : ℕ). HasPlayedOn g rules p begun last.notes new) same
-      (record { opened = peer; is_opened = opens; more = played.notes; noted = all_noted number first opened last peer new none is played;
-          played = played.played })
+      (record {
+        opened = peer;
+        is_opened = opens;
+        more = played.notes;
+        noted = all_noted number first opened last peer new none is played;
+        played = played.played;
+      })

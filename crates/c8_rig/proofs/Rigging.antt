@@ -1,6 +1,6 @@
 -- What all threads return.
-use Rattle.std.proofs.Common.{◌≡◌, ◌<◌, ◌^◌, ◌+◌, ◌-◌, ℕ, List, [], ◌++◌, length, map, Option, Some, None, Ok, Err, ⊎_elim, refl, sym, ap,
-  subst, ◌∙◌, arith, append-nil}
+use Rattle.std.proofs.Common.{◌≡◌, ◌<◌, ◌^◌, ◌+◌, ◌-◌, ℕ, List, [], ◌++◌, length, map, Option, Some, None, Ok, Err, ⊎_elim, refl, sym, ap}
+use Rattle.std.proofs.Common.{subst, ◌∙◌, arith, append-nil}
 use Rattle.std.specs.Prelude.{slice_index_or, option_map, Result, IfOk, IfSome}
 use Rattle.std.specs.List.{slice_get, range_with_len}
 use Rattle.std.proofs.lemmas.List.{get_or-map, length-map}
@@ -55,7 +55,7 @@ pub played_at : {P : Type 0} (rules : Rules) (turns : ℕ) (ether : TableId) (en
 played_at rules turns ether entry peer played entries peers are also i r first at is disk new_disk worked =
     let inside = some_inside (slice_get peers i) (peer r)
     (sym (slice_get-map Some peers i) ∙ ap (λ (ps : List (Option (PeerValue MemDisk))). slice_get ps i) also ∙ slice_get-map peer played i
-        ∙ ap (option_map peer) at) in
+    ∙ ap (option_map peer) at) in
     let number : first.player ≡ i + 1 = ap (λ (e : EntryValue). e.player) is in
     record {
       entry = entry r;
@@ -68,13 +68,13 @@ played_at rules turns ether entry peer played entries peers are also i r first a
           (subst (λ (o : Option (PeerValue MemDisk)). IfSome o (λ q. IsPeerOf rules first.player q)) inside.2 worked.plays);
       led = subst (λ (p : ℕ). Leads rules 0 p never_opened (entry r).notes inside.0.state) number
           (subst (λ (o : Option (PeerValue MemDisk)). IfSome o (λ q. Leads rules 0 first.player never_opened (entry r).notes q.state))
-              inside.2 worked.led);
+          inside.2 worked.led);
       made = record {
         disk = disk;
         new_disk = new_disk;
         played = subst (λ (p : ℕ). HasPlayedOn ghosts rules p disk (entry r).notes inside.0) number
             (subst (λ (o : Option (PeerValue MemDisk)). IfSome o (λ q. HasPlayedOn ghosts rules first.player disk (entry r).notes q))
-                inside.2 worked.played);
+            inside.2 worked.played);
       };
     }
 
@@ -94,7 +94,7 @@ all_played rules turns ether n first disk entry peer jobs played entries peers b
     let at : found.0 ≡ slice_index_or played i found.0 = sym found.3 in
     let one = worked i found.0 within at in
     played_at rules turns ether entry peer played entries peers are also i found.0 (first one.0) found.2
-        (first_at first ether n jobs begins i one.0 within one.1)
+    (first_at first ether n jobs begins i one.0 within one.1)
     (disk one.0) (subst (λ (j : _). IsDiskFor turns (disk j)) (sym one.1) (disks i one.0 within)) one.2)
     (λ past. let far = past.0 in absurd (omega (arith, within, as_many, far)))
     (slice_get_cases played i).1
@@ -147,7 +147,7 @@ all_led rules turns ether log entries peers played parts p plays =
     let within = slice_get_within peers (p - 1) a.peer a.peer_there in
     let state : a.peer.state ≡ states_of peers p =
     sym (get_or-map (λ (q : PeerValue MemDisk). q.state) peers (p - 1) a.peer never_opened within
-        ∙ ap (λ (q : PeerValue MemDisk). q.state) (get_or_from_slice_get peers (p - 1) a.peer a.peer a.peer_there)) in
+    ∙ ap (λ (q : PeerValue MemDisk). q.state) (get_or_from_slice_get peers (p - 1) a.peer a.peer a.peer_there)) in
     subst (λ (q : ℕ). Leads rules 0 q never_opened (part_of p log) (states_of peers p)) number
     (subst (λ (s : State). Leads rules 0 (p - 1 + 1) never_opened (part_of p log) s) state
     (subst (λ (notes : List NoteValue). Leads rules 0 (p - 1 + 1) never_opened notes a.peer.state) part a.led))
@@ -202,8 +202,8 @@ all_checked matches rules log peers range size lawful led i q at =
     let here : IsPlayer rules (i + 1) = record { from_one = omega arith; in_game = omega (arith, within, size) } in
     let whole : log ≡ log ++ [] ++ [] = sym (append-nil log) ∙ sym (append-nil (log ++ [])) in
     let last = matches rules 0 log [] [] (states_of peers) range (omega arith)
-        (subst (λ (l : List NoteValue). IsLawful rules.players l) whole lawful)
-        (subst (λ (l : List NoteValue). AreLed rules 0 l (states_of peers)) whole led) in
+    (subst (λ (l : List NoteValue). IsLawful rules.players l) whole lawful)
+    (subst (λ (l : List NoteValue). AreLed rules 0 l (states_of peers)) whole led) in
     let there : states_of peers (i + 1) ≡ peer_of last.later (i + 1) = last.left (i + 1) here in
     subst (λ (s : State). HasTrueChecks rules (i + 1) s.journal) (sym there ∙ state_at peers i q at) (last.headline.checks (i + 1) here)
 
@@ -215,11 +215,11 @@ rigged_so : AreWorlds → AreMatches → AgreeInWorlds
 rigged_so worlds matches law rules turns ether entries peers (Gathered log held agree) range size played is =
     let led : AreLed rules 0 log.items (states_of held.items) =
     subst (λ (ps : List (PeerValue MemDisk)). AreLed rules 0 log.items (states_of ps)) (sym is.2)
-        (all_led rules turns ether log.items entries peers played is.1) in
+    (all_led rules turns ether log.items entries peers played is.1) in
     let many : length held.items ≡ rules.players = ap length is.2 ∙ size in
     let plays : ArePeersOf rules held.items =
-        λ i q at. all_plays rules turns ether entries peers size played i q
-        (subst (λ (ps : List (PeerValue MemDisk)). slice_get ps i ≡ Some q) is.2 at) in
+    λ i q at. all_plays rules turns ether entries peers size played i q
+    (subst (λ (ps : List (PeerValue MemDisk)). slice_get ps i ≡ Some q) is.2 at) in
     let world : IsWorld rules 0 log.items (states_of held.items) = worlds rules 0 log.items (states_of held.items) is.0 led in
     let told : HaveAgreedOrNot held.items agree = subst (λ (ps : List (PeerValue MemDisk)). HaveAgreedOrNot ps agree) (sym is.2) is.3 in
     record {

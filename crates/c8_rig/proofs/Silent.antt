@@ -20,8 +20,8 @@ use Rattle.c8_peer.specs.State.{Memory, Mode, Open, Down, Away, State, Call, Tic
 use Rattle.c8_peer.specs.Steps.{DiskOutcome, Works, Refuses, refused_by_disk, when_down, outcome, done, at_mode, step}
 use Rattle.c8_check.specs.Checks.{Pieces, frames_of}
 use Rattle.c8_peer.specs.Calls.{tick, leave, decide, next_piece, checkpoint}
-use Rattle.c8_peer.specs.Hearing.{is_of_other_wire, is_desync, unless_misfit, got, cut_or_got, hear_data, hear_welcome, hear_freeze,
-  hear_frozen, hear_end, hear_cut, hear_message, unless_hand, hear_seen, hear_from, seen_in, hear_told}
+use Rattle.c8_peer.specs.Hearing.{is_of_other_wire, is_desync, unless_misfit, got, cut_or_got, hear_data, hear_welcome, hear_freeze}
+use Rattle.c8_peer.specs.Hearing.{hear_frozen, hear_end, hear_cut, hear_message, unless_hand, hear_seen, hear_from, seen_in, hear_told}
 use Rattle.c8_peer.specs.Opening.{Opening, NoPlayer, Stands, NotWritten, NoMemory, NotRead, Unfit, Spent, opened}
 use Rattle.c8_world.specs.World.{said_by}
 
@@ -48,13 +48,13 @@ unfolding leave
 leave_silent k m leaver =
     either IsSilent (not (k.me == 1)) _ _ (silent _ refl) (either IsSilent (leaver == k.me) _ _ (silent _ refl)
     (either IsSilent (not (is_player k leaver)) _ _ (silent _ refl)
-        (either IsSilent (player_in k leaver).leaving _ _ (silent _ refl) (silent _ refl))))
+    (either IsSilent (player_in k leaver).leaving _ _ (silent _ refl) (silent _ refl))))
 
 decide_silent : (k : KnownValue) (m : Memory) (leaver : ℕ) → IsSilent (decide k m leaver)
 unfolding decide
 decide_silent k m leaver =
     either IsSilent (not (k.me == 1) || not (player_in k leaver).leaving) _ _ (silent _ refl)
-        (either IsSilent (is_some (player_in k leaver).cut) _ _ (silent _ refl)
+    (either IsSilent (is_some (player_in k leaver).cut) _ _ (silent _ refl)
     (either IsSilent (not (is_ready m.chair k leaver)) _ _ (silent _ refl) (silent _ refl)))
 
 -- ---- deliveries
@@ -73,7 +73,7 @@ data_silent t k m q d =
     either IsSilent (is_from_leaver k q q) _ _ (silent _ refl) (either IsSilent (nat_lt (count_in k k.me) d.ack) _ _ (silent _ refl)
     (misfit_silent m (misfit k q d.start d.words) _
     (either IsSilent (is_desync t d) _ _ (silent _ refl)
-        (got_silent k (record m { acks = acked_more m.acks q d.ack }) q (fresh_words k q d.start d.words)))))
+    (got_silent k (record m { acks = acked_more m.acks q d.ack }) q (fresh_words k q d.start d.words)))))
 
 welcome_silent : (k : KnownValue) (m : Memory) (head : HeadValue) (ack : ℕ) → IsSilent (hear_welcome k m head ack)
 unfolding hear_welcome
@@ -90,7 +90,7 @@ unfolding hear_frozen
 frozen_silent k m q f =
     either IsSilent (not (k.me == 1)) _ _ (silent _ refl) (either IsSilent (f.leaver == q || not (is_player k f.leaver)) _ _ (silent _ refl)
     (either IsSilent (not (player_in k f.leaver).leaving) _ _ (silent _ refl)
-        (either IsSilent (is_some (player_in k f.leaver).cut) _ _ (silent _ refl)
+    (either IsSilent (is_some (player_in k f.leaver).cut) _ _ (silent _ refl)
     (either IsSilent (nat_lt k.limit f.length) _ _ (silent _ refl)
     (misfit_silent m (misfit k f.leaver f.start f.words) _
     (got_silent k (record m { chair = with_report m.chair f.leaver q f.length }) f.leaver (fresh_words k f.leaver f.start f.words)))))))

@@ -33,7 +33,7 @@ module _ {S : Type 0} where
       → Allows {S = S} Keeps slots id me 0 (λ word. word) (λ _ after. after ≡ (noted note me.0, me.1))
   notes_as slots id me note b of =
       subst (λ (m : Me S View). Allows {S = S} Keeps slots id m 0 (λ word. word) (λ _ after. after ≡ (noted note m.0, m.1))) (sym b.4)
-          (notes slots id b.0 b.1 b.2 b.3 note of)
+      (notes slots id b.0 b.1 b.2 b.3 note of)
 
   pub compares_as : (slots id : ℕ) (me : Me S View) → IsBoth me → Allows {S = S} Keeps slots id me 0 (λ word. word) (Compares me)
   compares_as slots id me b = subst (λ (m : Me S View). Allows {S = S} Keeps slots id m 0 (λ word. word) (Compares m)) (sym b.4)

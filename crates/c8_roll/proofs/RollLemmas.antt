@@ -65,9 +65,9 @@ marks_same rules from old new still n starts within =
     let first : ℕ = from.frames / 32 + 1 in
     let count : ℕ = n / 32 - from.frames / 32 in
     ap (λ (later : List FrameMark). kept (from.marks ++ later))
-        (map_same (λ i. mark_since rules from new (32 * i)) (λ i. mark_since rules from old (32 * i)) first count
+    (map_same (λ i. mark_since rules from new (32 * i)) (λ i. mark_since rules from old (32 * i)) first count
     (λ i to. ap (λ (rows : List Row). record { frame = 32 * i; mark = mark_of (run_since rules from rows) })
-        (rows_same old new still (32 * i) (omega (arith, to, starts, within)))))
+    (rows_same old new still (32 * i) (omega (arith, to, starts, within)))))
 
 -- the best guesses at confirmed frames are their rows
 pub best_sure : (k : KnownValue) (n : ℕ) → n ≤ confirmed k → best_rows_below k n ≡ rows_below k n

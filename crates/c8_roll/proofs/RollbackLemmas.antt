@@ -1,6 +1,6 @@
 -- The roll after a call, how far it went back, and what it keeps.
-use Rattle.std.proofs.Common.{◌≡◌, ◌≢◌, inl, inr, ⊎_elim, ℕ, ◌+◌, ◌<◌, ◌≤◌, ◌-◌, List, length, map, Option, Some, None, refl, sym, ap,
-  subst, ◌∙◌, arith}
+use Rattle.std.proofs.Common.{◌≡◌, ◌≢◌, inl, inr, ⊎_elim, ℕ, ◌+◌, ◌<◌, ◌≤◌, ◌-◌, List, length, map, Option, Some, None, refl, sym, ap}
+use Rattle.std.proofs.Common.{subst, ◌∙◌, arith}
 use Rattle.std.specs.Prelude.{unwrap_or, option_map, MatchOption, IfSome, fold}
 use Rattle.std.specs.List.{slice_get}
 use Rattle.std.proofs.lemmas.Bool.{cases_lt}
@@ -20,8 +20,8 @@ use Rattle.c8_roll.specs.declared.timeline.Snapshot.{Snapshot}
 use Rattle.c8_roll.specs.Roll.{marks_since, RollValue, roll_since, IsRollSince}
 use Rattle.c8_roll.specs.checked.RollLaws.{roll_ticks, roll_confirmed}
 use Rattle.c8_roll.specs.checked.Timeline.{TimelineValue, machine_or, state_at, IsAll, IsNew, IsTimeline, back_at, AreBest, IsChange, IsRunOf}
-use Rattle.c8_roll.specs.Rollback.{KeepsRows, AreAsRun, IsOldest, IsOldestChange, IsOldestOrLast, AreStillBest, IsOldestWrong, HasAllRows,
-  RunsFromOldest, run_from}
+use Rattle.c8_roll.specs.Rollback.{KeepsRows, AreAsRun, IsOldest, IsOldestChange, IsOldestOrLast, AreStillBest, IsOldestWrong, HasAllRows}
+use Rattle.c8_roll.specs.Rollback.{RunsFromOldest, run_from}
 use Rattle.c8_roll.proofs.RollLemmas.{best_sure, IsStill}
 use Rattle.c8_roll.proofs.TimelineLemmas.{base_is, back_run}
 
@@ -57,7 +57,7 @@ pub back_of : (rules : Rules) (from : Origin) (k : KnownValue) (old new : Timeli
 back_of rules from k old new marks same still back fits best =
     let base : state_at old 0 ≡ run_since old.rules from (best_rows_below k old.first) =
     still.base ∙ ap (run_since rules from) (sym (best_sure k old.first still.order))
-        ∙ ap (λ (r : Rules). run_since r from (best_rows_below k old.first)) (sym same) in
+    ∙ ap (λ (r : Rules). run_since r from (best_rows_below k old.first)) (sym same) in
     subst (IsRunOf from k) (sym back) (back_run from k old (length new.snapshots) fits still.starts base best)
 
 -- ---- what is kept
@@ -148,8 +148,11 @@ oldest_or_last old new k (Some frame) lacks back fits best is wrong =
     (λ last.
     let at = is.0 in
     let end = last.1 in
-    inr (subst (AreAsRun (map (λ (s : Snapshot). s.row) old.snapshots) old.first k) (sym many)
-        (as_run old k (length old.snapshots) (omega arith) last.0), omega (arith, at, end, ticks, many)))
+    inr (
+      subst (AreAsRun (map (λ (s : Snapshot). s.row) old.snapshots) old.first k) (sym many)
+          (as_run old k (length old.snapshots) (omega arith) last.0),
+      omega (arith, at, end, ticks, many),
+    ))
     wrong
 
 -- ---- the answer, for what was known before
@@ -171,7 +174,7 @@ oldest_wrong_of before now rows (Some frame) all best o =
     let at = o.at in
     let within = slice_get_within rows o.place o.row o.run in
     let row : best_row before frame ≡ o.row =
-        ap (best_row before) at ∙ ap (λ (r : Option Row). unwrap_or r o.row) (sym (best o.place within) ∙ o.run) in
+    ap (best_row before) at ∙ ap (λ (r : Option Row). unwrap_or r o.row) (sym (best o.place within) ∙ o.run) in
     let before_it = still_best before now rows o.place (λ i less. best i (omega (arith, less, within))) o.before in (
       omega (arith, at),
       omega (arith, at, within, all),
@@ -208,7 +211,7 @@ runs_from old rows before now answer ran from was keeps few is all =
 unchanged : (rows : List Row) (first : ℕ) (k : KnownValue) (n frame : ℕ) → AreAsRun rows first k n → (o : IsOldest rows first k frame) → n ≤ o.place
 unchanged rows first k n frame same o =
     ⊎_elim (λ (within : o.place < n). absurd (o.differs (ap (best_row k) o.at ∙ same o.place o.row within o.run)))
-        (λ (past : n ≤ o.place). past) (cases_lt o.place n)
+    (λ (past : n ≤ o.place). past) (cases_lt o.place n)
 
 pub one_oldest : (rows : List Row) (first ticks : ℕ) (k : KnownValue) (a b : Option ℕ) → IsOldestChange rows first k a
     → IsOldestChange rows first k b → run_from ticks a ≡ run_from ticks b

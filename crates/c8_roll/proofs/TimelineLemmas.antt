@@ -1,6 +1,6 @@
 -- How rolling back, confirming and running change a timeline.
-use Rattle.std.proofs.Common.{◌≡◌, ◌≢◌, ◌⊎◌, inl, inr, ⊎_elim, ℕ, zero, suc, ◌+◌, ◌-◌, ◌<◌, ◌≤◌, List, [], ◌∷◌, ◌++◌, length, take, drop,
-  Option, Some, None, sym, ap, ◌∙◌, arith}
+use Rattle.std.proofs.Common.{◌≡◌, ◌≢◌, ◌⊎◌, inl, inr, ⊎_elim, ℕ, zero, suc, ◌+◌, ◌-◌, ◌<◌, ◌≤◌, List, [], ◌∷◌, ◌++◌, length, take, drop}
+use Rattle.std.proofs.Common.{Option, Some, None, sym, ap, ◌∙◌, arith}
 use Rattle.std.specs.List.{slice_get}
 use Rattle.std.specs.Prelude.{unwrap_or, fold}
 use Rattle.std.proofs.lemmas.Option.{slice_get_past, slice_get_within, slice_get_cases}
@@ -43,14 +43,14 @@ run_at from k t is run zero within =
 run_at from k t is run (suc i) within =
     let starts = run.starts in
     let place : i < length t.snapshots = ⊎_elim (λ (w : suc i < length t.snapshots). omega (arith, w))
-        (λ (w : IsAll t × (suc i ≤ length t.snapshots)). let some = w.1 in omega (arith, some)) within in
+    (λ (w : IsAll t × (suc i ≤ length t.snapshots)). let some = w.1 in omega (arith, some)) within in
     let kept = slice_get-some t.snapshots i place in
     let so_far : state_at t i ≡ run_since t.rules from (best_rows_below k (t.first + i)) = run_at from k t is run i (inl place) in
     let here : state kept.0.machine ≡ run_since t.rules from (best_rows_below k (t.first + i)) =
-        ap (λ (o : Option Snapshot). state (machine_or t.shown o)) (sym kept.1) ∙ so_far in
+    ap (λ (o : Option Snapshot). state (machine_or t.shown o)) (sym kept.1) ∙ so_far in
     let next : state_at t (i + 1) ≡ frame_of t.rules (joined t.rules kept.0.row) (state kept.0.machine) =
     is.followed i (⊎_elim (λ (w : suc i < length t.snapshots). inl (omega (arith, w)))
-        (λ (w : IsAll t × (suc i ≤ length t.snapshots)). inr w.0) within) kept.0 kept.1 in
+    (λ (w : IsAll t × (suc i ≤ length t.snapshots)). inr w.0) within) kept.0 kept.1 in
     let one : suc i ≡ i + 1 = omega arith in
     let up : t.first + i + 1 ≡ t.first + suc i = omega arith in
     ap (state_at t) one ∙ next
@@ -182,7 +182,7 @@ pub extended_run : (from : Origin) (k : KnownValue) (t : TimelineValue) (machine
 extended_run from k t machine row is all none went best run =
     let empty : slice_get t.snapshots 0 ≡ None = slice_get_past t.snapshots 0 (omega (arith, none)) in
     let base : state t.shown ≡ run_since t.rules from (best_rows_below k t.first) =
-        ap (λ (o : Option Snapshot). state (machine_or t.shown o)) (sym empty) ∙ run.base in
+    ap (λ (o : Option Snapshot). state (machine_or t.shown o)) (sym empty) ∙ run.base in
     record {
       starts = let starts = run.starts in omega (arith, starts);
       base = ap (λ (o : Option Snapshot). state (machine_or machine o)) empty
@@ -195,8 +195,12 @@ extended_run from k t machine row is all none went best run =
 
 -- with a snapshot of the machine before it
 abbrev pub snapped : TimelineValue → Row → Machine → TimelineValue
-snapped t row machine = record t { ticks = t.ticks + 1; shown = machine;
-    snapshots = t.snapshots ++ (record { row = row; machine = t.shown }) ∷ []; last_run = t.last_run + 1 }
+snapped t row machine = record t {
+  ticks = t.ticks + 1;
+  shown = machine;
+  snapshots = t.snapshots ++ (record { row = row; machine = t.shown }) ∷ [];
+  last_run = t.last_run + 1;
+}
 
 -- without one
 abbrev pub passed : TimelineValue → Machine → TimelineValue
@@ -212,7 +216,7 @@ snapped_machine t row machine i within =
     ⊎_elim
     (λ (o : (x : Snapshot) × (i < length t.snapshots) × (slice_get t.snapshots i ≡ Some x) × _).
     ap (machine_or machine) (slice_get-append_left t.snapshots ((record { row = row; machine = t.shown }) ∷ []) i o.1 ∙ o.2)
-        ∙ ap (machine_or t.shown) (sym o.2))
+    ∙ ap (machine_or t.shown) (sym o.2))
     (λ (o : (length t.snapshots ≤ i) × (slice_get t.snapshots i ≡ None)).
     let past = o.0 in
     let same : i ≡ length t.snapshots = omega (arith, past, within) in
@@ -229,7 +233,7 @@ snapped_kept t row i s kept =
     let many : length (t.snapshots ++ new ∷ []) ≡ length t.snapshots + 1 = length-append t.snapshots (new ∷ []) in
     ⊎_elim
     (λ (o : (x : Snapshot) × (i < length t.snapshots) × (slice_get t.snapshots i ≡ Some x) × _). inl
-        (o.1, sym (slice_get-append_left t.snapshots (new ∷ []) i o.1) ∙ kept))
+    (o.1, sym (slice_get-append_left t.snapshots (new ∷ []) i o.1) ∙ kept))
     (λ (o : (length t.snapshots ≤ i) × (slice_get t.snapshots i ≡ None)).
     let past = o.0 in
     let same : i ≡ length t.snapshots = omega (arith, past, many, inside) in
@@ -292,7 +296,7 @@ passed_is t machine is full =
       all = λ less. absurd (omega (arith, less, full));
       followed = λ i why s kept.
           let place : i + 1 < length t.snapshots = ⊎_elim (λ (w : i + 1 < length t.snapshots). w)
-              (λ (all : IsAll (passed t machine)). absurd (omega (arith, all, within))) why in
+          (λ (all : IsAll (passed t machine)). absurd (omega (arith, all, within))) why in
           ap state (passed_machine t machine (i + 1) place) ∙ is.followed i (inl place) s kept;
       counted = omega (arith, ran);
     }
@@ -322,4 +326,4 @@ pub base_is : (rules : Rules) (from : Origin) (k : KnownValue) (t : TimelineValu
     → t.first ≡ n → n ≤ confirmed k → state_at t 0 ≡ run_since rules from (rows_below k n)
 base_is rules from k t n run same first sure =
     run.base ∙ ap (λ (r : Rules). run_since r from (best_rows_below k t.first)) same
-        ∙ ap (λ (m : ℕ). run_since rules from (best_rows_below k m)) first ∙ ap (run_since rules from) (best_sure k n sure)
+    ∙ ap (λ (m : ℕ). run_since rules from (best_rows_below k m)) first ∙ ap (run_since rules from) (best_sure k n sure)

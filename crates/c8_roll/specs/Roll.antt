@@ -20,7 +20,7 @@ mark_since rules from k n = record { frame = n; mark = mark_of (run_since rules 
 abbrev pub marks_since : Rules → Origin → KnownValue → ℕ → List FrameMark
 marks_since rules from k n =
     kept (from.marks ++ map (λ m. mark_since rules from k (mark_step * m))
-        (range_with_len (from.frames / mark_step + 1) (n / mark_step - from.frames / mark_step)))
+    (range_with_len (from.frames / mark_step + 1) (n / mark_step - from.frames / mark_step)))
 
 -- the machine and the marks after n confirmed frames
 abbrev pub origin_at : Rules → Origin → KnownValue → ℕ → Origin

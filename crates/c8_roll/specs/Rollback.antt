@@ -83,4 +83,4 @@ pub record RunsFromOldest (before now : KnownValue) (ran : ℕ) : Type 0 where
 abbrev pub RunsFromWhatWasKnown : RollValue → List Row → KnownValue → ℕ → Type 0
 RunsFromWhatWasKnown old rows now ran =
     (from : Origin) (before : KnownValue) → IsRollSince from before old → KeepsRows old.rules.window before rows → HasAllRows old
-        → RunsFromOldest before now ran
+    → RunsFromOldest before now ran

@@ -1,6 +1,6 @@
 -- When a leaver may be cut, and what an answer changes.
-use Rattle.std.proofs.Common.{◌≡◌, ◌≢◌, ℕ, ◌+◌, ◌-◌, ◌≤◌, ◌⊎◌, inl, inr, List, [], length, Bool, true, false, not, ◌&&◌, ◌||◌, Option, Some,
-  None, refl, sym, ap, ◌∙◌, subst, arith, slice_index_or, slice_set}
+use Rattle.std.proofs.Common.{◌≡◌, ◌≢◌, ℕ, ◌+◌, ◌-◌, ◌≤◌, ◌⊎◌, inl, inr, List, [], length, Bool, true, false, not, ◌&&◌, ◌||◌, Option, Some}
+use Rattle.std.proofs.Common.{None, refl, sym, ap, ◌∙◌, subst, arith, slice_index_or, slice_set}
 use Rattle.std.specs.Prelude.{max}
 use Rattle.std.specs.List.{range_with_len, list_all, AllPass}
 use Rattle.std.proofs.lemmas.Bool.{cases_eq, cases_lt, ne_eqb, leb-true, both_ways, false_from_ne_true}
@@ -40,7 +40,7 @@ ready_answered c k leaver ready q plays other stays =
     let all : AllPass test (range_with_len 1 n) = AllPass-from_list_all test (range_with_len 1 n) (and_true (player_in k leaver).leaving _ ready).1 in
     let at : slice_index_or (range_with_len 1 n) (q - 1) 0 ≡ 1 + (q - 1) = get_or-range_with_len 1 n (q - 1) 0 (omega (arith, from, to)) in
     let here : test q ≡ true = subst (λ (p : ℕ). test p ≡ true) (at ∙ omega (arith, from))
-        (all (q - 1) 0 (omega (arith, from, to, length-range_with_len 1 n))) in
+    (all (q - 1) 0 (omega (arith, from, to, length-range_with_len 1 n))) in
     let told = answered (count_in k leaver) (report_of c leaver q) (past_not (is_stayer k q) _ (stays_true k q other stays) here) in
     record { held = told.0; told = told.1; few = told.2 }
 
@@ -68,7 +68,7 @@ set_is xs place other x d =
       | inl same ↦ elim (cases_lt place (length xs)) [
         | inl within ↦ inr (same, rw same (get_or-set_same xs place x d within))
         | inr past ↦ inl (rw same (get_or_past (slice_set xs place x) place d (omega (arith, past, length-set xs place x))
-        ∙ sym (get_or_past xs place d past)))
+            ∙ sym (get_or_past xs place d past)))
       ]
     ]
 
@@ -81,14 +81,14 @@ report_is c leaver stayer held l s n e =
       | inl old ↦ inl (sym (ap (λ (r : List (Option ℕ)). slice_index_or r (s - 1) None) old) ∙ e)
       | inr here ↦
           let at : slice_index_or (slice_set row (stayer - 1) new) (s - 1) None ≡ Some n =
-              sym (ap (λ (r : List (Option ℕ)). slice_index_or r (s - 1) None) here.1) ∙ e in
+          sym (ap (λ (r : List (Option ℕ)). slice_index_or r (s - 1) None) here.1) ∙ e in
           let rows : slice_index_or c.reports (l - 1) [] ≡ row = ap (λ (place : ℕ). slice_index_or c.reports place []) here.0 in
           elim (set_is row (stayer - 1) (s - 1) new None) [
             | inl kept ↦ inl (ap (λ (r : List (Option ℕ)). slice_index_or r (s - 1) None) rows ∙ sym kept ∙ at)
             | inr there ↦
                 elim (raised_is (report_of c leaver stayer) held n (sym there.1 ∙ at)) [
                   | inl before ↦ inl (ap (λ (r : List (Option ℕ)). slice_index_or r (s - 1) None) rows
-                  ∙ ap (λ (place : ℕ). slice_index_or row place None) there.0 ∙ before)
+                      ∙ ap (λ (place : ℕ). slice_index_or row place None) there.0 ∙ before)
                   | inr now ↦ inr (here.0, there.0, now)
                 ]
           ]
@@ -101,5 +101,5 @@ fails_at test n m from to fails =
     let each : AllPass test (range_with_len 1 n) = AllPass-from_list_all test (range_with_len 1 n) all in
     let at : slice_index_or (range_with_len 1 n) (m - 1) 0 ≡ 1 + (m - 1) = get_or-range_with_len 1 n (m - 1) 0 (omega (arith, from, to)) in
     let here : test m ≡ true = subst (λ (p : ℕ). test p ≡ true) (at ∙ omega (arith, from))
-        (each (m - 1) 0 (omega (arith, from, to, length-range_with_len 1 n))) in
+    (each (m - 1) 0 (omega (arith, from, to, length-range_with_len 1 n))) in
     both_ways (test m) fails here)

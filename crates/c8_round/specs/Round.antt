@@ -1,8 +1,8 @@
 -- The drop round: what player 1 and those who stay keep of it in memory, and what follows. After player 1 drops a
 -- player, each who stays answers how many of the leaver's inputs it holds. Once player 1 holds as many as each of them,
 -- it cuts the leaver's list there.
-use Rattle.std.specs.Prelude.{◌≡◌, ◌≤◌, ◌⊎◌, ℕ, ◌-◌, ◌==◌, ◌&&◌, ◌||◌, List, [], length, replicate, slice_index_or, slice_set, min, max,
-  Bool, false, not, nat_le, Option, Some, None}
+use Rattle.std.specs.Prelude.{◌≡◌, ◌≤◌, ◌⊎◌, ℕ, ◌-◌, ◌==◌, ◌&&◌, ◌||◌, List, [], length, replicate, slice_index_or, slice_set, min, max}
+use Rattle.std.specs.Prelude.{Bool, false, not, nat_le, Option, Some, None}
 use Rattle.std.specs.List.{range_with_len, list_all}
 use Rattle.c8_known.specs.Known.{KnownValue, player_in, count_in}
 

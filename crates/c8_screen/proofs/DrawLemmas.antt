@@ -1,12 +1,13 @@
 -- How drawing changes the set of lit points, row by row.
-use Rattle.std.proofs.Common.{◌≡◌, ℕ, zero, suc, ◌+◌, ◌-◌, ◌*◌, ◌%◌, ◌^◌, ◌<◌, ◌≤◌, ◌&&◌, Bool, true, false, not, cond, min, nat_eq, nat_lt,
-  nat_le, List, length, get_or, bit_and, bit_xor, refl, sym, ap, ◌∙◌, inl, inr, arith, add-zero}
+use Rattle.std.proofs.Common.{◌≡◌, ℕ, zero, suc, ◌+◌, ◌-◌, ◌*◌, ◌%◌, ◌^◌, ◌<◌, ◌≤◌, ◌&&◌, Bool, true, false, not, cond, min, nat_eq, nat_lt}
+use Rattle.std.proofs.Common.{nat_le, List, length, get_or, bit_and, bit_xor, refl, sym, ap, ◌∙◌, inl, inr, arith, add-zero}
 use Rattle.std.proofs.Math.Path.{fun_ext}
-use Rattle.std.proofs.lemmas.Bool.{cases_lt, cases_Bool, or_cases, or_left, or_right, not-true, not-false, eqb-false, ltb-true, cond-true,
-  cond-false, le-leb, lt-leb, lt-ltb, le-ltb, eqb-true, eq-eqb, and_parts, and_from, and_left, and_right, false_from_ne_true, true≢false}
+use Rattle.std.proofs.lemmas.Bool.{cases_lt, cases_Bool, or_cases, or_left, or_right, not-true, not-false, eqb-false, ltb-true, cond-true}
+use Rattle.std.proofs.lemmas.Bool.{cond-false, le-leb, lt-leb, lt-ltb, le-ltb, eqb-true, eq-eqb, and_parts, and_from, and_left, and_right}
+use Rattle.std.proofs.lemmas.Bool.{false_from_ne_true, true≢false}
 use Rattle.std.proofs.lemmas.Nat.{shr-shr, shr_le, and_le_r}
-use Rattle.std.proofs.lemmas.Nat.Bits.{bit_at-zero, bit_at_and, bit_at_xor, bit_at-lt, bit_at_above, bit_at_cat_low, bit_at_cat_high,
-  bit_at-trailing_zeros}
+use Rattle.std.proofs.lemmas.Nat.Bits.{bit_at-zero, bit_at_and, bit_at_xor, bit_at-lt, bit_at_above, bit_at_cat_low, bit_at_cat_high}
+use Rattle.std.proofs.lemmas.Nat.Bits.{bit_at-trailing_zeros}
 use Rattle.std.specs.List.{list_any, range_with_len}
 use Rattle.std.specs.Int.{w64, bit_at, trailing_zeros}
 use Rattle.c8_screen.specs.Points.{Points, row_has, points_of, sprite, clipped, exclusive_or, meets}
@@ -27,7 +28,7 @@ strip_left byte left x byte_in left_in before = strip_bit byte left x ∙ bit_at
 strip_right : (byte left x : ℕ) → x < 64 → left + 8 ≤ x → bit_at (strip byte left) (63 - x) ≡ 0
 strip_right byte left x x_in past =
     strip_bit byte left x ∙ ap (λ n. bit_at n (left + (63 - x))) (sym (add-zero (byte * 2 ^ 56)))
-        ∙ bit_at_cat_low byte 56 0 (left + (63 - x)) (omega arith) ∙ bit_at-zero (left + (63 - x))
+    ∙ bit_at_cat_low byte 56 0 (left + (63 - x)) (omega arith) ∙ bit_at-zero (left + (63 - x))
 
 strip_inside : (byte left x : ℕ) → x < 64 → left ≤ x → x < left + 8 → bit_at (strip byte left) (63 - x) ≡ bit_at byte (7 - (x - left))
 strip_inside byte left x x_in from to =
@@ -42,10 +43,10 @@ strip_has : (byte left x : ℕ) → byte < 2 ^ 8 → left < 64 → x < 64 → ro
 strip_has byte left x byte_in left_in x_in =
     elim (cases_lt x left) [
       | inl before ↦ ap (λ bit. nat_eq bit 1) (strip_left byte left x byte_in left_in before)
-      ∙ sym (cond-false _ _ _ (and_left _ _ (lt-leb left x before)))
+          ∙ sym (cond-false _ _ _ (and_left _ _ (lt-leb left x before)))
       | inr from ↦ elim (cases_lt x (left + 8)) [
         | inl to ↦ ap (λ bit. nat_eq bit 1) (strip_inside byte left x x_in from to)
-        ∙ sym (cond-true _ _ _ (and_from _ _ (le-leb left x from) (lt-ltb x (left + 8) to)))
+            ∙ sym (cond-true _ _ _ (and_from _ _ (le-leb left x from) (lt-ltb x (left + 8) to)))
         | inr past ↦ ap (λ bit. nat_eq bit 1) (strip_right byte left x x_in past) ∙ sym (cond-false _ _ _ (and_right _ _ (le-ltb x (left + 8) past)))
       ]
     ]
@@ -93,7 +94,7 @@ have_both : (a b x : ℕ) → row_has a x ≡ true → row_has b x ≡ true → 
 have_both a b x left right none =
     let zero_and : bit_and a b ≡ 0 = eqb-true _ _ (not-false _ none) in
     let one : min (bit_at a (63 - x)) (bit_at b (63 - x)) ≡ 0 =
-        sym (bit_at_and a b (63 - x)) ∙ ap (λ n. bit_at n (63 - x)) zero_and ∙ bit_at-zero (63 - x) in
+    sym (bit_at_and a b (63 - x)) ∙ ap (λ n. bit_at n (63 - x)) zero_and ∙ bit_at-zero (63 - x) in
     omega (arith, one, eqb-true _ _ left, eqb-true _ _ right)
 
 -- ---- whether a number in a range passes a test
@@ -174,7 +175,7 @@ module _ (initial rows bytes : List ℕ) (left top count : ℕ) (met : Bool) (le
           | inl to ↦
               let back : top + (y - top) ≡ y = omega arith in
               let row_is : get_or rows y 0 ≡ bit_xor (get_or initial y 0) (strip (get_or bytes (y - top) 0) left) =
-                  rw back at (all.drawn (y - top) (omega arith)) in
+              rw back at (all.drawn (y - top) (omega arith)) in
               let strip_is : row_has (strip (get_or bytes (y - top) 0) left) x ≡ sprite_of bytes left top x y =
               strip_has (get_or bytes (y - top) 0) left x (bytes_in (y - top)) left_in x_in ∙ sym (inside bytes left top x y from to) in
               ap (λ row. row_has row x) row_is ∙ xor_has (get_or initial y 0) (strip (get_or bytes (y - top) 0) left) x
@@ -205,16 +206,16 @@ module _ (initial rows bytes : List ℕ) (left top count : ℕ) (met : Bool) (le
       let y : ℕ = top + found.row in
       let y_in : top + found.row < 32 = omega (arith, found.below) in
       let both = both_have (get_or initial (top + found.row) 0) (strip (get_or bytes found.row 0) left)
-          (strip_lt (get_or bytes found.row 0) left (bytes_in found.row)) found.is in
+      (strip_lt (get_or bytes found.row 0) left (bytes_in found.row)) found.is in
       let place : top + found.row - top ≡ found.row = omega arith in
       let drawn : sprite_of bytes left top both.column (top + found.row) ≡ true =
       inside bytes left top both.column (top + found.row) (omega arith) (omega (arith, found.below))
-          ∙ ap (λ j. has (get_or bytes j 0) left both.column) place
+      ∙ ap (λ j. has (get_or bytes j 0) left both.column) place
       ∙ sym (strip_has (get_or bytes found.row 0) left both.column (bytes_in found.row) left_in both.within) ∙ both.right in
       any_at (λ y. list_any (λ x. points initial x y && clipped (sprite_of bytes left top) x y) (range_with_len 0 64)) 0 32
-          (top + found.row) (omega arith) y_in
+      (top + found.row) (omega arith) y_in
       (any_at (λ x. points initial x (top + found.row) && clipped (sprite_of bytes left top) x (top + found.row)) 0 64 both.column
-          (omega arith) both.within
+      (omega arith) both.within
       (in_both both.column (top + found.row) both.within y_in both.left drawn))
 
   not_in_both : met ≡ false → (x y : ℕ) → x < 64 → y < 32 → row_has (get_or initial y 0) x ≡ true → sprite_of bytes left top x y ≡ true → ⊥
@@ -226,7 +227,7 @@ module _ (initial rows bytes : List ℕ) (left top count : ℕ) (met : Bool) (le
           | inl to ↦
               let back : top + (y - top) ≡ y = omega arith in
               let none : not (nat_eq (bit_and (get_or initial y 0) (strip (get_or bytes (y - top) 0) left)) 0) ≡ false =
-                  rw back at (all.none e (y - top) (omega arith)) in
+              rw back at (all.none e (y - top) (omega arith)) in
               have_both (get_or initial y 0) (strip (get_or bytes (y - top) 0) left) x lit
               (strip_has (get_or bytes (y - top) 0) left x (bytes_in (y - top)) left_in x_in ∙ sym (inside bytes left top x y from to) ∙ drawn) none
         ]
@@ -239,9 +240,9 @@ module _ (initial rows bytes : List ℕ) (left top count : ℕ) (met : Bool) (le
       let x = any_from (λ x. points initial x y.number && clipped (sprite_of bytes left top) x y.number) 0 64 y.passes in
       let parts = and_parts _ _ x.passes in
       let on : (nat_lt x.number 64 && nat_lt y.number 32) ≡ true =
-          and_from _ _ (lt-ltb x.number 64 (omega (arith, x.high))) (lt-ltb y.number 32 (omega (arith, y.high))) in
+      and_from _ _ (lt-ltb x.number 64 (omega (arith, x.high))) (lt-ltb y.number 32 (omega (arith, y.high))) in
       not_in_both e x.number y.number (omega (arith, x.high)) (omega (arith, y.high)) (sym (cond-true _ _ _ on) ∙ parts.0)
-          (sym (cond-true _ _ _ on) ∙ parts.1))
+      (sym (cond-true _ _ _ on) ∙ parts.1))
 
   pub meets_drawn : met ≡ meets (points initial) (clipped (sprite_of bytes left top))
   meets_drawn = elim (cases_Bool met) [ inl e ↦ e ∙ sym (meets_some e) | inr e ↦ e ∙ sym (meets_none e) ]

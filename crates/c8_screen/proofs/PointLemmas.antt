@@ -18,7 +18,7 @@ both_false false = refl
 no_point : (x y : ℕ) → points_of (record { rows = replicate 32 0 }) x y ≡ false
 no_point x y =
     ap (λ row. cond (nat_lt x 64 && nat_lt y 32) (row_has row x) false) (zero_row y)
-        ∙ ap (λ bit. cond (nat_lt x 64 && nat_lt y 32) (nat_eq bit 1) false) (bit_at-zero (63 - x))
+    ∙ ap (λ bit. cond (nat_lt x 64 && nat_lt y 32) (nat_eq bit 1) false) (bit_at-zero (63 - x))
     ∙ both_false (nat_lt x 64 && nat_lt y 32)
 
 pub points_of-dark : points_of (record { rows = replicate 32 0 }) ≡ no_points

@@ -1,6 +1,6 @@
 -- A decimal with one more digit, and decimals that are too large.
-use Rattle.std.proofs.Common.{◌≡◌, ℕ, ◌+◌, ◌-◌, ◌*◌, ◌^◌, ◌<◌, ◌≤◌, true, false, ◌&&◌, ◌==◌, List, [], ◌∷◌, ◌++◌, length, take, drop,
-  get_or, None, Some, refl, ap, ◌∙◌, arith, add-one, append_assoc, length-append}
+use Rattle.std.proofs.Common.{◌≡◌, ℕ, ◌+◌, ◌-◌, ◌*◌, ◌^◌, ◌<◌, ◌≤◌, true, false, ◌&&◌, ◌==◌, List, [], ◌∷◌, ◌++◌, length, take, drop}
+use Rattle.std.proofs.Common.{get_or, None, Some, refl, ap, ◌∙◌, arith, add-one, append_assoc, length-append}
 use Rattle.std.proofs.Math.Seq.{take-suc}
 use Rattle.std.proofs.lemmas.List.{append-nil, take-append-drop}
 use Rattle.std.proofs.lemmas.List.Folds.{list_all-append}
@@ -26,7 +26,7 @@ pub digits_next : (word : List ℕ) (place : ℕ) → place < length word → li
     → list_all is_ascii_digit (take (place + 1) word) ≡ true
 digits_next word place within before here =
     rw (add-one, take-suc word place 0) (list_all-append is_ascii_digit (take place word) (get_or word place 0 ∷ [])
-        ∙ ap (λ b. b && (is_ascii_digit (get_or word place 0) && true)) before ∙ ap (λ b. b && true) here)
+    ∙ ap (λ b. b && (is_ascii_digit (get_or word place 0) && true)) before ∙ ap (λ b. b && true) here)
 
 -- another digit never makes a number smaller
 grows : (text more : List ℕ) → decimal_number text ≤ decimal_number (text ++ more)

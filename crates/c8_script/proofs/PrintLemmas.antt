@@ -1,7 +1,7 @@
 -- Printed texts, one after another.
 use Rattle.c8_spectator.specs.declared.error.NotTaken.{NotTaken}
-use Rattle.std.proofs.Common.{◌≡◌, codes, OnOk, Result, Ok, Err, ℕ, ◌+◌, ◌<◌, ◌≤◌, min, List, [], ◌∷◌, ◌++◌, length, take, drop, get_or,
-  Option, Some, None, refl, sym, ap, subst, ◌∙◌}
+use Rattle.std.proofs.Common.{◌≡◌, codes, OnOk, Result, Ok, Err, ℕ, ◌+◌, ◌<◌, ◌≤◌, min, List, [], ◌∷◌, ◌++◌, length, take, drop, get_or}
+use Rattle.std.proofs.Common.{Option, Some, None, refl, sym, ap, subst, ◌∙◌}
 use Rattle.std.proofs.lemmas.List.{append-nil, append_assoc, drop_all, flat_map_more, take_more}
 use Rattle.std.specs.Fmt.{decimal}
 use Rattle.std.specs.List.{flat_map}
@@ -78,7 +78,7 @@ pub tallies_all : (u v : Option (List ℕ)) (players : ℕ) (tallies : List Tall
 tallies_all u v players tallies i all before =
     let text : before.text ≡ tallies_text players 1 tallies =
     sym (append-nil before.text) ∙ ap (λ (l : List Tally). before.text ++ tallies_text players (i + 1) l) (sym (drop_all i tallies all))
-        ∙ before.goes_on in
+    ∙ before.goes_on in
     subst (λ (t : List ℕ). Appends u v t) text before.appended
 
 -- the counts so far, and one more
@@ -89,7 +89,7 @@ counts_next u v w counts i lt before appended =
     let text : flat_map count_text (take i counts) ++ count_text (get_or counts i 0) ≡ flat_map count_text (take (i + 1) counts) =
     flat_map_more count_text [] (take i counts) (get_or counts i 0) ∙ ap (flat_map count_text) (sym (take_more counts i 0 lt)) in
     subst (λ (t : List ℕ). Appends u w t) text
-        (appends_then u v w (flat_map count_text (take i counts)) (count_text (get_or counts i 0)) before appended)
+    (appends_then u v w (flat_map count_text (take i counts)) (count_text (get_or counts i 0)) before appended)
 
 -- ---- one answer
 
@@ -112,9 +112,11 @@ pub numbered : {T E : Type 0} → (u v w : Option (List ℕ)) (number : ℕ) (an
     → Appends u v (decimal number ++ codes " ")
     → OnOk result ((name : List ℕ) × Appends v w (answer_text name answer))
     → OnOk result ((text : List ℕ) × IsLine number answer text × Appends u w text)
-numbered u v w number answer (Ok done) first rest =
-    (decimal number ++ codes " " ++ answer_text rest.0 answer, (rest.0, refl),
-        appends_then u v w (decimal number ++ codes " ") (answer_text rest.0 answer) first rest.1)
+numbered u v w number answer (Ok done) first rest = (
+  decimal number ++ codes " " ++ answer_text rest.0 answer,
+  (rest.0, refl),
+  appends_then u v w (decimal number ++ codes " ") (answer_text rest.0 answer) first rest.1,
+)
 numbered u v w number answer (Err error) first rest = rest
 
 -- ---- one player
@@ -130,7 +132,7 @@ tally_told u v w players player tally shown (Ok done) is first rest =
     let held = line (flat_map count_text (take (min players 4) tally.held) ∷ []) in
     let counts : Appends v w held = subst (λ (k : ℕ). Appends v w (line (flat_map count_text (take k tally.held) ∷ []))) is rest in
     let front = codes "player " ++ (decimal player ++
-        (codes " now " ++ (decimal tally.now ++ (codes " confirmed " ++ (decimal tally.confirmed ++ codes " held"))))) in
+    (codes " now " ++ (decimal tally.now ++ (codes " confirmed " ++ (decimal tally.confirmed ++ codes " held"))))) in
     let text : front ++ held ≡ tally_text players player tally = simp append_assoc in
     subst (λ (t : List ℕ). Appends u w t) text (appends_then u v w front held first counts)
 tally_told u v w players player tally shown (Err error) is first rest = rest

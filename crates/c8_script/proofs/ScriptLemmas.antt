@@ -1,6 +1,6 @@
 -- The code reads the words of a line as what they spell, and as nothing else.
-use Rattle.std.proofs.Common.{◌≡◌, ℕ, suc, zero, ◌+◌, ◌-◌, ◌<◌, ◌≤◌, ◌⊎◌, Bool, true, false, ◌&&◌, cond, nat_lt, Option, Some, None,
-  option_map, List, [], ◌∷◌, length, get_or, codes, refl, sym, ap, subst, ◌∙◌, arith, lit≤, inl, inr}
+use Rattle.std.proofs.Common.{◌≡◌, ℕ, suc, zero, ◌+◌, ◌-◌, ◌<◌, ◌≤◌, ◌⊎◌, Bool, true, false, ◌&&◌, cond, nat_lt, Option, Some, None}
+use Rattle.std.proofs.Common.{option_map, List, [], ◌∷◌, length, get_or, codes, refl, sym, ap, subst, ◌∙◌, arith, lit≤, inl, inr}
 use Rattle.std.proofs.Math.Bridge.{le_prop}
 use Rattle.std.proofs.lemmas.Bool.{and_parts, cond-true, le-leb, leb-true}
 use Rattle.std.proofs.lemmas.Option.{same_Some}
@@ -19,8 +19,9 @@ use Rattle.c8_world.specs.declared.event.Act.TheVariants.{Open, Tick, Say, Give,
 use Rattle.c8_world.specs.declared.event.Event.{Event}
 use Rattle.c8_world.specs.declared.event.Event.TheVariants.{Do, Stop, Fail}
 use Rattle.c8_script.specs.Script.{player_word, watcher_word, may_be_held, SpellsKeys, SpellsNumber, kind_words, SpellsAct, WordsSpell}
-use Rattle.c8_script.specs.checked.ScriptWords.{player_in, player_of, watcher_in, watcher_of, keys_in, number_in, kind_in, act_of, said_of,
-  act_or, shown_in, held_in, act_in, stop_of, stop_in, fail_of, fail_in, stop_or_fail, act_or_other, event_in}
+use Rattle.c8_script.specs.checked.ScriptWords.{player_in, player_of, watcher_in, watcher_of, keys_in, number_in, kind_in, act_of, said_of}
+use Rattle.c8_script.specs.checked.ScriptWords.{act_or, shown_in, held_in, act_in, stop_of, stop_in, fail_of, fail_in, stop_or_fail}
+use Rattle.c8_script.specs.checked.ScriptWords.{act_or_other, event_in}
 
 -- ---- choices
 
@@ -147,17 +148,17 @@ number_read word number spelt =
     let small : number < 18446744073709551616 = spelt.2 in
     let fits : nat_lt (decimal_number word) 18446744073709551616 ≡ true = le-leb (suc (decimal_number word)) 18446744073709551616 (omega arith) in
     cond-true (is_decimal word && nat_lt (decimal_number word) 18446744073709551616) (Some (decimal_number word)) None
-        (ap (λ b. b && nat_lt (decimal_number word) 18446744073709551616) spelt.0 ∙ fits)
+    (ap (λ b. b && nat_lt (decimal_number word) 18446744073709551616) spelt.0 ∙ fits)
     ∙ ap Some value
 
 number_spelt : (word : List ℕ) (number : ℕ) → number_in word ≡ Some number → SpellsNumber word number
 number_spelt word number is = elim (chosen (is_decimal word && nat_lt (decimal_number word) 18446744073709551616)
     (Some (decimal_number word)) None number is) [
-  | inl here ↦ let both = and_parts (is_decimal word) (nat_lt (decimal_number word) 18446744073709551616) here.0 in
-      let same = same_Some (decimal_number word) number here.1 in
-      (both.0, same, omega (arith, same, leb-true (suc (decimal_number word)) 18446744073709551616 both.1))
-  | inr none ↦ absurd (cc)
-]
+      | inl here ↦ let both = and_parts (is_decimal word) (nat_lt (decimal_number word) 18446744073709551616) here.0 in
+          let same = same_Some (decimal_number word) number here.1 in
+          (both.0, same, omega (arith, same, leb-true (suc (decimal_number word)) 18446744073709551616 both.1))
+      | inr none ↦ absurd (cc)
+    ]
 
 -- ---- what is said
 
@@ -167,8 +168,8 @@ player_kind : (make : Player → Kind) (text what word : List ℕ) (kind : Kind)
 player_kind make text what word kind says same is =
     let player = mapped make (player_in word) kind is in
     subst (λ k. kind_words k ≡ what ∷ word ∷ []) player.2
-        (says player.0 ∙ ap (λ w. w ∷ player_word player.0 ∷ []) (sym (keyword what text same))
-        ∙ ap (λ w. what ∷ w ∷ []) (sym (player_spelt word player.0 player.1)))
+    (says player.0 ∙ ap (λ w. w ∷ player_word player.0 ∷ []) (sym (keyword what text same))
+    ∙ ap (λ w. what ∷ w ∷ []) (sym (player_spelt word player.0 player.1)))
 
 word_kind : (made : Kind) (text what : List ℕ) (kind : Kind) → kind_words made ≡ text ∷ [] → bytes_eq what text ≡ true
     → ◌≡◌ {A = Option Kind} (Some made) (Some kind) → kind_words kind ≡ what ∷ []
@@ -351,7 +352,7 @@ said_read : (player to : Player) (what : Option Kind) (kind : Kind) (other : Opt
     → act_or (said_of (player_in (player_word player)) (player_in (player_word to)) what) other ≡ Some (Say player to kind)
 said_read player to what kind other is =
     ap (λ o. act_or (said_of o (player_in (player_word to)) what) other) (player_read player)
-        ∙ ap (λ o. act_or (act_of (Say player) o what) other) (player_read to)
+    ∙ ap (λ o. act_or (act_of (Say player) o what) other) (player_read to)
     ∙ ap (λ o. act_or (option_map (Say player to) o) other) is
 
 say_read : (player to : Player) (kind : Kind)
@@ -373,7 +374,7 @@ act_read words (Decide player) spelt = ap act_in spelt ∙ ap (option_map Decide
 act_read words (Check player) spelt = ap act_in spelt ∙ ap (option_map Check) (player_read player)
 act_read words (Tick player keys) spelt =
     ap act_in spelt.1 ∙ ap (λ o. act_of Tick o (keys_in spelt.0)) (player_read player)
-        ∙ ap (option_map (Tick player)) (keys_read spelt.0 keys spelt.2)
+    ∙ ap (option_map (Tick player)) (keys_read spelt.0 keys spelt.2)
 act_read words (Give number player) spelt =
     let others = act_of Hear (number_in spelt.0) (watcher_in (player_word player)) in
     ap act_in spelt.1 ∙ ap (λ o. act_or (act_of Give o (player_in (player_word player))) others) (number_read spelt.0 number spelt.2)
@@ -381,16 +382,16 @@ act_read words (Give number player) spelt =
 act_read words (Say player to kind) spelt = ap act_in spelt ∙ say_read player to kind
 act_read words (Show watcher) spelt =
     ap act_in spelt ∙ ap (λ to. act_or (said_of (player_in (codes "1")) to (kind_in (codes "show") []))
-        (shown_in (codes "1") (watcher_word watcher) (codes "show") [])) (no_player watcher)
+    (shown_in (codes "1") (watcher_word watcher) (codes "show") [])) (no_player watcher)
     ∙ ap (option_map Show) (watcher_read watcher)
 act_read words (Hear number watcher) spelt =
     ap act_in spelt.1 ∙ ap (λ o. act_or (act_of Give o (player_in (watcher_word watcher)))
-        (act_of Hear o (watcher_in (watcher_word watcher)))) (number_read spelt.0 number spelt.2)
+    (act_of Hear o (watcher_in (watcher_word watcher)))) (number_read spelt.0 number spelt.2)
     ∙ ap (λ o. act_or (option_map (Give number) o) (option_map (Hear number) (watcher_in (watcher_word watcher)))) (no_player watcher)
     ∙ ap (option_map (Hear number)) (watcher_read watcher)
 act_read words (Seen watcher) spelt =
     ap act_in spelt ∙ ap (λ from. act_or (said_of from (player_in (codes "1")) (kind_in (codes "seen") []))
-        (shown_in (watcher_word watcher) (codes "1") (codes "seen") [])) (no_player watcher)
+    (shown_in (watcher_word watcher) (codes "1") (codes "seen") [])) (no_player watcher)
     ∙ ap (option_map Seen) (watcher_read watcher)
 act_read words (Fresh watcher) spelt = ap act_in spelt ∙ ap (option_map Fresh) (watcher_read watcher)
 
@@ -421,7 +422,7 @@ stop_spelt (verb ∷ calls ∷ []) event is = absurd (cc)
 stop_spelt (verb ∷ calls ∷ pick ∷ act) event is =
     elim (chosen (bytes_eq verb (codes "stop")) _ _ event is) [
       | inl here ↦ let inside = chained (λ a. option_and_then (λ k. option_map (Stop a k) (number_in pick)) (number_in calls))
-      (held_in (act_in act)) event here.1 in
+          (held_in (act_in act)) event here.1 in
           let may = held_spelt act (act_in act) inside.0 refl inside.1 in
           let k = chained (λ k. option_map (Stop inside.0 k) (number_in pick)) (number_in calls) event inside.2 in
           let n = mapped (Stop inside.0 k.0) (number_in pick) event k.2 in
@@ -481,7 +482,7 @@ fail_read : (act : Act) (calls : ℕ) (of_calls : List ℕ) (of_act : List (List
     → fail_in (codes "fail" ∷ of_calls ∷ of_act) ≡ Some (Fail act calls)
 fail_read act calls of_calls of_act calls_are act_is may =
     ap (λ a. fail_of a (number_in of_calls)) (held_read act (act_in of_act) (act_read of_act act act_is) may)
-        ∙ ap (option_map (Fail act)) (number_read of_calls calls calls_are)
+    ∙ ap (option_map (Fail act)) (number_read of_calls calls calls_are)
 
 pub words_read : (words : List (List ℕ)) (event : Event) → WordsSpell words event → event_in words ≡ Some event
 words_read words (Do act) spelt = ap (λ a. act_or_other a (stop_or_fail (stop_in words) (fail_in words))) (act_read words act spelt)

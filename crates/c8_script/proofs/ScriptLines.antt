@@ -1,6 +1,6 @@
 -- The words of a line are those between its spaces, and the events of a script are those of its lines.
-use Rattle.std.proofs.Common.{◌≡◌, ℕ, ◌+◌, ◌⊎◌, inl, inr, Bool, true, false, not, ◌&&◌, ◌==◌, nat_lt, Some, None, List, [], ◌∷◌, ◌++◌,
-  length, get_or, map, refl, sym, ap, subst, ◌∙◌, arith}
+use Rattle.std.proofs.Common.{◌≡◌, ℕ, ◌+◌, ◌⊎◌, inl, inr, Bool, true, false, not, ◌&&◌, ◌==◌, nat_lt, Some, None, List, [], ◌∷◌, ◌++◌}
+use Rattle.std.proofs.Common.{length, get_or, map, refl, sym, ap, subst, ◌∙◌, arith}
 use Rattle.hex.specs.Hex.{is_hex_digit}
 use Rattle.std.specs.Char.{is_ascii_digit}
 use Rattle.hex.proofs.HexLemmas.{IsOk-decode_sized}
@@ -22,8 +22,8 @@ use Rattle.c8_world.specs.declared.event.Act.TheVariants.{Open, Tick, Say, Give,
 use Rattle.c8_world.specs.declared.event.Event.{Event}
 use Rattle.c8_world.specs.declared.event.Event.TheVariants.{Do, Stop, Fail}
 use Rattle.c8_wire.specs.declared.watcher.Watcher.{Watcher}
-use Rattle.c8_script.specs.Script.{player_word, watcher_word, SpellsNumber, kind_words, SpellsAct, WordsSpell, SpellsEvent, not_skipped,
-  event_lines, IsFaultOfScript}
+use Rattle.c8_script.specs.Script.{player_word, watcher_word, SpellsNumber, kind_words, SpellsAct, WordsSpell, SpellsEvent, not_skipped}
+use Rattle.c8_script.specs.Script.{event_lines, IsFaultOfScript}
 use Rattle.c8_script.specs.checked.ScriptWords.{event_in, event_of}
 use Rattle.c8_script.specs.declared.error.ScriptError.{ScriptError}
 use Rattle.c8_script.specs.declared.error.ScriptError.TheVariants.{Line, Memory}
@@ -53,7 +53,7 @@ watcher_no_space watcher = ap (λ b. not b && true) (ne_eqb (48 + watcher.number
 number_no_space : (word : List ℕ) (number : ℕ) → SpellsNumber word number → HasNoSpace word
 number_no_space word number spelt =
     no_space is_ascii_digit word refl (AllPass-from_list_all is_ascii_digit word
-        (and_parts (nat_lt 0 (length word) && nat_le (length word) 20) (list_all is_ascii_digit word) spelt.0).1)
+    (and_parts (nat_lt 0 (length word) && nat_le (length word) 20) (list_all is_ascii_digit word) spelt.0).1)
 
 keys_no_space : (word : List ℕ) → is_keys_text word ≡ true → HasNoSpace word
 keys_no_space word keys = no_space is_hex_digit word refl ((IsOk-decode_sized word 2).0 keys).1
@@ -139,8 +139,11 @@ pub line_read : (line : List ℕ) (event : Event) → SpellsEvent line event →
 line_read line event (words, is, spelt) = ap event_of is ∙ ap event_in (cut_again words event spelt) ∙ words_read words event spelt
 
 pub line_spelt : (line : List ℕ) (event : Event) → event_of line ≡ Some event → SpellsEvent line event
-line_spelt line event is = (slice_split (λ byte. byte == 32) line, sym (join_with_byte-slice_split 32 line),
-    words_spelt (slice_split (λ byte. byte == 32) line) event is)
+line_spelt line event is = (
+  slice_split (λ byte. byte == 32) line,
+  sym (join_with_byte-slice_split 32 line),
+  words_spelt (slice_split (λ byte. byte == 32) line) event is,
+)
 
 -- ---- scripts
 
@@ -173,20 +176,20 @@ no_other (line ∷ more) (event ∷ events) (another ∷ others) read (here, res
 pub one_skipped : (seen : List (List ℕ)) (line : List ℕ) → is_skipped line ≡ true → not_skipped (seen ++ line ∷ []) ≡ not_skipped seen
 one_skipped seen line skipped =
     filter-append (λ l. not (is_skipped l)) seen (line ∷ [])
-        ∙ ap (λ ls. not_skipped seen ++ ls) (cond-false (not (is_skipped line)) _ _ (ap not skipped)) ∙ append-nil (not_skipped seen)
+    ∙ ap (λ ls. not_skipped seen ++ ls) (cond-false (not (is_skipped line)) _ _ (ap not skipped)) ∙ append-nil (not_skipped seen)
 
 one_kept : (seen more : List (List ℕ)) (line : List ℕ) → is_skipped line ≡ false
     → not_skipped (seen ++ line ∷ more) ≡ not_skipped seen ++ line ∷ not_skipped more
 one_kept seen more line kept =
     filter-append (λ l. not (is_skipped l)) seen (line ∷ more)
-        ∙ ap (λ ls. not_skipped seen ++ ls) (cond-true (not (is_skipped line)) _ _ (ap not kept))
+    ∙ ap (λ ls. not_skipped seen ++ ls) (cond-true (not (is_skipped line)) _ _ (ap not kept))
 
 pub one_read : (seen : List (List ℕ)) (line : List ℕ) (events : List Event) (event : Event) → is_skipped line ≡ false
     → event_of line ≡ Some event → map event_of (not_skipped seen) ≡ map Some events
     → map event_of (not_skipped (seen ++ line ∷ [])) ≡ map Some (events ++ event ∷ [])
 one_read seen line events event kept is read =
     ap (map event_of) (one_kept seen [] line kept) ∙ map-append event_of (not_skipped seen) (line ∷ [])
-        ∙ ap (λ before. before ++ event_of line ∷ []) read ∙ ap (λ e. map Some events ++ e ∷ []) is
+    ∙ ap (λ before. before ++ event_of line ∷ []) read ∙ ap (λ e. map Some events ++ e ∷ []) is
     ∙ sym (map-append Some events (event ∷ []))
 
 -- a line that is not skipped and spells no event is a fault

@@ -39,8 +39,15 @@ begun_out rules made left events answers is_new out first = record {
   at = out.at;
   world = out.then;
   runs = new_runs rules made out.before answers out.then is_new out.runs;
-  turned = inr (record { before = first.before; after = first.after; at = first.at; made = made; is_new = is_new; left = first.mid;
-      turns = first.turns });
+  turned = inr (record {
+    before = first.before;
+    after = first.after;
+    at = first.at;
+    made = made;
+    is_new = is_new;
+    left = first.mid;
+    turns = first.turns;
+  });
 }
 
 -- all events were run

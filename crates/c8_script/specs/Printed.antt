@@ -2,8 +2,8 @@
 use Rattle.std.specs.Prelude.{◌≡◌, ℕ, ◌+◌, List, [], ◌∷◌, ◌++◌, length, min, take, codes, Bool, true, false, Option, Some, None, Ok, Err}
 use Rattle.std.specs.List.{flat_map}
 use Rattle.std.specs.Fmt.{decimal}
-use Rattle.c8_refusals.specs.Errors.{open_number_of, tick_number_of, refused_number_of, unsayable_number_of, leave_number_of,
-  decide_number_of, check_number_of}
+use Rattle.c8_refusals.specs.Errors.{open_number_of, tick_number_of, refused_number_of, unsayable_number_of, leave_number_of}
+use Rattle.c8_refusals.specs.Errors.{decide_number_of, check_number_of}
 use Rattle.c8_refusals.specs.declared.error.Refused.{Refused}
 use Rattle.c8_refusals.specs.declared.error.Refused.TheVariants as refusals
 use Rattle.c8_peer.specs.declared.check.Check.{Check}
@@ -17,8 +17,8 @@ use Rattle.c8_spectator.specs.declared.taken.Taken.TheVariants as takens
 use Rattle.c8_spectator.specs.Errors.{number_of as watch_number_of}
 use Rattle.c8_wire.specs.Errors.{number_of as wire_number_of}
 use Rattle.c8_world.specs.declared.answer.Answer.{Answer}
-use Rattle.c8_world.specs.declared.answer.Answer.TheVariants.{Opened, Up, Ticked, Said, Delivered, NoSuch, Left, Decided, Checked, Watched,
-  Spoken, Anew, Down, Stopped}
+use Rattle.c8_world.specs.declared.answer.Answer.TheVariants.{Opened, Up, Ticked, Said, Delivered, NoSuch, Left, Decided, Checked, Watched}
+use Rattle.c8_world.specs.declared.answer.Answer.TheVariants.{Spoken, Anew, Down, Stopped}
 use Rattle.c8_world.specs.declared.answer.Counts.{Counts}
 use Rattle.c8_world.specs.declared.ends.Tally.{Tally}
 use Rattle.c8_script.specs.declared.watched.Watched.{Watched as RowsTold}

@@ -104,7 +104,7 @@ IsOutcomeOfSim game script (Err unfinished) = IsUnfinished game script unfinishe
 abbrev pub IsPrinted : Result Transcript Unfinished → List ℕ → Type 0
 IsPrinted (Ok transcript) text =
     (answers : List ℕ) × AreLines 1 transcript.answers.items answers
-        × (text ≡ answers ++ ends_text transcript.ends.players.items transcript.watched transcript.ends.agree)
+    × (text ≡ answers ++ ends_text transcript.ends.players.items transcript.watched transcript.ends.agree)
 IsPrinted (Err unfinished) text = AreLines 1 unfinished.answers.items text
 
 abbrev pub part_of_unfinished : Unfinished → Part

@@ -1,6 +1,6 @@
 -- What is before the seal of a packet, and that what is sealed opens.
-use Rattle.std.proofs.Common.{inl, inr, ◌≡◌, ◌≢◌, ◌≤◌, ◌<◌, ◌^◌, ℕ, ◌+◌, ◌-◌, Bool, true, List, [], ◌∷◌, ◌++◌, length, take, drop, bytes_eq,
-  Option, Some, if◌then◌else◌, sym, ap, ◌∙◌, append_assoc, arith}
+use Rattle.std.proofs.Common.{inl, inr, ◌≡◌, ◌≢◌, ◌≤◌, ◌<◌, ◌^◌, ℕ, ◌+◌, ◌-◌, Bool, true, List, [], ◌∷◌, ◌++◌, length, take, drop, bytes_eq}
+use Rattle.std.proofs.Common.{Option, Some, if◌then◌else◌, sym, ap, ◌∙◌, append_assoc, arith}
 use Rattle.std.proofs.lemmas.List.{append-nil}
 use Rattle.std.proofs.lemmas.List.Concat.{flat_map-append}
 use Rattle.std.proofs.lemmas.Nat.{from_be_bytes-to_be_bytes_8}
@@ -93,7 +93,7 @@ sealed_opens keys key counter datagram has few =
     let same : bytes_eq packet (sealed key (counter_in packet) (datagram_in packet)) ≡ true =
     (bytes_eq-Decides packet (sealed key (counter_in packet) (datagram_in packet))).1
     (sym (ap (λ (n : ℕ). sealed key n (datagram_in packet)) (counter_is key counter datagram few)
-        ∙ ap (sealed key counter) (datagram_is key counter datagram))) in
+    ∙ ap (sealed key counter) (datagram_is key counter datagram))) in
     ap (λ (k : Option (List ℕ)). opened_by k packet) (ap (key_for keys) (datagram_is key counter datagram) ∙ has)
     ∙ ap (λ (b : Bool). if b then datagram_in packet ∷ [] else []) same
     ∙ ap (λ (d : List ℕ). d ∷ []) (datagram_is key counter datagram)
@@ -104,4 +104,4 @@ pub may_take : (keys : SealKeys) (before after : List (List ℕ)) (key : List �
 may_take keys before after key counter datagram packet has few is (inl same) = inl (ap (opened keys) same)
 may_take keys before after key counter datagram packet has few is (inr more) =
     inr (ap (opened keys) more ∙ one_more keys before packet
-        ∙ ap (λ (rest : List (List ℕ)). opened keys before ++ rest) (ap (datagram_of keys) is ∙ sealed_opens keys key counter datagram has few))
+    ∙ ap (λ (rest : List (List ℕ)). opened keys before ++ rest) (ap (datagram_of keys) is ∙ sealed_opens keys key counter datagram has few))

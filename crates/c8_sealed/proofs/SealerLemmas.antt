@@ -1,6 +1,6 @@
 -- What becomes of a sealer when it takes a packet.
-use Rattle.std.proofs.Common.{inl, inr, ◌≡◌, ◌≢◌, ◌≤◌, ◌<◌, ℕ, zero, suc, ◌+◌, ◌-◌, ◌==◌, ◌⊎◌, Bool, true, false, List, [], ◌∷◌, ◌++◌,
-  length, slice_index_or, slice_set, Result, Ok, Err, if◌then◌else◌, refl, sym, ap, ◌∙◌, subst, arith}
+use Rattle.std.proofs.Common.{inl, inr, ◌≡◌, ◌≢◌, ◌≤◌, ◌<◌, ℕ, zero, suc, ◌+◌, ◌-◌, ◌==◌, ◌⊎◌, Bool, true, false, List, [], ◌∷◌, ◌++◌}
+use Rattle.std.proofs.Common.{length, slice_index_or, slice_set, Result, Ok, Err, if◌then◌else◌, refl, sym, ap, ◌∙◌, subst, arith}
 use Rattle.std.proofs.lemmas.Bool.Decides.{Decides-eqb}
 use Rattle.std.proofs.lemmas.List.{append-nil, get_or-set_same, get_or-set_other, get_or_default, set-get_or}
 use Rattle.std.proofs.lemmas.List.Elements.{Contains-push_cases}
@@ -31,7 +31,7 @@ of_seat : (seat : ℕ) (taken : List GivenValue) (given : GivenValue) → given.
     → counters_of seat (taken ++ given ∷ []) ≡ counters_of seat taken ++ given.counter ∷ []
 of_seat seat taken given same =
     counters_more seat taken given ∙ ap (λ (b : Bool). counters_of seat taken ++ (if b then given.counter ∷ [] else []))
-        ((Decides-eqb given.from seat).1 same)
+    ((Decides-eqb given.from seat).1 same)
 
 is_false : (b : Bool) → (b ≡ true → ⊥) → b ≡ false
 is_false true never = absurd (never refl)
@@ -57,13 +57,13 @@ seen_more seen taken given size some few are seat from_one to_six =
     by_seat (given.from == seat) given.from seat _ refl
     (λ same.
     ap (λ (n : ℕ). slice_index_or (slice_set seen (given.from - 1) (slice_index_or seen (given.from - 1) [] ++ given.counter ∷ [])) (n - 1)
-        []) (sym same)
+    []) (sym same)
     ∙ get_or-set_same seen (given.from - 1) (slice_index_or seen (given.from - 1) [] ++ given.counter ∷ []) [] (omega (arith, size, some, few))
     ∙ ap (λ (counters : List ℕ). counters ++ given.counter ∷ []) (are given.from some few ∙ ap (λ (n : ℕ). counters_of n taken) same)
     ∙ sym (of_seat seat taken given same))
     (λ other.
     get_or-set_other seen (given.from - 1) (seat - 1) (slice_index_or seen (given.from - 1) [] ++ given.counter ∷ []) []
-        (λ same. other (omega (arith, same, some, from_one)))
+    (λ same. other (omega (arith, same, some, from_one)))
     ∙ are seat from_one to_six
     ∙ sym (of_other seat taken given other))
 
@@ -107,7 +107,7 @@ module _ (seat : ℕ) where
       (by_seat (given.from == seat) given.from seat (AreOnce (counters_of seat (old.taken ++ given ∷ []))) refl
       (λ same. subst AreOnce (sym (of_seat seat old.taken given same))
       (once_more (counters_of seat old.taken) given.counter once
-          (λ c has. (is.1 c (subst (λ (n : ℕ). Contains (counters_of n old.taken) c) (sym same) has)).0)))
+      (λ c has. (is.1 c (subst (λ (n : ℕ). Contains (counters_of n old.taken) c) (sym same) has)).0)))
       (λ other. subst AreOnce (sym (of_other seat old.taken given other)) once))
   once_step old packet (Err NotSealed) new once is = let P : SealerValue → Type 0 =
       λ (s : SealerValue). AreOnce (counters_of seat s.taken) in subst P (sym is.1) once
@@ -128,7 +128,7 @@ module _ (given : GivenValue) where
       → IsTaking old packet answer new → Contains new.taken given → Contains old.taken given ⊎ IsFor old.seal packet given
   sealed_step old packet (Ok one) new is has =
       elim (Contains-push_cases old.taken one given (subst (λ (s : SealerValue). Contains s.taken given) is.2 has))
-          [ inl before ↦ inl before | inr same ↦ inr (subst (IsFor old.seal packet) same is.0) ]
+      [ inl before ↦ inl before | inr same ↦ inr (subst (IsFor old.seal packet) same is.0) ]
   sealed_step old packet (Err NotSealed) new is has = inl (subst (λ (s : SealerValue). Contains s.taken given) is.1 has)
   sealed_step old packet (Err SeenBefore) new is has = inl (subst (λ (s : SealerValue). Contains s.taken given) is.1 has)
 
@@ -143,7 +143,7 @@ module _ (given : GivenValue) where
   sealed_over [] old new are has = inl (subst (λ (s : SealerValue). Contains s.taken given) are has)
   sealed_over (packet ∷ came) old new are has = elim (sealed_over came are.1 new are.3 has) [
     | inl before ↦ elim (sealed_step old packet are.0 are.1 are.2 before)
-    [ inl older ↦ inl older | inr is ↦ inr (packet, (0, omega arith, refl), is) ]
+        [ inl older ↦ inl older | inr is ↦ inr (packet, (0, omega arith, refl), is) ]
     | inr later ↦ inr (
       later.0,
       tail_in came packet later.0 later.1,

@@ -1,6 +1,6 @@
 -- What becomes of the marks of a window when a counter is taken.
-use Rattle.std.proofs.Common.{◌≡◌, ◌≢◌, ◌+◌, ◌<◌, ◌≤◌, ◌%◌, inl, inr, ℕ, Bool, true, false, List, [], ◌∷◌, ◌++◌, length, slice_index_or,
-  slice_set, replicate, sym, ap, ◌∙◌, subst, refl, arith}
+use Rattle.std.proofs.Common.{◌≡◌, ◌≢◌, ◌+◌, ◌<◌, ◌≤◌, ◌%◌, inl, inr, ℕ, Bool, true, false, List, [], ◌∷◌, ◌++◌, length, slice_index_or}
+use Rattle.std.proofs.Common.{slice_set, replicate, sym, ap, ◌∙◌, subst, refl, arith}
 use Rattle.std.proofs.lemmas.Bool.{cases_lt}
 use Rattle.std.proofs.lemmas.List.{get_or-set_same, get_or-set_other, get_or-replicate}
 use Rattle.std.proofs.lemmas.List.Elements.{Contains-append_left, Contains-push, Contains-push_cases}
@@ -50,7 +50,7 @@ module _ (taken : List ℕ) (counter c : ℕ) (marks : List Bool) (size : length
       × (Contains (taken ++ counter ∷ []) c → mark_of (slice_set marks (counter % 1024) true) c ≡ true)
   itself same =
       let P : ℕ → Type 0 = λ (x : ℕ). (mark_of (slice_set marks (counter % 1024) true) x ≡ true → Contains (taken ++ counter ∷ []) x)
-          × (Contains (taken ++ counter ∷ []) x → mark_of (slice_set marks (counter % 1024) true) x ≡ true) in
+      × (Contains (taken ++ counter ∷ []) x → mark_of (slice_set marks (counter % 1024) true) x ≡ true) in
       subst P (sym same) (λ set. Contains-push taken counter, λ has. marked_itself marks counter size)
 
 -- ---- a counter within the window that was not taken
@@ -72,11 +72,11 @@ module _ (greatest counter : ℕ) (marks : List Bool) (taken : List ℕ) (seen :
     upper = λ c has. elim (Contains-push_cases taken counter c has) [ inl old ↦ seen.upper c old | inr same ↦ omega (arith, same, below) ];
     marked = λ c few close. elim (cases_lt c counter) [
       | inl less ↦ stays taken counter c marks size (λ same. omega (arith, same, less))
-      (other_place c counter less (omega (arith, below, close))) (seen.marked c few close)
+          (other_place c counter less (omega (arith, below, close))) (seen.marked c few close)
       | inr most ↦ elim (eq-or-lt_of_le most) [
         | inl same ↦ itself taken counter c marks size (sym same)
         | inr less ↦ stays taken counter c marks size (λ same. omega (arith, same, less))
-        (other_place_back counter c less (omega (arith, few, near))) (seen.marked c few close)
+            (other_place_back counter c less (omega (arith, few, near))) (seen.marked c few close)
       ]
     ];
   }
@@ -90,8 +90,11 @@ too_old greatest counter marks taken seen far new = let few = (new greatest seen
 
 module _ (greatest counter : ℕ) (marks after : List Bool) (taken : List ℕ) (seen : AreMarked greatest marks taken) (above : greatest < counter) where
   pub is_newer : IsNew taken counter
-  is_newer c has = (λ same. let most = seen.upper c has in omega (arith, most, above, same), let most = seen.upper c has in
-      omega (arith, most, above))
+  is_newer c has = (
+    λ same. let most = seen.upper c has in omega (arith, most, above, same),
+    let most = seen.upper c has in
+        omega (arith, most, above),
+  )
 
   pub newer : length after ≡ 1024 → ((c : ℕ) → greatest < c → c ≤ counter → counter < c + 1024 → mark_of after c ≡ false)
       → ((c : ℕ) → c ≤ greatest → counter < c + 1024 → mark_of after c ≡ mark_of marks c)
@@ -103,12 +106,16 @@ module _ (greatest counter : ℕ) (marks after : List Bool) (taken : List ℕ) (
     marked = λ c few close. elim (eq-or-lt_of_le few) [
       | inl same ↦ itself taken counter c after size same
       | inr less ↦ stays taken counter c after size (λ same. omega (arith, same, less)) (other_place c counter less close)
-      (elim (cases_lt greatest c) [
-        | inl passed ↦ (λ set. absurd (not_false (mark_of after c) set (cleared c passed few close)),
-        λ has. absurd (let most = seen.upper c has in omega (arith, most, passed)))
-        | inr within ↦ (λ set. (seen.marked c within (omega (arith, above, close))).0 (sym (kept c within close) ∙ set),
-        λ has. kept c within close ∙ (seen.marked c within (omega (arith, above, close))).1 has)
-      ])
+          (elim (cases_lt greatest c) [
+            | inl passed ↦ (
+              λ set. absurd (not_false (mark_of after c) set (cleared c passed few close)),
+              λ has. absurd (let most = seen.upper c has in omega (arith, most, passed)),
+            )
+            | inr within ↦ (
+              λ set. (seen.marked c within (omega (arith, above, close))).0 (sym (kept c within close) ∙ set),
+              λ has. kept c within close ∙ (seen.marked c within (omega (arith, above, close))).1 has,
+            )
+          ])
     ];
   }
 
@@ -126,7 +133,7 @@ first counter marks size unset = record {
   marked = λ c few close. elim (eq-or-lt_of_le few) [
     | inl same ↦ itself [] counter c marks size same
     | inr less ↦ stays [] counter c marks size (λ same. omega (arith, same, less)) (other_place c counter less close)
-    (λ set. absurd (not_false (mark_of marks c) set (unset c)), λ has. absurd (let none = has.1 in omega (arith, none)))
+        (λ set. absurd (not_false (mark_of marks c) set (unset c)), λ has. absurd (let none = has.1 in omega (arith, none)))
   ];
 }
 

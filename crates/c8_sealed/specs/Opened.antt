@@ -1,6 +1,6 @@
 -- Packets and the datagrams inside. A packet is sealed with one of two keys, by its kind.
-use Rattle.std.specs.Prelude.{◌≡◌, ◌≤◌, ℕ, ◌-◌, List, [], ◌∷◌, length, take, drop, flat_map, slice_index_or, bytes_eq, Option, None, Some,
-  option_map, if◌then◌else◌}
+use Rattle.std.specs.Prelude.{◌≡◌, ◌≤◌, ℕ, ◌-◌, List, [], ◌∷◌, length, take, drop, flat_map, slice_index_or, bytes_eq, Option, None, Some}
+use Rattle.std.specs.Prelude.{option_map, if◌then◌else◌}
 use Rattle.std.specs.Int.{w64, from_be_bytes}
 use Rattle.c8_seal.specs.Seal.{sealed, match_key, watch_key}
 use Rattle.c8_wire.specs.declared.kinds.DatagramKind.{DatagramKind}

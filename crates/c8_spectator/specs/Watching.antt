@@ -1,6 +1,6 @@
 -- What a watcher has of a match, and what it does with datagrams.
-use Rattle.std.specs.Prelude.{ℕ, ◌+◌, ◌-◌, ◌==◌, ◌||◌, List, [], ◌∷◌, ◌++◌, length, drop, Bool, false, not, nat_lt, Option, Some, None,
-  Result, Ok, Err, if◌then◌else◌}
+use Rattle.std.specs.Prelude.{ℕ, ◌+◌, ◌-◌, ◌==◌, ◌||◌, List, [], ◌∷◌, ◌++◌, length, drop, Bool, false, not, nat_lt, Option, Some, None}
+use Rattle.std.specs.Prelude.{Result, Ok, Err, if◌then◌else◌}
 use Rattle.std.specs.List.{list_all}
 use Rattle.c8_game.specs.Rules.{Rules, session_of, set_at}
 use Rattle.c8_game.specs.Wire.{version_number}

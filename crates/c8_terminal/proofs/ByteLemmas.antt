@@ -53,4 +53,4 @@ after-move y t within is = subst (λ (m : Mode). after (move (y + 1)) (in_mode m
 pub after-cell : (upper lower : Bool) (t : Terminal) → t.mode ≡ Ready → after (cell upper lower) t ≡ printed (character upper lower) t
 after-cell upper lower t is =
     subst (λ (m : Mode). after (cell upper lower) (in_mode m t) ≡ printed (character upper lower) t) (sym is)
-        (cell_from upper lower t.row t.column t.cells)
+    (cell_from upper lower t.row t.column t.cells)

@@ -67,12 +67,17 @@ cells_more points y n t h =
 first_cells : (points : Points) (y n : ℕ) (cells : ℕ → ℕ → ℕ)
     → HasCells points y n (ready (y + 1) 1 cells) (after (flat_map (cell_at points y) (range_with_len 0 n)) (ready (y + 1) 1 cells))
 unfolding after
-first_cells points y zero cells = record { mode = refl; row = refl; column = refl; shown = λ x none. absurd (omega arith);
-    rest = λ row column far. refl }
+first_cells points y zero cells = record {
+  mode = refl;
+  row = refl;
+  column = refl;
+  shown = λ x none. absurd (omega arith);
+  rest = λ row column far. refl;
+}
 first_cells points y (suc n) cells =
     let one : n + 1 ≡ suc n = omega arith in
     subst (λ (m : ℕ). HasCells points y m (ready (y + 1) 1 cells)
-        (after (flat_map (cell_at points y) (range_with_len 0 m)) (ready (y + 1) 1 cells))) one
+    (after (flat_map (cell_at points y) (range_with_len 0 m)) (ready (y + 1) 1 cells))) one
     (cells_more points y n (ready (y + 1) 1 cells) (first_cells points y n cells))
 
 -- u is t after a row of text was read

@@ -1,6 +1,6 @@
 -- A set of keys that grows by one key at a time, and keys when one of them changes.
-use Rattle.std.proofs.Common.{◌≡◌, ℕ, ◌+◌, ◌*◌, ◌%◌, ◌^◌, ◌<◌, ◌≤◌, ◌≢◌, Bool, true, false, cond, List, length, sym, ap, subst, ◌∙◌, inl,
-  inr, arith, bit_or, w16, slice_index_or, slice_set}
+use Rattle.std.proofs.Common.{◌≡◌, ℕ, ◌+◌, ◌*◌, ◌%◌, ◌^◌, ◌<◌, ◌≤◌, ◌≢◌, Bool, true, false, cond, List, length, sym, ap, subst, ◌∙◌, inl}
+use Rattle.std.proofs.Common.{inr, arith, bit_or, w16, slice_index_or, slice_set}
 use Rattle.std.specs.Int.{bit_at}
 use Rattle.std.specs.Prelude.{◌==◌}
 use Rattle.std.proofs.lemmas.Bool.{cases_Bool, cases_lt, eqb-true}
@@ -29,7 +29,7 @@ module _ (passes : ℕ → Bool) (n keys : ℕ) (h : KeysBelow passes n keys) wh
               | inr here ↦
                   let is : n ≡ k = omega arith in
                   subst (λ (j : ℕ). bit_at (bit_or keys (1 * 2 ^ n % 65536)) j ≡ cond (passes j) 1 0) is
-                      (same ∙ ap (λ (b : Bool). cond b 1 0) (sym passed))
+                  (same ∙ ap (λ (b : Bool). cond b 1 0) (sym passed))
             ];
         rest = λ k past. other k (omega arith) ∙ h.rest k (omega arith);
       }

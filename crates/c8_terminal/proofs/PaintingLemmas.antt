@@ -1,6 +1,6 @@
 -- A terminal that has read a painting shows its points.
-use Rattle.std.proofs.Common.{◌≡◌, ◌≢◌, ◌⊎◌, ℕ, zero, suc, ◌+◌, ◌*◌, ◌<◌, ◌≤◌, Bool, true, false, cond, List, [], ◌∷◌, ◌++◌, Option, Some,
-  None, refl, sym, ap, subst, ◌∙◌, inl, inr, arith}
+use Rattle.std.proofs.Common.{◌≡◌, ◌≢◌, ◌⊎◌, ℕ, zero, suc, ◌+◌, ◌*◌, ◌<◌, ◌≤◌, Bool, true, false, cond, List, [], ◌∷◌, ◌++◌, Option, Some}
+use Rattle.std.proofs.Common.{None, refl, sym, ap, subst, ◌∙◌, inl, inr, arith}
 use Rattle.std.specs.List.{flat_map, filter, range_with_len}
 use Rattle.std.proofs.lemmas.Grind.{flat_map-append}
 use Rattle.std.proofs.lemmas.List.{append-nil}
@@ -139,7 +139,7 @@ unfolding painting
 nothing_new points =
     ap (flat_map (line points))
     (none_due (is_due (Some points) points) 0 16
-        (λ k. not_from_true _ (and_from _ _ (same_with_itself points (2 * k)) (same_with_itself points (2 * k + 1)))))
+    (λ k. not_from_true _ (and_from _ _ (same_with_itself points (2 * k)) (same_with_itself points (2 * k + 1)))))
 
 pub all_are : (known : Option Points) (points : Points) (n : ℕ) → n ≡ 16 → rows_before known points n ≡ painting known points
 unfolding painting

@@ -24,7 +24,7 @@ spelled_more f before n =
     append_assoc before (flat_map f (range_with_len 0 n)) (f n)
     ∙ ap (λ (bytes : List ℕ). before ++ bytes)
     (ap (λ (last : List ℕ). flat_map f (range_with_len 0 n) ++ last) (sym (append-nil (f n)))
-        ∙ sym (flat_map-append f (range_with_len 0 n) (n ∷ [])) ∙ ap (flat_map f) (sym (range_more n)))
+    ∙ sym (flat_map-append f (range_with_len 0 n) (n ∷ [])) ∙ ap (flat_map f) (sym (range_more n)))
 
 pub all_at : (p : ℕ → Bool) (a n x : ℕ) → list_all p (range_with_len a n) ≡ true → a ≤ x → x < a + n → p x ≡ true
 all_at p a zero x all low high = absurd (omega arith)

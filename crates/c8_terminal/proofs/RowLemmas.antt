@@ -60,5 +60,5 @@ module _ (a b : Points) (y v w : ℕ) (v_in : v < 2 ^ 64) (w_in : w < 2 ^ 64) (v
       elim (cases_Bool (same_row a b y)) [
         | inl same ↦ eq-eqb v w (same_numbers same) ∙ sym same
         | inr differ ↦ false_from_ne_true (v == w) (λ e. absurd (let bad : true ≡ false = sym (equal_rows (eqb-true v w e)) ∙ differ in cc))
-        ∙ sym differ
+            ∙ sym differ
       ]

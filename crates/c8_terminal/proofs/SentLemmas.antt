@@ -1,17 +1,19 @@
 -- The bytes that a terminal sends are decoded.
-use Rattle.std.proofs.Common.{◌≡◌, ℕ, ◌+◌, ◌/◌, ◌%◌, ◌<◌, ◌≤◌, Bool, true, false, cond, List, [], ◌∷◌, ◌++◌, Option, None, refl, sym, ap,
-  subst, ◌∙◌, arith}
+use Rattle.std.proofs.Common.{◌≡◌, ℕ, ◌+◌, ◌/◌, ◌%◌, ◌<◌, ◌≤◌, Bool, true, false, cond, List, [], ◌∷◌, ◌++◌, Option, None, refl, sym, ap}
+use Rattle.std.proofs.Common.{subst, ◌∙◌, arith}
 use Rattle.std.specs.Prelude.{◌==◌, ◌&&◌, ◌||◌, nat_lt, nat_le}
 use Rattle.std.specs.Fmt.{decimal}
 use Rattle.std.proofs.lemmas.Bool.{and_from, false_from_ne_true, eqb-true}
 use Rattle.std.proofs.lemmas.Bool.Decides.{nat_tests}
 use Rattle.std.proofs.lemmas.Fmt.{decimal_by_steps}
 use Rattle.c8_terminal.specs.declared.signal.Signal.{Signal}
-use Rattle.c8_terminal.specs.Decoding.{Decoding, Numbers, Reading, Nothing, Escape, Single, Control, Answer, Step, character, is_digit,
-  is_last, is_text, key_event, names_event, no_numbers, reads, reports_events, step, step_in, tells, told_of, with_digit, with_number}
-use Rattle.c8_terminal.specs.Sent.{AreOne, AreSent, Arrow, ArrowEvent, Direction, Downward, Fits, Flags, FocusCame, FocusLost, IsRead,
-  IsSent, KeyEvent, KeyPress, Leftward, ModifiedKeyPress, PlacedKeyEvent, Rightward, Sent, SingleArrow, Typed, Upward, all_bytes, arrow_key,
-  bytes_of, capped, exact_after, letter, numbers, ready, told, told_by, told_of_all, with_told}
+use Rattle.c8_terminal.specs.Decoding.{Decoding, Numbers, Reading, Nothing, Escape, Single, Control, Answer, Step, character, is_digit}
+use Rattle.c8_terminal.specs.Decoding.{is_last, is_text, key_event, names_event, no_numbers, reads, reports_events, step, step_in, tells}
+use Rattle.c8_terminal.specs.Decoding.{told_of, with_digit, with_number}
+use Rattle.c8_terminal.specs.Sent.{AreOne, AreSent, Arrow, ArrowEvent, Direction, Downward, Fits, Flags, FocusCame, FocusLost, IsRead}
+use Rattle.c8_terminal.specs.Sent.{IsSent, KeyEvent, KeyPress, Leftward, ModifiedKeyPress, PlacedKeyEvent, Rightward, Sent, SingleArrow}
+use Rattle.c8_terminal.specs.Sent.{Typed, Upward, all_bytes, arrow_key, bytes_of, capped, exact_after, letter, numbers, ready, told}
+use Rattle.c8_terminal.specs.Sent.{told_by, told_of_all, with_told}
 
 abbrev in_mode : Reading → Bool → Decoding
 in_mode reading exact = record { reading = reading; exact = exact }
@@ -80,7 +82,7 @@ number_leads put place exact n fits =
     decimal_by_steps (λ m ds. Leads ds (Control (put 0)) exact (Control (put (capped m))))
     (λ m small. one_digit put place exact 0 m (capped m) small (omega arith))
     (λ m ds large h. leads_on ds _ (Control (put 0)) (Control (put (capped (m / 10)))) (Control (put (capped m))) exact h
-        (one_digit put place exact (capped (m / 10)) (m % 10) (capped m) (omega arith) (omega arith)))
+    (one_digit put place exact (capped (m / 10)) (m % 10) (capped m) (omega arith) (omega arith)))
     n fits
 
 one_answer_digit : (exact : Bool) (v d w : ℕ) → d < 10 → w ≡ with_digit v (48 + d) → Leads ((48 + d) ∷ []) (Answer v) exact (Answer w)
@@ -93,7 +95,7 @@ answer_leads exact n fits =
     decimal_by_steps (λ m ds. Leads ds (Answer 0) exact (Answer (capped m)))
     (λ m small. one_answer_digit exact 0 m (capped m) small (omega arith))
     (λ m ds large h. leads_on ds _ (Answer 0) (Answer (capped (m / 10))) (Answer (capped m)) exact h
-        (one_answer_digit exact (capped (m / 10)) (m % 10) (capped m) (omega arith) (omega arith)))
+    (one_answer_digit exact (capped (m / 10)) (m % 10) (capped m) (omega arith) (omega arith)))
     n fits
 
 -- one byte that continues a sequence
@@ -131,10 +133,10 @@ tail_read : (code base modifiers event last : ℕ) (exact : Bool) (end : Step) �
 tail_read code base modifiers event last exact end fits fits_too is =
     let m : ℕ = capped modifiers in
     led (decimal modifiers) (0x3A ∷ (decimal event ++ last ∷ [])) (Control (with_modifiers code base 0))
-        (Control (with_modifiers code base m)) exact end
+    (Control (with_modifiers code base m)) exact end
     (number_leads (with_modifiers code base) (λ b v. refl) exact modifiers fits)
     (led (0x3A ∷ []) (decimal event ++ last ∷ []) (Control (with_modifiers code base m)) (Control (with_event code base m 0)) exact end
-        (by_one 0x3A _ _ exact refl)
+    (by_one 0x3A _ _ exact refl)
     (led (decimal event) (last ∷ []) (Control (with_event code base m 0)) (Control (with_event code base m (capped event))) exact end
     (number_leads (with_event code base m) (λ b v. refl) exact event fits_too) is))
 
@@ -155,7 +157,7 @@ press_read code fits exact =
     let end : Step = tells (key_event (numbers code 0 0 0) exact) exact in
     led (0x1B ∷ 0x5B ∷ []) (decimal code ++ 0x75 ∷ []) Nothing (Control (with_code 0)) exact end (by_control exact)
     (led (decimal code) (0x75 ∷ []) (Control (with_code 0)) (Control (with_code (capped code))) exact end
-        (number_leads with_code (λ b v. refl) exact code fits) (press_u (with_code (capped code)) exact refl))
+    (number_leads with_code (λ b v. refl) exact code fits) (press_u (with_code (capped code)) exact refl))
 
 modified_read : (code modifiers : ℕ) → IsSent (ModifiedKeyPress code modifiers) → IsRead (ModifiedKeyPress code modifiers)
 modified_read code modifiers fits exact =
@@ -164,7 +166,7 @@ modified_read code modifiers fits exact =
     let end : Step = tells (key_event (numbers code 0 modifiers 0) exact) exact in
     led (0x1B ∷ 0x5B ∷ []) (decimal code ++ 0x3B ∷ (decimal modifiers ++ 0x75 ∷ [])) Nothing (Control (with_code 0)) exact end (by_control exact)
     (led (decimal code) (0x3B ∷ (decimal modifiers ++ 0x75 ∷ [])) (Control (with_code 0)) (Control (with_code c)) exact end
-        (number_leads with_code (λ b v. refl) exact code fits.0)
+    (number_leads with_code (λ b v. refl) exact code fits.0)
     (led (0x3B ∷ []) (decimal modifiers ++ 0x75 ∷ []) (Control (with_code c)) (Control (with_modifiers c 0 0)) exact end (by_one 0x3B _ _ exact refl)
     (led (decimal modifiers) (0x75 ∷ []) (Control (with_modifiers c 0 0)) (Control (with_modifiers c 0 m)) exact end
     (number_leads (with_modifiers c 0) (λ b v. refl) exact modifiers fits.1) (press_u (with_modifiers c 0 m) exact refl))))
@@ -177,7 +179,7 @@ key_event_read code modifiers event fits exact =
     (led (decimal code) (0x3B ∷ (decimal modifiers ++ 0x3A ∷ (decimal event ++ 0x75 ∷ []))) (Control (with_code 0)) (Control (with_code c)) exact end
     (number_leads with_code (λ b v. refl) exact code fits.0)
     (led (0x3B ∷ []) (decimal modifiers ++ 0x3A ∷ (decimal event ++ 0x75 ∷ [])) (Control (with_code c)) (Control (with_modifiers c 0 0))
-        exact end (by_one 0x3B _ _ exact refl)
+    exact end (by_one 0x3B _ _ exact refl)
     (tail_read c 0 modifiers event 0x75 exact end fits.1 fits.3 (event_u (numbers code 0 modifiers event) exact (is_named event fits.2)))))
 
 placed_read : (code shifted base modifiers event : ℕ) → IsSent (PlacedKeyEvent code shifted base modifiers event)
@@ -192,7 +194,7 @@ placed_read code shifted base modifiers event fits exact =
     (led (decimal code) (0x3A ∷ (decimal shifted ++ 0x3A ∷ (decimal base ++ 0x3B ∷ last))) (Control (with_code 0)) (Control (with_code c)) exact end
     (number_leads with_code (λ b v. refl) exact code fits.0)
     (led (0x3A ∷ []) (decimal shifted ++ 0x3A ∷ (decimal base ++ 0x3B ∷ last)) (Control (with_code c)) (Control (with_shifted c 0)) exact
-        end (by_one 0x3A _ _ exact refl)
+    end (by_one 0x3A _ _ exact refl)
     (led (decimal shifted) (0x3A ∷ (decimal base ++ 0x3B ∷ last)) (Control (with_shifted c 0)) (Control (with_shifted c s)) exact end
     (number_leads (with_shifted c) (λ b v. refl) exact shifted fits.1)
     (led (0x3A ∷ []) (decimal base ++ 0x3B ∷ last) (Control (with_shifted c s)) (Control (with_base c 0)) exact end (by_one 0x3A _ _ exact refl)
@@ -220,14 +222,14 @@ arrow_event_read direction modifiers event fits exact =
     let end : Step = tells (told_of event true (arrow_key direction)) true in
     let one : Numbers = with_code 1 in
     led (0x1B ∷ 0x5B ∷ []) (0x31 ∷ 0x3B ∷ (decimal modifiers ++ 0x3A ∷ (decimal event ++ letter direction ∷ []))) Nothing
-        (Control (with_code 0)) exact end (by_control exact)
+    (Control (with_code 0)) exact end (by_control exact)
     (led (0x31 ∷ []) (0x3B ∷ (decimal modifiers ++ 0x3A ∷ (decimal event ++ letter direction ∷ []))) (Control (with_code 0)) (Control one)
-        exact end (by_one 0x31 _ _ exact refl)
+    exact end (by_one 0x31 _ _ exact refl)
     (led (0x3B ∷ []) (decimal modifiers ++ 0x3A ∷ (decimal event ++ letter direction ∷ [])) (Control one) (Control (with_modifiers 1 0 0))
-        exact end (by_one 0x3B _ _ exact refl)
+    exact end (by_one 0x3B _ _ exact refl)
     (tail_read 1 0 modifiers event (letter direction) exact end fits.0 (omega (arith, fits.2))
     (last_arrow direction (with_event 1 0 (capped modifiers) (capped event)) exact some
-        ∙ ap (λ (v : ℕ). tells (told_of v true (arrow_key direction)) true) is))))
+    ∙ ap (λ (v : ℕ). tells (told_of v true (arrow_key direction)) true) is))))
 
 arrow_read : (direction : Direction) (exact : Bool)
     → step_in (Control no_numbers) (letter direction) exact ≡ tells (told_of 0 exact (arrow_key direction)) exact

@@ -33,9 +33,9 @@ pub down_is_held : (n : ℕ) (p : Press) → is_held (after_frames n (pressed p)
 down_is_held n p =
     elim (cases_Bool p.down) [
       | inl down ↦ held_down n (pressed p) (ap (λ (b : Bool).
-      (cond b p (record { down = true; unseen = true; left = max p.left 1; since = p.since })).down) down ∙ down)
+          (cond b p (record { down = true; unseen = true; left = max p.left 1; since = p.since })).down) down ∙ down)
       | inr up ↦ held_down n (pressed p) (ap (λ (b : Bool).
-      (cond b p (record { down = true; unseen = true; left = max p.left 1; since = p.since })).down) up)
+          (cond b p (record { down = true; unseen = true; left = max p.left 1; since = p.since })).down) up)
     ]
 
 none_before_zero : (n : ℕ) → nat_lt n 0 ≡ false
@@ -47,5 +47,5 @@ up_is_not_held n p seen = when_up n (released p) refl ∙ ap (λ (b : Bool). nat
 pub tap_is_held : (n : ℕ) (p : Press) → p.down ≡ false → is_held (after_frames n (released (pressed p))) ≡ nat_lt n 1
 tap_is_held n p up =
     let unseen : (pressed p).unseen ≡ true = ap
-        (λ (b : Bool). (cond b p (record { down = true; unseen = true; left = max p.left 1; since = p.since })).unseen) up in
+    (λ (b : Bool). (cond b p (record { down = true; unseen = true; left = max p.left 1; since = p.since })).unseen) up in
     when_up n (released (pressed p)) refl ∙ ap (λ (b : Bool). nat_lt n (cond b 1 0)) unseen

@@ -69,7 +69,7 @@ pub still_watched : TakesNothingBack → Stays → Chains → (w : WatchValue) (
 still_watched keeps stays chains w [] = stays w
 still_watched keeps stays chains w (bytes ∷ given) =
     chains w (hear w (read bytes)).watch (after_hearing (hear w (read bytes)).watch given) (keeps w (read bytes))
-        (still_watched keeps stays chains (hear w (read bytes)).watch given)
+    (still_watched keeps stays chains (hear w (read bytes)).watch given)
 
 abbrev pub TurnsKeep : {W : Type 0} → Ghosts W → Type 0
 TurnsKeep {W} wire = (old new : WatchValue) (before after : W) → IsTurn wire old new before after → IsStillWatched old new

@@ -14,14 +14,18 @@ pub part_is : (xs : List ℕ) (a n count from to : ℕ) → count ≡ length xs 
 part_is xs a n count from to all begin end =
     elim (cases_lt (length xs) a) [
       | inl past ↦
-          rw (drop_past xs from (omega (arith, all, begin, past)), drop_past xs a (omega (arith, past)),
-              take_all {A = ℕ} (to - from) [] (omega arith), take_all {A = ℕ} n [] (omega arith)) refl
+          rw (
+            drop_past xs from (omega (arith, all, begin, past)),
+            drop_past xs a (omega (arith, past)),
+            take_all {A = ℕ} (to - from) [] (omega arith),
+            take_all {A = ℕ} n [] (omega arith),
+          ) refl
       | inr within ↦
           let start : from ≡ a = omega (arith, all, begin, within) in
           elim (cases_lt (a + n) (length xs)) [
             | inl more ↦ let many : to - from ≡ n = omega (arith, all, begin, end, within, more) in rw (many, start) refl
             | inr less ↦
                 rw start (take_all (to - a) (drop a xs) (omega (arith, all, start, end, less, within, length-drop a xs))
-                    ∙ sym (take_all n (drop a xs) (omega (arith, less, length-drop a xs))))
+                ∙ sym (take_all n (drop a xs) (omega (arith, less, length-drop a xs))))
           ]
     ]

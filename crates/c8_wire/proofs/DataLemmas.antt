@@ -42,7 +42,7 @@ pub spelled_data : (bytes : List ℕ) → AreBytes bytes → IsDataShaped bytes 
 spelled_data bytes fits is =
     let long : 46 ≤ length bytes = omega (arith, is.run.long) in
     let marked : drop 32 bytes ≡ take 8 (drop 32 bytes) ++ drop 40 bytes =
-        sym (take-append-drop 8 (drop 32 bytes)) ∙ ap (λ (rest : List ℕ). take 8 (drop 32 bytes) ++ rest) (drop-drop 8 32 bytes) in
+    sym (take-append-drop 8 (drop 32 bytes)) ∙ ap (λ (rest : List ℕ). take 8 (drop 32 bytes) ++ rest) (drop-drop 8 32 bytes) in
     then (big_bytes 4 (number_at 24 4 bytes)) (spelled_at 24 4 28 bytes refl (omega arith) fits)
     (then (big_bytes 4 (number_at 28 4 bytes)) (spelled_at 28 4 32 bytes refl (omega arith) fits)
     (then (take 8 (drop 32 bytes)) marked (spelled_run 40 bytes fits is.run)))
@@ -51,10 +51,18 @@ pub is_data : (bytes : List ℕ) → AreBytes bytes → IsDataShaped bytes
     → IsDataMessage (data_at bytes) × Fits (Data (data_at bytes)) × (has_room (version_at bytes) (Data (data_at bytes)) ≡ true)
 is_data bytes fits is =
     let run = run_here 40 bytes fits is.run in (
-      record { ack = is.ack; mark_frame = is.mark_frame;
-          run = record { short = omega (arith, run.many, is.run.short); within = omega (arith, run.many, is.within) } },
-      ((omega (arith, length-take 8 (drop 32 bytes), length-drop 32 bytes, is.run.long),
-          AreBytes-take 8 (drop 32 bytes) (AreBytes-drop 32 bytes fits)), run.sets),
+      record {
+        ack = is.ack;
+        mark_frame = is.mark_frame;
+        run = record { short = omega (arith, run.many, is.run.short); within = omega (arith, run.many, is.within) };
+      },
+      (
+        (
+          omega (arith, length-take 8 (drop 32 bytes), length-drop 32 bytes, is.run.long),
+          AreBytes-take 8 (drop 32 bytes) (AreBytes-drop 32 bytes fits),
+        ),
+        run.sets,
+      ),
       run.room,
     )
 
@@ -85,8 +93,13 @@ pub length-data_bytes : (version : WireVersion) (m : DataMessage) → length m.m
 length-data_bytes version m marked = omega (arith, length-append m.mark (run_bytes version m.start m.words), marked)
 
 pub data_values : (bytes : List ℕ) (version : WireVersion) (m : DataMessage) → HasData bytes version m → data_at bytes ≡ m
-data_values bytes version m has = λ i. record { ack = has.ack i; mark_frame = has.mark_frame i; mark = has.mark i; start = has.run.from i;
-    words = has.run.inputs i }
+data_values bytes version m has = λ i. record {
+  ack = has.ack i;
+  mark_frame = has.mark_frame i;
+  mark = has.mark i;
+  start = has.run.from i;
+  words = has.run.inputs i;
+}
 
 -- no refusal applies to the spelling
 pub data_accepted : (bytes : List ℕ) (head : HeadValue) (size : ℕ) (m : DataMessage) → are_seats kinds.Data head.from head.to ≡ true
@@ -104,6 +117,15 @@ data_accepted bytes head size m seats message fits room has long sized body =
       reserved = refl;
       count = counted kinds.Data bytes head.version m.words has.version body.run.count (has.sized ∙ sized) message.run.short room refl;
       pairs = paired kinds.Data bytes head.version m.words has.version body.run.count body.run.spelled fits.1;
-      beyond = grind (arith, nat_tests, body.ack, body.mark_frame, body.run.from, body.run.count, message.ack, message.mark_frame,
-          message.run.within);
+      beyond = grind (
+        arith,
+        nat_tests,
+        body.ack,
+        body.mark_frame,
+        body.run.from,
+        body.run.count,
+        message.ack,
+        message.mark_frame,
+        message.run.within,
+      );
     }

@@ -1,6 +1,6 @@
 -- The header: its bytes are those of what it says, and what it says is read again.
-use Rattle.std.proofs.Common.{◌≡◌, ℕ, ◌+◌, ◌^◌, ◌<◌, ◌≤◌, ◌&&◌, true, false, List, [], ◌∷◌, ◌++◌, length, drop, get_or, slice_index, Some,
-  refl, ap, ◌∙◌, inl, inr, arith}
+use Rattle.std.proofs.Common.{◌≡◌, ℕ, ◌+◌, ◌^◌, ◌<◌, ◌≤◌, ◌&&◌, true, false, List, [], ◌∷◌, ◌++◌, length, drop, get_or, slice_index, Some}
+use Rattle.std.proofs.Common.{refl, ap, ◌∙◌, inl, inr, arith}
 use Rattle.std.specs.Prelude.{◌==◌, not}
 use Rattle.std.proofs.lemmas.Bool.{cases_eq, eq-eqb, ne_eqb}
 use Rattle.c8_game.specs.declared.wire.WireVersion.{WireVersion}
@@ -35,11 +35,11 @@ pub spelled_header : (kind : DatagramKind) (bytes : List ℕ) → AreBytes bytes
     → bytes ≡ header_bytes (head_at kind bytes) (size_at bytes) ++ drop 24 bytes
 spelled_header kind bytes fits long magic version code =
     let first : bytes ≡ big_bytes 2 0x4338 ++ drop 2 bytes =
-        spelled_at 0 2 2 bytes refl (omega arith) fits ∙ ap (λ (n : ℕ). big_bytes 2 n ++ drop 2 bytes) magic in
+    spelled_at 0 2 2 bytes refl (omega arith) fits ∙ ap (λ (n : ℕ). big_bytes 2 n ++ drop 2 bytes) magic in
     let second : drop 2 bytes ≡ version_number (version_at bytes) ∷ [] ++ drop 3 bytes =
-        byte_here 2 3 bytes refl (omega arith) ∙ ap (λ (n : ℕ). n ∷ drop 3 bytes) version in
+    byte_here 2 3 bytes refl (omega arith) ∙ ap (λ (n : ℕ). n ∷ drop 3 bytes) version in
     let third : drop 3 bytes ≡ (shape_of kind).code ∷ [] ++ drop 4 bytes =
-        byte_here 3 4 bytes refl (omega arith) ∙ ap (λ (n : ℕ). n ∷ drop 4 bytes) code in
+    byte_here 3 4 bytes refl (omega arith) ∙ ap (λ (n : ℕ). n ∷ drop 4 bytes) code in
     then (big_bytes 2 0x4338) first
     (then (version_number (version_at bytes) ∷ []) second
     (then ((shape_of kind).code ∷ []) third
@@ -94,8 +94,15 @@ headed head length body is short =
       from = refl;
       to = refl;
       sized = big_number-reads_back 2 length rest short;
-      values = λ i. record { kind = head.kind; version = version_again head.version i; session = session i; from = head.from; to = head.to;
-          sender_epoch = sender i; addressee_epoch = addressee i };
+      values = λ i. record {
+        kind = head.kind;
+        version = version_again head.version i;
+        session = session i;
+        from = head.from;
+        to = head.to;
+        sender_epoch = sender i;
+        addressee_epoch = addressee i;
+      };
     }
 
 -- seats that a kind's datagrams may name are named by the spelling

@@ -9,8 +9,8 @@ use Rattle.c8_game.specs.Rules.{most_inputs}
 use Rattle.c8_game.specs.declared.wire.WireVersion.{WireVersion}
 use Rattle.c8_wire.specs.declared.kinds.DatagramKind.TheVariants as kinds
 use Rattle.c8_wire.specs.Seats.{is_within, are_seats}
-use Rattle.c8_wire.specs.Packet.{AreBytes, HeadValue, FreezeMessage, IsFreezeMessage, LeaverMessage, IsLeaverMessage, Freeze, AreWords,
-  has_few_stretches}
+use Rattle.c8_wire.specs.Packet.{AreBytes, HeadValue, FreezeMessage, IsFreezeMessage, LeaverMessage, IsLeaverMessage, Freeze, AreWords}
+use Rattle.c8_wire.specs.Packet.{has_few_stretches}
 use Rattle.c8_wire.specs.Spelling.{header_bytes, leaver_bytes, inputs_bytes, run_bytes, body_bytes}
 use Rattle.c8_wire.specs.Reading.{number_at, version_at, size_at, run_at, freeze_at, leaver_at}
 use Rattle.c8_wire.specs.Refusal.{applies}
@@ -46,8 +46,12 @@ freeze_shaped bytes sized a =
     let beyond = a.beyond in
     record {
       size = grind (arith, nat_tests);
-      names = record { from_two = grind (arith, nat_tests); to_four = grind (arith, nat_tests); reserved = grind (arith, nat_tests);
-          inputs = grind (arith, nat_tests) };
+      names = record {
+        from_two = grind (arith, nat_tests);
+        to_four = grind (arith, nat_tests);
+        reserved = grind (arith, nat_tests);
+        inputs = grind (arith, nat_tests);
+      };
     }
 
 pub frozen_shaped : (bytes : List ℕ) → length bytes ≡ 24 + size_at bytes → IsAccepted kinds.Frozen bytes → IsLeaverShaped bytes
@@ -60,8 +64,12 @@ frozen_shaped bytes sized a =
     let beyond = a.beyond in
     record {
       run = run_shaped 30 (size_at bytes - 12) bytes (omega (arith, sized, fixed)) a.count a.pairs;
-      names = record { from_two = grind (arith, nat_tests); to_four = grind (arith, nat_tests); reserved = grind (arith, nat_tests);
-          inputs = grind (arith, nat_tests) };
+      names = record {
+        from_two = grind (arith, nat_tests);
+        to_four = grind (arith, nat_tests);
+        reserved = grind (arith, nat_tests);
+        inputs = grind (arith, nat_tests);
+      };
       within = grind (arith, nat_tests);
     }
 
@@ -75,8 +83,12 @@ cut_shaped bytes sized a =
     let beyond = a.beyond in
     record {
       run = run_shaped 30 (size_at bytes - 12) bytes (omega (arith, sized, fixed)) a.count a.pairs;
-      names = record { from_two = grind (arith, nat_tests); to_four = grind (arith, nat_tests); reserved = grind (arith, nat_tests);
-          inputs = grind (arith, nat_tests) };
+      names = record {
+        from_two = grind (arith, nat_tests);
+        to_four = grind (arith, nat_tests);
+        reserved = grind (arith, nat_tests);
+        inputs = grind (arith, nat_tests);
+      };
       within = grind (arith, nat_tests);
     }
 
@@ -97,7 +109,7 @@ pub spelled_run_of_leaver : (bytes : List ℕ) → AreBytes bytes → IsLeaverSh
     → drop 24 bytes ≡ leaver_bytes (version_at bytes) (leaver_at bytes)
 spelled_run_of_leaver bytes fits is =
     spelled_leaver bytes (run_bytes (version_at bytes) (number_at 30 4 bytes) (run_at 36 bytes)) fits (omega (arith, is.run.long))
-        is.names.reserved (spelled_run 30 bytes fits is.run)
+    is.names.reserved (spelled_run 30 bytes fits is.run)
 
 pub is_freeze : (bytes : List ℕ) → IsFreezeShaped bytes → IsFreezeMessage (freeze_at bytes)
 is_freeze bytes is = record { leaver_from_two = is.names.from_two; leaver_to_four = is.names.to_four; have = is.names.inputs }

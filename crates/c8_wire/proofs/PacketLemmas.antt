@@ -8,8 +8,8 @@ use Rattle.c8_game.specs.declared.wire.WireVersion.TheVariants as versions
 use Rattle.c8_wire.specs.declared.kinds.DatagramKind.{DatagramKind}
 use Rattle.c8_wire.specs.declared.kinds.DatagramKind.TheVariants as kinds
 use Rattle.c8_wire.specs.Seats.{are_seats}
-use Rattle.c8_wire.specs.Packet.{AreBytes, HeadValue, IsHead, Message, Hello, Welcome, Data, Freeze, Frozen, Cut, Show, Seen, Fits,
-  IsMessage, has_room, kind_of, Packet}
+use Rattle.c8_wire.specs.Packet.{AreBytes, HeadValue, IsHead, Message, Hello, Welcome, Data, Freeze, Frozen, Cut, Show, Seen, Fits}
+use Rattle.c8_wire.specs.Packet.{IsMessage, has_room, kind_of, Packet}
 use Rattle.c8_game.specs.Wire.{version_number}
 use Rattle.c8_wire.specs.Spelling.{inputs_bytes, header_bytes, leaver_bytes, show_bytes, body_bytes, spelling, Spells}
 use Rattle.c8_wire.specs.Reading.{number_at, version_at, kind_at, size_at, head_at, message_at, packet_at}
@@ -19,10 +19,11 @@ use Rattle.c8_pairs.specs.checked.PairLaws.{length_spelled}
 use Rattle.c8_wire.specs.checked.NumberLaws.{number_at-lt}
 use Rattle.c8_wire.specs.checked.RunLaws.{few_bytes}
 use Rattle.c8_wire.proofs.LinkLemmas.{length-hello, spelled_hello, welcome_shaped, spelled_welcome, ack_again, hello_accepted, welcome_accepted}
-use Rattle.c8_wire.proofs.LeaverLemmas.{freeze_shaped, frozen_shaped, cut_shaped, spelled_freeze, spelled_run_of_leaver, is_freeze,
-  is_leaver, freeze_again, leaver_again, freeze_values, leaver_values, length-leaver_bytes, freeze_accepted, frozen_accepted, cut_accepted}
-use Rattle.c8_wire.proofs.ShowLemmas.{IsShowShaped, show_shaped, spelled_show, is_show, seen_shaped, spelled_seen, show_again, show_values,
-  length-show_bytes, seen_again, show_accepted, seen_accepted}
+use Rattle.c8_wire.proofs.LeaverLemmas.{freeze_shaped, frozen_shaped, cut_shaped, spelled_freeze, spelled_run_of_leaver, is_freeze}
+use Rattle.c8_wire.proofs.LeaverLemmas.{is_leaver, freeze_again, leaver_again, freeze_values, leaver_values, length-leaver_bytes}
+use Rattle.c8_wire.proofs.LeaverLemmas.{freeze_accepted, frozen_accepted, cut_accepted}
+use Rattle.c8_wire.proofs.ShowLemmas.{IsShowShaped, show_shaped, spelled_show, is_show, seen_shaped, spelled_seen, show_again, show_values}
+use Rattle.c8_wire.proofs.ShowLemmas.{length-show_bytes, seen_again, show_accepted, seen_accepted}
 use Rattle.c8_wire.proofs.RunLemmas.{IsRunAt, run_here}
 use Rattle.c8_wire.proofs.TableLemmas.{code_of_found, IsAccepted, accepted, not_refused}
 use Rattle.c8_wire.proofs.HeadLemmas.{then, version_here, spelled_header, headed}
@@ -102,7 +103,7 @@ found kind bytes fits named none =
     let front = shaped kind bytes fits a in
     let body = body_found kind bytes fits front.sized a in
     let size : size_at bytes ≡ length (body_bytes (version_at bytes) (message_at kind bytes)) =
-        omega (arith, length-drop 24 bytes, front.sized, ap length body.spelled) in
+    omega (arith, length-drop 24 bytes, front.sized, ap length body.spelled) in
     let header = spelled_header kind bytes fits front.long front.magic front.version (code_of_found (slice_index bytes 3) kind named) in
     record {
       packet = record { head = front.head; kind = body.named; fits = body.fits; message = body.message; room = body.room };
@@ -156,19 +157,19 @@ message_again head (Data m) is kind fits message room =
     let bytes : List ℕ = header_bytes head size ++ body_bytes head.version (Data m) in
     let length_is : size ≡ 22 + length (inputs_bytes head.version m.words) = length-data_bytes head.version m fits.0.0 in
     let has = headed head size (body_bytes head.version (Data m)) is
-        (omega (arith, length_is, few_bytes head.version m.words message.run.short room)) in
+    (omega (arith, length_is, few_bytes head.version m.words message.run.short room)) in
     let body = data_again head size m message fits in
     let seats = seats_of head (Data m) kind is.seats in
     read_again bytes head (Data m) has.kind kind has.values
-        (data_accepted bytes head size m seats message fits room has (length-datagram head size (body_bytes head.version (Data m)))
-        length_is body) (ap Data (data_values bytes head.version m body))
+    (data_accepted bytes head size m seats message fits room has (length-datagram head size (body_bytes head.version (Data m)))
+    length_is body) (ap Data (data_values bytes head.version m body))
 message_again head (Freeze m) is kind fits message room =
     let bytes : List ℕ = header_bytes head 6 ++ body_bytes head.version (Freeze m) in
     let has = headed head 6 (body_bytes head.version (Freeze m)) is (omega arith) in
     let body = freeze_again head 6 m message in
     let seats = seats_of head (Freeze m) kind is.seats in
     read_again bytes head (Freeze m) has.kind kind has.values (freeze_accepted bytes head m seats message has refl body)
-        (ap Freeze (freeze_values bytes m body))
+    (ap Freeze (freeze_values bytes m body))
 message_again head (Frozen m) is kind fits message room =
     let size : ℕ = length (leaver_bytes head.version m) in
     let bytes : List ℕ = header_bytes head size ++ leaver_bytes head.version m in
@@ -177,8 +178,8 @@ message_again head (Frozen m) is kind fits message room =
     let body = leaver_again head size m message fits in
     let seats = seats_of head (Frozen m) kind is.seats in
     read_again bytes head (Frozen m) has.kind kind has.values
-        (frozen_accepted bytes head size m seats message fits room has (length-datagram head size (leaver_bytes head.version m)) length_is
-        body) (ap Frozen (leaver_values bytes head.version m body))
+    (frozen_accepted bytes head size m seats message fits room has (length-datagram head size (leaver_bytes head.version m)) length_is
+    body) (ap Frozen (leaver_values bytes head.version m body))
 message_again head (Cut m) is kind fits message room =
     let size : ℕ = length (leaver_bytes head.version m) in
     let bytes : List ℕ = header_bytes head size ++ leaver_bytes head.version m in
@@ -187,8 +188,8 @@ message_again head (Cut m) is kind fits message room =
     let body = leaver_again head size m message fits in
     let seats = seats_of head (Cut m) kind is.seats in
     read_again bytes head (Cut m) has.kind kind has.values
-        (cut_accepted bytes head size m seats message fits room has (length-datagram head size (leaver_bytes head.version m)) length_is
-        body) (ap Cut (leaver_values bytes head.version m body))
+    (cut_accepted bytes head size m seats message fits room has (length-datagram head size (leaver_bytes head.version m)) length_is
+    body) (ap Cut (leaver_values bytes head.version m body))
 message_again head (Show m) is kind fits message room =
     let size : ℕ = length (show_bytes m) in
     let bytes : List ℕ = header_bytes head size ++ show_bytes m in
@@ -197,8 +198,8 @@ message_again head (Show m) is kind fits message room =
     let body = show_again head size m message fits in
     let seats = seats_of head (Show m) kind is.seats in
     read_again bytes head (Show m) has.kind kind has.values
-        (show_accepted bytes head size m seats message has (length-datagram head size (show_bytes m)) length_is body)
-        (ap Show (show_values bytes m body))
+    (show_accepted bytes head size m seats message has (length-datagram head size (show_bytes m)) length_is body)
+    (ap Show (show_values bytes m body))
 message_again head (Seen ack) is kind fits message room =
     let bytes : List ℕ = header_bytes head 4 ++ body_bytes head.version (Seen ack) in
     let has = headed head 4 (body_bytes head.version (Seen ack)) is (omega arith) in
@@ -289,13 +290,21 @@ pub pairs_fit : (message : Message) → Fits message → IsMessage message → h
     → length (body_bytes versions.Two message) ≤ 148
 pairs_fit Hello fits is room = omega arith
 pairs_fit (Welcome ack) fits is room = omega arith
-pairs_fit (Data m) fits is room = omega (arith, length-data_bytes versions.Two m fits.0.0, length_spelled (pairs_of m.words),
-    leb-true (length (pairs_of m.words)) 42 room)
+pairs_fit (Data m) fits is room = omega (
+  arith,
+  length-data_bytes versions.Two m fits.0.0,
+  length_spelled (pairs_of m.words),
+  leb-true (length (pairs_of m.words)) 42 room,
+)
 pairs_fit (Freeze m) fits is room = omega arith
 pairs_fit (Frozen m) fits is room = omega
     (arith, length-leaver_bytes versions.Two m, length_spelled (pairs_of m.words), leb-true (length (pairs_of m.words)) 42 room)
-pairs_fit (Cut m) fits is room = omega (arith, length-leaver_bytes versions.Two m, length_spelled (pairs_of m.words),
-    leb-true (length (pairs_of m.words)) 42 room)
+pairs_fit (Cut m) fits is room = omega (
+  arith,
+  length-leaver_bytes versions.Two m,
+  length_spelled (pairs_of m.words),
+  leb-true (length (pairs_of m.words)) 42 room,
+)
 pairs_fit (Show m) fits is room = omega (arith, length-show_bytes m fits, is.short)
 pairs_fit (Seen ack) fits is room = omega arith
 
@@ -303,13 +312,24 @@ pairs_fit (Seen ack) fits is room = omega arith
 pub short_spelling : (bytes : List ℕ) (p : Packet) → Spells bytes p → length bytes ≤ 174
 unfolding spelling
 short_spelling bytes p spells =
-    omega (arith, ap length spells.spelled, length-datagram p.head (length (body_bytes p.head.version p.message))
-        (body_bytes p.head.version p.message), body_fits p.head.version p.message spells.packet.fits spells.packet.message spells.packet.room)
+    omega (
+      arith,
+      ap length spells.spelled,
+      length-datagram p.head (length (body_bytes p.head.version p.message))
+          (body_bytes p.head.version p.message),
+      body_fits p.head.version p.message spells.packet.fits spells.packet.message spells.packet.room,
+    )
 
 pub short_in_pairs : (bytes : List ℕ) (p : Packet) → Spells bytes p → p.head.version ≡ versions.Two → length bytes ≤ 172
 unfolding spelling
 short_in_pairs bytes p spells two =
     let fits = pairs_fit p.message spells.packet.fits spells.packet.message
-        (subst (λ (v : WireVersion). has_room v p.message ≡ true) two spells.packet.room) in
-    omega (arith, ap length spells.spelled, length-datagram p.head (length (body_bytes p.head.version p.message))
-        (body_bytes p.head.version p.message), ap (λ (v : WireVersion). length (body_bytes v p.message)) two, fits)
+    (subst (λ (v : WireVersion). has_room v p.message ≡ true) two spells.packet.room) in
+    omega (
+      arith,
+      ap length spells.spelled,
+      length-datagram p.head (length (body_bytes p.head.version p.message))
+          (body_bytes p.head.version p.message),
+      ap (λ (v : WireVersion). length (body_bytes v p.message)) two,
+      fits,
+    )

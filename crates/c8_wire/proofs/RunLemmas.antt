@@ -1,6 +1,6 @@
 -- A run's start, count and inputs, wherever they stand.
-use Rattle.std.proofs.Common.{◌≡◌, ℕ, ◌+◌, ◌-◌, ◌^◌, ◌<◌, ◌≤◌, ◌&&◌, ◌||◌, Bool, true, false, cond, List, ◌++◌, length, drop, slice_index,
-  refl, sym, ap, ◌∙◌, arith}
+use Rattle.std.proofs.Common.{◌≡◌, ℕ, ◌+◌, ◌-◌, ◌^◌, ◌<◌, ◌≤◌, ◌&&◌, ◌||◌, Bool, true, false, cond, List, ◌++◌, length, drop, slice_index}
+use Rattle.std.proofs.Common.{refl, sym, ap, ◌∙◌, arith}
 use Rattle.std.specs.Prelude.{nat_lt}
 use Rattle.std.proofs.lemmas.Bool.{or_parts}
 use Rattle.std.proofs.lemmas.Bool.Decides.{nat_tests}
@@ -38,7 +38,7 @@ spelled_run place bytes fits run =
     let here = run_here place bytes fits run in
     let counted : drop (place + 4) bytes ≡ big_bytes 2 (length (run_at (place + 6) bytes)) ++ drop (place + 6) bytes =
     spelled_at (place + 4) 2 (place + 6) bytes (omega arith) (omega (arith, run.long)) fits
-        ∙ ap (λ (n : ℕ). big_bytes 2 n ++ drop (place + 6) bytes) (sym here.many) in
+    ∙ ap (λ (n : ℕ). big_bytes 2 n ++ drop (place + 6) bytes) (sym here.many) in
     then (big_bytes 4 (number_at place 4 bytes)) (spelled_at place 4 (place + 4) bytes refl (omega (arith, run.long)) fits)
     (then (big_bytes 2 (length (run_at (place + 6) bytes))) counted (sym here.spells))
 

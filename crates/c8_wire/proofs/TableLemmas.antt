@@ -68,7 +68,7 @@ pub accepted : (kind : DatagramKind) (bytes : List ℕ) → kind_at bytes ≡ So
 unfolding refusal
 accepted kind bytes named none =
     let found : first_of (front_refusals ++ body_refusals) (Some kind) bytes ≡ None =
-        ap (λ (k : Option DatagramKind). first_of (front_refusals ++ body_refusals) k bytes) (sym named) ∙ none in
+    ap (λ (k : Option DatagramKind). first_of (front_refusals ++ body_refusals) k bytes) (sym named) ∙ none in
     let a = none_in _ _ _ found in
     let b = none_in _ _ _ a.1 in
     let c = none_in _ _ _ b.1 in
@@ -98,7 +98,7 @@ pub kind_named : (bytes : List ℕ) → refusal bytes ≡ None → (kind : Datag
 unfolding refusal
 kind_named bytes none =
     kind_there bytes (kind_at bytes) (none_at (λ error. applies error (kind_at bytes) bytes)
-        (errors.Short ∷ errors.Magic ∷ errors.Version ∷ []) body_refusals errors.Kind none)
+    (errors.Short ∷ errors.Magic ∷ errors.Version ∷ []) body_refusals errors.Kind none)
 
 -- a header that is right leaves the refusals of the body
 pub past_front : (kind : DatagramKind) (bytes : List ℕ) → kind_at bytes ≡ Some kind → applies errors.Short (Some kind) bytes ≡ false

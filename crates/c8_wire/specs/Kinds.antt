@@ -28,22 +28,78 @@ pub record ShapeValue : Type 0 where
   pub key : KeyOf
 
 abbrev pub shape_of : DatagramKind → ShapeValue
-shape_of kinds.Hello = record { code = 1; fixed = 0; tail = tails.Nothing; names_leaver = false; parties = parties.Players;
-    link = wanted.Nothing; key = keys.Players }
-shape_of kinds.Welcome = record { code = 2; fixed = 4; tail = tails.Nothing; names_leaver = false; parties = parties.Players;
-    link = wanted.Known; key = keys.Players }
-shape_of kinds.Data = record { code = 3; fixed = 22; tail = tails.Run; names_leaver = false; parties = parties.Players; link = wanted.Open;
-    key = keys.Players }
-shape_of kinds.Freeze = record { code = 4; fixed = 6; tail = tails.Nothing; names_leaver = true; parties = parties.Players;
-    link = wanted.Open; key = keys.Players }
-shape_of kinds.Frozen = record { code = 5; fixed = 12; tail = tails.Run; names_leaver = true; parties = parties.Players; link = wanted.Open;
-    key = keys.Players }
-shape_of kinds.Cut = record { code = 6; fixed = 12; tail = tails.Run; names_leaver = true; parties = parties.Players; link = wanted.Open;
-    key = keys.Players }
-shape_of kinds.Show = record { code = 7; fixed = 6; tail = tails.Rows; names_leaver = false; parties = parties.ToWatcher;
-    link = wanted.Never; key = keys.Watchers }
-shape_of kinds.Seen = record { code = 8; fixed = 4; tail = tails.Nothing; names_leaver = false; parties = parties.FromWatcher;
-    link = wanted.Never; key = keys.Watchers }
+shape_of kinds.Hello = record {
+  code = 1;
+  fixed = 0;
+  tail = tails.Nothing;
+  names_leaver = false;
+  parties = parties.Players;
+  link = wanted.Nothing;
+  key = keys.Players;
+}
+shape_of kinds.Welcome = record {
+  code = 2;
+  fixed = 4;
+  tail = tails.Nothing;
+  names_leaver = false;
+  parties = parties.Players;
+  link = wanted.Known;
+  key = keys.Players;
+}
+shape_of kinds.Data = record {
+  code = 3;
+  fixed = 22;
+  tail = tails.Run;
+  names_leaver = false;
+  parties = parties.Players;
+  link = wanted.Open;
+  key = keys.Players;
+}
+shape_of kinds.Freeze = record {
+  code = 4;
+  fixed = 6;
+  tail = tails.Nothing;
+  names_leaver = true;
+  parties = parties.Players;
+  link = wanted.Open;
+  key = keys.Players;
+}
+shape_of kinds.Frozen = record {
+  code = 5;
+  fixed = 12;
+  tail = tails.Run;
+  names_leaver = true;
+  parties = parties.Players;
+  link = wanted.Open;
+  key = keys.Players;
+}
+shape_of kinds.Cut = record {
+  code = 6;
+  fixed = 12;
+  tail = tails.Run;
+  names_leaver = true;
+  parties = parties.Players;
+  link = wanted.Open;
+  key = keys.Players;
+}
+shape_of kinds.Show = record {
+  code = 7;
+  fixed = 6;
+  tail = tails.Rows;
+  names_leaver = false;
+  parties = parties.ToWatcher;
+  link = wanted.Never;
+  key = keys.Watchers;
+}
+shape_of kinds.Seen = record {
+  code = 8;
+  fixed = 4;
+  tail = tails.Nothing;
+  names_leaver = false;
+  parties = parties.FromWatcher;
+  link = wanted.Never;
+  key = keys.Watchers;
+}
 
 -- what code holds of a kind
 abbrev pub shape_value : Shape → ShapeValue

@@ -10,8 +10,8 @@ use Rattle.c8_pairs.specs.Pairs.{words_in}
 use Rattle.c8_pairs.specs.Reading.{pairs_at}
 use Rattle.c8_wire.specs.Sizes.{row_length}
 use Rattle.c8_wire.specs.Kinds.{kind_of_code}
-use Rattle.c8_wire.specs.Packet.{HeadValue, DataMessage, FreezeMessage, LeaverMessage, ShowMessage, Message, Hello, Welcome, Data, Freeze,
-  Frozen, Cut, Show, Seen, Packet}
+use Rattle.c8_wire.specs.Packet.{HeadValue, DataMessage, FreezeMessage, LeaverMessage, ShowMessage, Message, Hello, Welcome, Data, Freeze}
+use Rattle.c8_wire.specs.Packet.{Frozen, Cut, Show, Seen, Packet}
 
 -- the big-endian number in this many bytes from a place on
 unfoldable pub number_at : ℕ → ℕ → List ℕ → ℕ

@@ -1,6 +1,6 @@
 -- The table of refusals: when each applies, and which one is the answer.
-use Rattle.std.specs.Prelude.{ℕ, ◌+◌, ◌*◌, ◌==◌, ◌||◌, ◌&&◌, Bool, false, not, ◌-◌, ◌%◌, drop, nat_lt, nat_le, List, [], ◌∷◌, ◌++◌, length,
-  slice_index, Option, Some, None, is_none, find, if◌then◌else◌}
+use Rattle.std.specs.Prelude.{ℕ, ◌+◌, ◌*◌, ◌==◌, ◌||◌, ◌&&◌, Bool, false, not, ◌-◌, ◌%◌, drop, nat_lt, nat_le, List, [], ◌∷◌, ◌++◌, length}
+use Rattle.std.specs.Prelude.{slice_index, Option, Some, None, is_none, find, if◌then◌else◌}
 use Rattle.c8_game.specs.Rules.{most_frames, most_inputs}
 use Rattle.c8_game.specs.declared.wire.WireVersion.{WireVersion}
 use Rattle.c8_game.specs.declared.wire.WireVersion.TheVariants as versions

@@ -9,8 +9,8 @@ use Rattle.c8_game.specs.declared.wire.WireVersion.TheVariants as versions
 use Rattle.c8_game.specs.Wire.{version_number}
 use Rattle.c8_pairs.specs.Pairs as pairs
 use Rattle.c8_wire.specs.Kinds.{shape_of}
-use Rattle.c8_wire.specs.Packet.{HeadValue, LeaverMessage, ShowMessage, Message, Hello, Welcome, Data, Freeze, Frozen, Cut, Show, Seen,
-  Packet, IsPacket}
+use Rattle.c8_wire.specs.Packet.{HeadValue, LeaverMessage, ShowMessage, Message, Hello, Welcome, Data, Freeze, Frozen, Cut, Show, Seen}
+use Rattle.c8_wire.specs.Packet.{Packet, IsPacket}
 
 -- The header of a datagram whose body has `size` bytes. Byte 2 is the number of the version.
 abbrev pub header_bytes : HeadValue → ℕ → List ℕ

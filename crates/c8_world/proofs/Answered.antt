@@ -19,14 +19,14 @@ use Rattle.c8_peer.specs.State.{Mode, Down, Away, State, Call, Outcome}
 use Rattle.c8_peer.specs.Steps.{outcome, DiskOutcome, Works, Refuses, refused_by_disk, Stepped, done, at_mode, step}
 use Rattle.c8_peer.specs.Opening.{Opening, NoPlayer, Stands, NotWritten, NoMemory, NotRead, Unfit, Spent, found, opened}
 use Rattle.c8_world.specs.checked.Below.{ArePeersLawful}
-use Rattle.c8_world.specs.World.{World, is_player, peer_of, journal_of, Act, Open, Tick, Say, Give, Leave, Decide, Event, Do, Stop,
-  Happening, Answer, Told, NoSuch, After, call_at_mode, call_at, open_at_mode, give_to, acted, after, CanHappen, Chain, IsReached, Check,
-  Show, Hear, Seen, Fresh, hear_at, Watched, known_by, watch_of}
+use Rattle.c8_world.specs.World.{World, is_player, peer_of, journal_of, Act, Open, Tick, Say, Give, Leave, Decide, Event, Do, Stop}
+use Rattle.c8_world.specs.World.{Happening, Answer, Told, NoSuch, After, call_at_mode, call_at, open_at_mode, give_to, acted, after}
+use Rattle.c8_world.specs.World.{CanHappen, Chain, IsReached, Check, Show, Hear, Seen, Fresh, hear_at, Watched, known_by, watch_of}
 use Rattle.c8_world.specs.Agreement.{IsPlayer, IsUndropped, NobodyLeaves, refused_for}
 use Rattle.c8_world.proofs.Events.{IsWorldly}
 use Rattle.c8_world.proofs.Worlds.{IsSound, plays_if, shown_stands}
-use Rattle.c8_world.proofs.Reached.{checks_true, reached_sound, reached_later, peers_agree, inputs_entered, begins_own, said_holds,
-  said_spells, links_name, cut_bounds, reports_bound, stayers_froze, rows_true}
+use Rattle.c8_world.proofs.Reached.{checks_true, reached_sound, reached_later, peers_agree, inputs_entered, begins_own, said_holds}
+use Rattle.c8_world.proofs.Reached.{said_spells, links_name, cut_bounds, reports_bound, stayers_froze, rows_true}
 use Rattle.c8_world.specs.Headline.{IsHeadline}
 use Rattle.c8_world.proofs.Openings.{after_if, openings_fit}
 use Rattle.c8_world.proofs.Replies.{IsCalm, AnswersCalmly, EndsCalmly, calm_other, unrefused, teller_of, calm_call}
@@ -62,7 +62,7 @@ calm_mode rules room w p call on_disk states.Open range sound plays up worldly w
     let q : ℕ = teller_of call in
     let o : Outcome = outcome rules (told_of rules p (J p)) (known_of rules p (J p)) (peer_of w p).memory call in
     let at : step rules p (peer_of w p) call on_disk ≡ done (peer_of w p) call o o.keeps on_disk =
-        ap (λ (mode : Mode). at_mode (peer_of w p) call o mode on_disk) up in
+    ap (λ (mode : Mode). at_mode (peer_of w p) call o mode on_disk) up in
     let awake = (sound.peers p plays).awake (λ gone. absurd (cc (up, gone))) in
     let calm : EndsCalmly J p q o = calm_call rules room J w.said p (peer_of w p).memory call range sound.journals plays awake worldly in
     subst (λ (t : Stepped). AnswersCalmly J p q t.reply) (sym at) (calm_done J p q (peer_of w p) call o o.keeps on_disk calm) why cc
@@ -145,7 +145,7 @@ acted_well : (rules : Rules) (room : ℕ) (w : World) (act : Act) (h : Happening
 unfolding acted
 acted_well rules room w (Open p) h range sound =
     after_if (λ (a : After). a.answer ≢ refused_for BadAck) (is_player rules p) _ _
-        (λ is. opens_otherwise rules room w p h (peer_of w p).mode BadAck) (λ none e. cc e)
+    (λ is. opens_otherwise rules room w p h (peer_of w p).mode BadAck) (λ none e. cc e)
 acted_well rules room w (Tick p keys) h range sound = λ e. (calm_call_at rules room w p (states.Tick keys) h.on_disk range sound tt BadAck e).ack refl
 acted_well rules room w (Say p to what) h range sound =
     λ e. (calm_call_at rules room w p (states.Say to what) h.on_disk range sound tt BadAck e).ack refl
@@ -181,7 +181,7 @@ hear_agrees : (rules : Rules) (room : ℕ) (w : World) (watcher number : ℕ) (o
 hear_agrees rules room w watcher number None sound e = λ is. cc is
 hear_agrees rules room w watcher number (Some packet) sound e = λ is.
     let shown : ShowsRowsOf (confirmed_rows (known_by rules w 1)) packet =
-        record { stand = λ m shows. shown_stands rules (journal_of w) packet m shows (sound.said packet (number, e)).told } in
+    record { stand = λ m shows. shown_stands rules (journal_of w) packet m shows (sound.said packet (number, e)).told } in
     truth_agrees (confirmed_rows (known_by rules w 1)) (watch_of rules room w watcher) packet (sound.watched watcher) shown cc
 
 pub never_differs_watched : (laws : ArePeersLawful) (rules : Rules) (room : ℕ) (w v : World) (watcher number : ℕ) (answer : Answer)
@@ -190,7 +190,7 @@ pub never_differs_watched : (laws : ArePeersLawful) (rules : Rules) (room : ℕ)
 unfolding acted
 never_differs_watched laws rules room w v watcher number answer range few reached can e =
     hear_agrees rules room w watcher number (slice_get w.said number) (reached_sound laws rules room w range few reached) refl
-        (ap (λ (a : After). a.answer) can.is ∙ e)
+    (ap (λ (a : After). a.answer) can.is ∙ e)
 
 -- ---- while no player is dropped
 

@@ -1,7 +1,7 @@
 -- Why no open peer answers a datagram that was sent with BadAck, and no undropped one with Differs or Desync.
 use Rattle.c8_known.specs.Growth.{Stands}
-use Rattle.std.proofs.Common.{◌≡◌, ◌≢◌, ℕ, zero, suc, ◌+◌, ◌-◌, ◌*◌, ◌/◌, ◌<◌, ◌≤◌, List, [], ◌∷◌, length, drop, map, Bool, true, false,
-  cond, Option, Some, None, refl, sym, ap, subst, ◌∙◌, arith}
+use Rattle.std.proofs.Common.{◌≡◌, ◌≢◌, ℕ, zero, suc, ◌+◌, ◌-◌, ◌*◌, ◌/◌, ◌<◌, ◌≤◌, List, [], ◌∷◌, length, drop, map, Bool, true, false}
+use Rattle.std.proofs.Common.{cond, Option, Some, None, refl, sym, ap, subst, ◌∙◌, arith}
 use Rattle.std.specs.Prelude.{◌==◌, nat_lt, fold, if◌then◌else◌}
 use Rattle.std.specs.List.{range_with_len}
 use Rattle.std.proofs.lemmas.Bool.{ltb-true, eqb-true}
@@ -60,10 +60,10 @@ pub no_difference : (rules : Rules) (room : ℕ) (J : ℕ → List Record) (p q 
     → Stands start words (held rules q (J q)) → differ (drop start (player_in (known_of rules p (J p)) q).held) words ≡ false
 no_difference rules room J p q start words sound plays q_plays stands =
     let same : (player_in (known_of rules p (J p)) q).held ≡ held rules q (J p) =
-        ap (λ (v : PlayerValue). v.held) (said_known rules p q (J p) q_plays) in
+    ap (λ (v : PlayerValue). v.held) (said_known rules p q (J p) q_plays) in
     subst (λ (xs : List ℕ). differ (drop start xs) words ≡ false) (sym same)
     (begin_one (drop start (held rules q (J p))) words (drop start (held rules q (J q)))
-        (begins_drop start (held rules q (J p)) (held rules q (J q)) (sound.begins p q plays q_plays)) stands.is)
+    (begins_drop start (held rules q (J p)) (held rules q (J q)) (sound.begins p q plays q_plays)) stands.is)
 
 some_past : (test : Bool) (x error : KnownError) (others : Option KnownError) → cond test (Some x) others ≡ Some error → x ≢ knowns.Differs
     → (others ≡ Some error → error ≢ knowns.Differs) → error ≢ knowns.Differs
@@ -148,7 +148,7 @@ no_desync rules room J p q d range sound plays q_plays stays q_stays is =
     let k : KnownValue = known_of rules p (J p) in
     let marks = own_marks rules p (J p) (sound.checks p plays) in
     same_mark (IsMarkOf rules k d.mark_frame) (mark_at d.mark_frame (told_of rules p (J p)).marks) d.mark
-        (subst (λ (kept : List FrameMark). HoldsIf (IsMarkOf rules k d.mark_frame) (mark_at d.mark_frame kept)) (sym marks)
-        (kept_marks rules k d.mark_frame)) (λ own here.
+    (subst (λ (kept : List FrameMark). HoldsIf (IsMarkOf rules k d.mark_frame) (mark_at d.mark_frame kept)) (sym marks)
+    (kept_marks rules k d.mark_frame)) (λ own here.
     here.1 ∙ ap (λ (rows : List Row). mark_of (serial rules rows))
-        (rows_agree rules room J p q d.mark_frame range sound plays q_plays stays q_stays here.0 is.confirmed) ∙ sym is.is)
+    (rows_agree rules room J p q d.mark_frame range sound plays q_plays stays q_stays here.0 is.confirmed) ∙ sym is.is)

@@ -1,6 +1,6 @@
 -- Why the ends of a world are what its definition says.
-use Rattle.std.proofs.Common.{◌≡◌, ℕ, suc, ◌+◌, ◌-◌, ◌<◌, ◌≤◌, ◌⊎◌, inl, inr, List, [], ◌∷◌, ◌++◌, length, map, slice_index_or, Bool, true,
-  false, Option, Some, Result, Ok, Err, refl, sym, ap, subst, ◌∙◌, arith}
+use Rattle.std.proofs.Common.{◌≡◌, ℕ, suc, ◌+◌, ◌-◌, ◌<◌, ◌≤◌, ◌⊎◌, inl, inr, List, [], ◌∷◌, ◌++◌, length, map, slice_index_or, Bool, true}
+use Rattle.std.proofs.Common.{false, Option, Some, Result, Ok, Err, refl, sym, ap, subst, ◌∙◌, arith}
 use Rattle.std.specs.List.{slice_get, range_with_len}
 use Rattle.std.specs.Prelude.{◌↔◌, IfOk}
 use Rattle.std.proofs.Math.Seq.{get_or-append_seam}
@@ -33,8 +33,8 @@ use Rattle.c8_world.specs.World.{World, peer_of}
 use Rattle.c8_world.specs.Agreement.{IsPlayer, Reads, read_by, AgreeByReads}
 use Rattle.c8_world.specs.Nodes.{IsNode, Tells}
 use Rattle.c8_world.specs.Table.{TableValue, node_of, Holds}
-use Rattle.c8_world.specs.Ends.{known_at, tally_of, tally_at, both, AreSameRows, HasStayedAt, HaveAgreed, IsRead, IsStanding, AreStandings,
-  HasStayed, known_read, AreEnds}
+use Rattle.c8_world.specs.Ends.{known_at, tally_of, tally_at, both, AreSameRows, HasStayedAt, HaveAgreed, IsRead, IsStanding, AreStandings}
+use Rattle.c8_world.specs.Ends.{HasStayed, known_read, AreEnds}
 use Rattle.c8_world.proofs.TableLemmas.{held_at, node_held}
 use Rattle.c8_world.proofs.NodeLemmas.{found_now}
 
@@ -47,7 +47,7 @@ same_rows a b frames is same = subst (λ (n : ℕ). rows_below a n ≡ rows_belo
 pub same_row_of : (a b : KnownValue) (frame : ℕ) → AreSameRows a b → frame < both a b → row a frame ≡ row b frame
 same_row_of a b frame same within =
     sym (get_or-map-range_with_len (row a) 0 (both a b) frame frame (row a frame) within (omega arith))
-        ∙ ap (λ (rows : List Row). slice_index_or rows frame (row a frame)) same
+    ∙ ap (λ (rows : List Row). slice_index_or rows frame (row a frame)) same
     ∙ get_or-map-range_with_len (row b) 0 (both a b) frame frame (row a frame) within (omega arith)
 
 -- ---- a read of a disk
@@ -67,7 +67,7 @@ replayed_known rules room p s disk (Ok last) known checks tells journals back sp
 replayed_known rules room p s disk (Err error) known checks tells journals back spell unrefused is =
     let now = found_now s disk tells in
     let bodies : AreJournalBodies rules p room (kept (bytes_of disk)) =
-        subst (λ (xs : List (List ℕ)). AreJournalBodies rules p room xs) (sym now.1) (spell (found s now.0) (journals now.0)) in
+    subst (λ (xs : List (List ℕ)). AreJournalBodies rules p room xs) (sym now.1) (spell (found s now.0) (journals now.0)) in
     absurd (unrefused (kept (bytes_of disk)) error bodies is.0)
 
 -- ---- one player
@@ -102,17 +102,17 @@ standings_more t w standings now standing number count is before one p other fro
       | inl early ↦
           let within : p - 1 < length standings = omega (arith, early, count, from) in
           subst (λ (x : Standing). IsStanding t.rules p (peer_of w p) (node_of t p) x)
-              (sym (ap (λ (xs : List Standing). slice_index_or xs (p - 1) other) is
-              ∙ get_or_append_left standings (standing ∷ []) other (p - 1) within))
+          (sym (ap (λ (xs : List Standing). slice_index_or xs (p - 1) other) is
+          ∙ get_or_append_left standings (standing ∷ []) other (p - 1) within))
           (before p other from early)
       | inr late ↦
           let same : p ≡ number = omega (arith, late, to) in
           let at : slice_index_or now (p - 1) other ≡ standing =
           ap (λ (xs : List Standing). slice_index_or xs (p - 1) other) is
-              ∙ ap (λ (i : ℕ). slice_index_or (standings ++ standing ∷ []) i other) (omega (arith, same, count))
-              ∙ get_or-append_seam standings standing [] other in
+          ∙ ap (λ (i : ℕ). slice_index_or (standings ++ standing ∷ []) i other) (omega (arith, same, count))
+          ∙ get_or-append_seam standings standing [] other in
           subst (λ (x : Standing). IsStanding t.rules p (peer_of w p) (node_of t p) x) (sym at)
-              (subst (λ (q : ℕ). IsStanding t.rules q (peer_of w q) (node_of t q) standing) (sym same) one)
+          (subst (λ (q : ℕ). IsStanding t.rules q (peer_of w q) (node_of t q) standing) (sym same) one)
     ]
 
 -- ---- the reads
@@ -168,12 +168,12 @@ module _ (t : TableValue) (w : World) (standings : List Standing) (reads : Reads
   known_here : (i : ℕ) (one : Standing) → i < length standings → slice_get standings i ≡ Some one → known_at one ≡ known_read t.rules w reads (i + 1)
   known_here i one within at =
       ap known_at (sym (get_or_from_slice_get standings i one one at))
-          ∙ ap (λ (j : ℕ). known_at (slice_index_or standings j one)) (omega arith) ∙ known (i + 1) one (player_at i within)
+      ∙ ap (λ (j : ℕ). known_at (slice_index_or standings j one)) (omega arith) ∙ known (i + 1) one (player_at i within)
 
   stayed_at : (i : ℕ) → i < length standings → HasStayed t.rules w reads (i + 1) → HasStayedAt standings i
   stayed_at i within stays first at =
       ap (λ (k : KnownValue). (player_in k (i + 1)).leaving) (known_here 0 first (omega (arith, within)) at)
-          ∙ leave_known t.rules (read_by w reads 1) (i + 1) (player_at i within) ∙ stays
+      ∙ leave_known t.rules (read_by w reads 1) (i + 1) (player_at i within) ∙ stays
 
   has_stayed : (i : ℕ) → i < length standings → HasStayedAt standings i → HasStayed t.rules w reads (i + 1)
   has_stayed i within stays =
@@ -181,7 +181,7 @@ module _ (t : TableValue) (w : World) (standings : List Standing) (reads : Reads
       let d : Standing = first_of standings many in
       let at = slice_get-get_or standings 0 d many in
       sym (leave_known t.rules (read_by w reads 1) (i + 1) (player_at i within))
-          ∙ sym (ap (λ (k : KnownValue). (player_in k (i + 1)).leaving) (known_here 0 (slice_index_or standings 0 d) many at))
+      ∙ sym (ap (λ (k : KnownValue). (player_in k (i + 1)).leaving) (known_here 0 (slice_index_or standings 0 d) many at))
       ∙ stays (slice_index_or standings 0 d) at
 
   -- any two undropped players, by their numbers
@@ -203,11 +203,11 @@ module _ (t : TableValue) (w : World) (standings : List Standing) (reads : Reads
       let one : Standing = slice_index_or standings (p - 1) d in
       let other : Standing = slice_index_or standings (r - 1) d in
       let same = all (p - 1) p_within (r - 1) r_within
-          (stayed_at (p - 1) p_within (subst (λ (q : ℕ). HasStayed t.rules w reads q) (sym p_is) p_stays))
+      (stayed_at (p - 1) p_within (subst (λ (q : ℕ). HasStayed t.rules w reads q) (sym p_is) p_stays))
       (stayed_at (r - 1) r_within (subst (λ (q : ℕ). HasStayed t.rules w reads q) (sym r_is) r_stays)) one other
       (slice_get-get_or standings (p - 1) d p_within) (slice_get-get_or standings (r - 1) d r_within) in
       subst (λ (k : KnownValue). AreSameRows k (known_read t.rules w reads r)) (known p d p_plays)
-          (subst (λ (k : KnownValue). AreSameRows (known_at one) k) (known r d r_plays) same)
+      (subst (λ (k : KnownValue). AreSameRows (known_at one) k) (known r d r_plays) same)
 
   by_places : Agreed → HaveAgreed standings
   by_places all i i_within j j_within i_stays j_stays one other i_at j_at =
@@ -223,8 +223,8 @@ are_ends t w standings players agree some stand players_are agreed =
     let many : 0 < length standings = omega (arith, some, size) in
     let d : Standing = first_of standings many in
     let picked = all_picked t.rules.players (λ p finds.
-        ((other : Standing) → known_at (slice_index_or standings (p - 1) other) ≡ known_of t.rules p (found (peer_of w p) finds))
-        × IsRead (peer_of w p) (node_of t p) finds)
+    ((other : Standing) → known_at (slice_index_or standings (p - 1) other) ≡ known_of t.rules p (found (peer_of w p) finds))
+    × IsRead (peer_of w p) (node_of t p) finds)
     (λ p from to.
     let one = stand.each p d (record { from_one = omega (arith, from); in_game = to }) in
     let within : p - 1 < length standings = omega (arith, from, to, size) in
@@ -237,10 +237,12 @@ are_ends t w standings players agree some stand players_are agreed =
         read = λ p plays. (picked.1 p (omega (arith, plays.from_one)) plays.in_game).1;
         players_are = players_are ∙ tallies_from standings 1 (known_read t.rules w reads) (λ i e within.
             ap (λ (j : ℕ). known_at (slice_index_or standings j e)) (omega arith)
-                ∙ known (1 + i) e (record { from_one = omega arith; in_game = omega (arith, within, size) }))
+            ∙ known (1 + i) e (record { from_one = omega arith; in_game = omega (arith, within, size) }))
             ∙ ap (λ (n : ℕ). map (λ p. tally_of (known_read t.rules w reads p)) (range_with_len 1 n)) size;
-        agree_is = (λ yes. by_numbers t w standings reads size some known (agreed.0 yes),
-            λ all. agreed.1 (by_places t w standings reads size some known all));
+        agree_is = (
+          λ yes. by_numbers t w standings reads size some known (agreed.0 yes),
+          λ all. agreed.1 (by_places t w standings reads size some known all),
+        );
       },
     )
 

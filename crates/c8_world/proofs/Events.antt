@@ -1,7 +1,7 @@
 -- What a call of an open peer records fits, and its memory stays sound.
 use Rattle.c8_known.specs.Growth.{Stands}
-use Rattle.std.proofs.Common.{◌≡◌, ◌≢◌, ℕ, ◌+◌, ◌-◌, ◌≤◌, ⊎_elim, List, [], ◌∷◌, length, drop, Bool, true, false, not, cond, Option, Some,
-  None, Ok, Err, refl, sym, ap, subst, ◌∙◌, arith}
+use Rattle.std.proofs.Common.{◌≡◌, ◌≢◌, ℕ, ◌+◌, ◌-◌, ◌≤◌, ⊎_elim, List, [], ◌∷◌, length, drop, Bool, true, false, not, cond, Option, Some}
+use Rattle.std.proofs.Common.{None, Ok, Err, refl, sym, ap, subst, ◌∙◌, arith}
 use Rattle.std.specs.Prelude.{◌==◌, ◌&&◌, ◌||◌, nat_lt, nat_le, is_some}
 use Rattle.std.proofs.lemmas.Bool.{eq-eqb, eqb-true, both_ways, ltb-false, leb-true, and_parts, or_parts, not-false}
 use Rattle.std.proofs.lemmas.List.{length-drop}
@@ -27,8 +27,8 @@ use Rattle.c8_peer.specs.Told.{Told, told_of}
 use Rattle.c8_refusals.specs.declared.error.Refused.TheVariants as refusals
 use Rattle.c8_peer.specs.State.{Memory, Saying, Call, Tick, Deliver, Say, Show, Leave, Decide, Reply, Outcome, answered, recorded, Checkpoint}
 use Rattle.c8_peer.specs.Calls.{tick, leave, decide, next_piece, checkpoint}
-use Rattle.c8_peer.specs.Hearing.{is_of_other_wire, refused, unless_misfit, got, is_desync, hear_data, hear_welcome, hear_freeze,
-  hear_frozen, hear_end, hear_cut, hear_message, hear_seen, hear_from, seen_in, unless_hand, deliver}
+use Rattle.c8_peer.specs.Hearing.{is_of_other_wire, refused, unless_misfit, got, is_desync, hear_data, hear_welcome, hear_freeze}
+use Rattle.c8_peer.specs.Hearing.{hear_frozen, hear_end, hear_cut, hear_message, hear_seen, hear_from, seen_in, unless_hand, deliver}
 use Rattle.c8_peer.specs.Saying.{is_not_mine, lacks_record, lacks_link, say, show}
 use Rattle.c8_peer.specs.Steps.{outcome}
 use Rattle.c8_peer.specs.Truth.{IsFrozenAt, IsTrue, IsTrueMessage}
@@ -36,8 +36,8 @@ use Rattle.c8_peer.specs.Lawful.{IsMemory}
 use Rattle.c8_world.specs.checked.Below.{ArePeersLawful}
 use Rattle.c8_world.specs.Agreement.{IsPlayer, IsAmong, Names}
 use Rattle.c8_world.proofs.Journals.{AreSound, MayAdd, Fits}
-use Rattle.c8_world.proofs.Records.{count_known, freeze_known_by, leave_known_by, me_is, names_player, one_unfrozen, stands_entered,
-  fits_own, fits_got, fits_freeze, fits_leave, fits_cut, fits_decision, fits_state, fits_check}
+use Rattle.c8_world.proofs.Records.{count_known, freeze_known_by, leave_known_by, me_is, names_player, one_unfrozen, stands_entered}
+use Rattle.c8_world.proofs.Records.{fits_own, fits_got, fits_freeze, fits_leave, fits_cut, fits_decision, fits_state, fits_check}
 
 -- ---- what holds for the memory
 
@@ -145,7 +145,7 @@ good_tick rules room J said p m keys sound plays awake =
     good_recorded rules room J said p m _ (records.Own k.me (count_in k k.me) keys) awake.chair awake.links (λ allowed.
     subst (λ (me : ℕ). Fits rules room J p (records.Own me (count_in k k.me) keys)) (sym (me_is rules p (J p)))
     (fits_own rules room J p (count_in k k.me) keys sound plays
-        (subst (λ (me : ℕ). MayAdd rules room J p (records.Own me (count_in k k.me) keys)) (me_is rules p (J p)) allowed))))))
+    (subst (λ (me : ℕ). MayAdd rules room J p (records.Own me (count_in k k.me) keys)) (me_is rules p (J p)) allowed))))))
 
 good_leave : (rules : Rules) (room : ℕ) (J : ℕ → List Record) (said : List Packet) (p : ℕ) (m : Memory) (leaver : ℕ) → AreSound rules room J
     → IsPlayer rules p → IsAwake rules room J said p m
@@ -172,7 +172,7 @@ decided_by_all laws rules room J said p m leaver plays leaver_plays awake first 
     let to = s_plays.in_game in
     let at_k : Plays k s = record { from_one = from; in_game = omega (arith, to, players_known rules p (J p)) } in
     let stays_here : (player_in k s).leaving ≡ false =
-        leave_known_by rules p s (J p) s_plays ∙ subst (λ (x : ℕ). has_leave s (J x) ≡ false) (sym first) stays in
+    leave_known_by rules p s (J p) s_plays ∙ subst (λ (x : ℕ). has_leave s (J x) ≡ false) (sym first) stays in
     let answer = laws.answered m.chair k leaver ready s at_k other stays_here in
     let at = awake.chair first leaver s answer.held s_plays answer.told in
     let few = at.few in
@@ -195,7 +195,7 @@ good_decide laws rules room J said p m leaver sound plays awake =
     good_recorded rules room J said p m _ (records.Cut leaver (count_in k leaver) (count_in k leaver) []) awake.chair awake.links (λ allowed.
     let leaver_plays = names_player rules room p (J p) (records.Cut leaver (count_in k leaver) (count_in k leaver) []) allowed.allowed in
     fits_decision rules room J p leaver (count_in k leaver) (count_in k leaver) sound plays leaver_plays first allowed
-        (decided_by_all laws rules room J said p m leaver plays leaver_plays awake first ready)))))
+    (decided_by_all laws rules room J said p m leaver plays leaver_plays awake first ready)))))
 
 -- ---- deliveries
 
@@ -214,7 +214,7 @@ good_got rules room J said p m q start words (w ∷ ws) sound plays q_plays chai
     good_recorded rules room J said p m _ (records.Got q (count_in k q) (w ∷ ws)) chair named (λ allowed.
     subst (λ (all : List ℕ). Fits rules room J p (records.Got q (count_in k q) all)) (sym e)
     (fits_got rules room J p q (count_in k q) start words sound plays q_plays
-        (subst (λ (all : List ℕ). MayAdd rules room J p (records.Got q (count_in k q) all)) e allowed) from stands frozen))
+    (subst (λ (all : List ℕ). MayAdd rules room J p (records.Got q (count_in k q) all)) e allowed) from stands frozen))
 
 fresh_is : (rules : Rules) (p q start : ℕ) (words : List ℕ) (journal : List Record) → IsPlayer rules q
     → fresh_words (known_of rules p journal) q start words ≡ drop (count rules q journal - start) words
@@ -250,7 +250,7 @@ good_data rules room J said p q m d sound plays q_plays awake stands =
     let thawed : has_freeze q (J p) ≡ false = sym (freeze_known_by rules p q (J p) q_plays) ∙ from_off k q itself in
     branch P (is_desync (told_of rules p (J p)) d) _ _ (λ is. good_answered rules room J said p _ _ awake.chair awake.links) (λ same.
     good_got rules room J said p (record m { acks = acked_more m.acks q d.ack }) q d.start d.words (fresh_words k q d.start d.words) sound
-        plays q_plays awake.chair awake.links
+    plays q_plays awake.chair awake.links
     (fresh_is rules p q d.start d.words (J p) q_plays) (no_gap_is rules p q d.start d.words (J p) q_plays fit) stands
     (λ is. absurd (both_ways (has_freeze q (J p)) thawed is))))))
 
@@ -266,7 +266,7 @@ good_freeze rules room J said p q m f sound plays awake =
     branch P (f.leaver == k.me || not (is_player k f.leaver)) _ _ (λ is. refuses _) (λ who.
     branch P (player_in k f.leaver).frozen _ _ (λ is. good_answered rules room J said p _ _ awake.chair awake.links) (λ first.
     good_recorded rules room J said p (record m { stayer = with_have m.stayer f.leaver f.have }) _ (records.Freeze f.leaver) awake.chair
-        awake.links (fits_freeze rules room J p f.leaver sound plays))))
+    awake.links (fits_freeze rules room J p f.leaver sound plays))))
 
 -- a true answer keeps the answers sound
 reported_more : (laws : ArePeersLawful) (rules : Rules) (J : ℕ → List Record) (p L q n : ℕ) (c : ChairValue) → IsPlayer rules q → 2 ≤ L
@@ -294,7 +294,7 @@ good_frozen laws rules room J said p q m f sound plays q_plays awake least at st
     let refuses = λ (reply : Reply). good_answered rules room J said p m reply awake.chair awake.links in
     let k : KnownValue = known_of rules p (J p) in
     let chair : AreReported rules J p (with_report m.chair f.leaver q f.length) =
-        reported_more laws rules J p f.leaver q f.length m.chair q_plays least awake.chair at in
+    reported_more laws rules J p f.leaver q f.length m.chair q_plays least awake.chair at in
     branch P (not (k.me == 1)) _ _ (λ is. refuses _) (λ one.
     branch P (f.leaver == q || not (is_player k f.leaver)) _ _ (λ is. refuses _) (λ who.
     branch P (not (player_in k f.leaver).leaving) _ _ (λ is. refuses _) (λ leaves.
@@ -303,13 +303,13 @@ good_frozen laws rules room J said p q m f sound plays q_plays awake least at st
     unless_misfit_by P m (misfit k f.leaver f.start f.words) _ (λ error. refuses _) (λ fits.
     let fit = is_fit k f.leaver f.start f.words fits in
     let leaver : IsPlayer rules f.leaver = in_game rules p f.leaver (J p)
-        (not-false (is_player k f.leaver) (or_parts (f.leaver == q) (not (is_player k f.leaver)) who).1) in
+    (not-false (is_player k f.leaver) (or_parts (f.leaver == q) (not (is_player k f.leaver)) who).1) in
     good_got rules room J said p (record m { chair = with_report m.chair f.leaver q f.length }) f.leaver f.start f.words
-        (fresh_words k f.leaver f.start f.words) sound plays leaver chair awake.links
+    (fresh_words k f.leaver f.start f.words) sound plays leaver chair awake.links
     (fresh_is rules p f.leaver f.start f.words (J p) leaver) (no_gap_is rules p f.leaver f.start f.words (J p) leaver fit)
     (stands_entered rules room J q f.leaver f.start f.words sound q_plays leaver stands)
     (λ is. absurd (both_ways (has_freeze f.leaver (J p))
-        (one_unfrozen rules room J p f.leaver sound plays leaver (is_one rules p (J p) one)) is))))))))
+    (one_unfrozen rules room J p f.leaver sound plays leaver (is_one rules p (J p) one)) is))))))))
 
 -- a list within the cut stays within it with the new inputs of a run that ends within it
 fresh_within : (held start K : ℕ) (words : List ℕ) → held ≤ K → start + length words ≤ K → held + length (drop (held - start) words) ≤ K
@@ -344,7 +344,7 @@ good_end rules room J said p m c None sound plays leaver awake elsewhere cut sta
     (fits_cut rules room J p c.leaver c.length (count_in k c.leaver) c.start c.words sound plays leaver elsewhere
     (subst (λ (all : List ℕ). MayAdd rules room J p (records.Cut c.leaver c.length (count_in k c.leaver) all)) same allowed) from stands cut whole)))
     (λ short. good_got rules room J said p m c.leaver c.start c.words fresh sound plays leaver awake.chair awake.links same from stands
-        (λ is. (c.length, cut, whole)))))
+    (λ is. (c.length, cut, whole)))))
 
 good_cut : (rules : Rules) (room : ℕ) (J : ℕ → List Record) (said : List Packet) (p q : ℕ) (m : Memory) (c : LeaverMessage)
     → AreSound rules room J → IsPlayer rules p → IsPlayer rules q → IsAwake rules room J said p m
@@ -357,13 +357,13 @@ good_cut rules room J said p q m c sound plays q_plays awake apart first cut sta
     let k : KnownValue = known_of rules p (J p) in
     branch P (not (q == 1)) _ _ (λ is. refuses _) (λ chair.
     branch P (c.leaver == k.me) _ _ (λ is. good_recorded rules room J said p m _ (records.Leave k.me) awake.chair awake.links
-        (fits_leave rules room J p k.me sound plays)) (λ other.
+    (fits_leave rules room J p k.me sound plays)) (λ other.
     branch P (not (is_player k c.leaver)) _ _ (λ is. refuses _) (λ inside.
     branch P (not (player_in k c.leaver).frozen) _ _ (λ is. refuses _) (λ frozen.
     let leaver : IsPlayer rules c.leaver = in_game rules p c.leaver (J p) (not-false (is_player k c.leaver) inside) in
     good_end rules room J said p m c (player_in k c.leaver).cut sound plays leaver awake (λ e. apart (first ∙ sym e))
     (subst (λ (x : ℕ). cut_of c.leaver (J x) ≡ Some c.length) first cut)
-        (stands_entered rules room J q c.leaver c.start c.words sound q_plays leaver stands) within))))
+    (stands_entered rules room J q c.leaver c.start c.words sound q_plays leaver stands) within))))
 
 -- a link that a datagram opens is named by it
 named_heard : (said : List Packet) (p : ℕ) (l : LinksValue) (packet : Packet) → l.me ≡ p → IsAmong said packet
@@ -420,7 +420,7 @@ good_seen : (rules : Rules) (room : ℕ) (J : ℕ → List Record) (said : List 
 unfolding hear_seen
 good_seen rules room J said p m head ack awake =
     branch (IsGood rules room J said p) (nat_lt (confirmed (known_of rules p (J p))) ack) _ _
-        (λ is. good_answered rules room J said p m _ awake.chair awake.links)
+    (λ is. good_answered rules room J said p m _ awake.chair awake.links)
     (λ few. good_answered rules room J said p _ _ awake.chair awake.links)
 
 -- the sender of an admitted datagram is another player
@@ -435,11 +435,11 @@ good_from : (laws : ArePeersLawful) (rules : Rules) (room : ℕ) (J : ℕ → Li
     → IsGood rules room J said p (hear_from rules (told_of rules p (J p)) (known_of rules p (J p)) m packet heard_rows)
 good_from laws rules room J said p m packet (Some ack) sound plays awake among told spelled =
     unless_hand_by (IsGood rules room J said p) m (links.refusal_of_seen m.links packet.head) _
-        (λ error. good_answered rules room J said p m _ awake.chair awake.links)
+    (λ error. good_answered rules room J said p m _ awake.chair awake.links)
     (λ admitted. good_seen rules room J said p m packet.head ack awake)
 good_from laws rules room J said p m packet None sound plays awake among told spelled =
     unless_hand_by (IsGood rules room J said p) m (links.refusal m.links packet.head) _
-        (λ error. good_answered rules room J said p m _ awake.chair awake.links) (λ admitted.
+    (λ error. good_answered rules room J said p m _ awake.chair awake.links) (λ admitted.
     good_message laws rules room J said p m packet packet.message sound plays awake among admitted told.0
     (sender_apart rules room p (J p) m packet.head awake.lawful admitted) told.1.message spelled.message)
 
@@ -472,7 +472,7 @@ good_show : (rules : Rules) (room : ℕ) (J : ℕ → List Record) (said : List 
 unfolding show
 good_show rules room J said p m watcher awake =
     branch (IsGood rules room J said p) ((known_of rules p (J p)).me == 1) _ _
-        (λ is. good_answered rules room J said p m _ awake.chair awake.links) (λ other. good_answered rules room J said p m _ awake.chair awake.links)
+    (λ is. good_answered rules room J said p m _ awake.chair awake.links) (λ other. good_answered rules room J said p m _ awake.chair awake.links)
 
 good_piece : (rules : Rules) (room : ℕ) (J : ℕ → List Record) (said : List Packet) (p : ℕ) (m : Memory) (o : Option Pieces)
     → AreSound rules room J → IsPlayer rules p → IsAwake rules room J said p m
@@ -481,11 +481,11 @@ good_piece rules room J said p m None sound plays awake =
     let k : KnownValue = known_of rules p (J p) in
     let t : Told = told_of rules p (J p) in
     branch (IsGood rules room J said p) (nat_le (confirmed k) (frames_of t.checks.last)) _ _
-        (λ is. good_answered rules room J said p m _ awake.chair awake.links)
+    (λ is. good_answered rules room J said p m _ awake.chair awake.links)
     (λ above. good_recorded rules room J said p m _ _ awake.chair awake.links (fits_state rules room J p _ _ _ _ sound plays))
 good_piece rules room J said p m (Some pieces) sound plays awake =
     branch (IsGood rules room J said p) (pieces.count == 36) _ _
-        (λ all. good_recorded rules room J said p m _ _ awake.chair awake.links (fits_check rules room J p _ _ _ sound plays))
+    (λ all. good_recorded rules room J said p m _ _ awake.chair awake.links (fits_check rules room J p _ _ _ sound plays))
     (λ more. good_recorded rules room J said p m _ _ awake.chair awake.links (fits_state rules room J p _ _ _ _ sound plays))
 
 good_checkpoint : (rules : Rules) (room : ℕ) (J : ℕ → List Record) (said : List Packet) (p : ℕ) (m : Memory) → AreSound rules room J

@@ -1,6 +1,6 @@
 -- The invariant of all journals together, and why a record that fits keeps it.
-use Rattle.std.proofs.Common.{◌≡◌, ◌≢◌, ℕ, ◌+◌, ◌≤◌, ◌⊎◌, inl, inr, ⊎_elim, List, [], ◌∷◌, ◌++◌, length, Bool, true, false, Some, refl, sym,
-  ap, subst, ◌∙◌, length-append, arith}
+use Rattle.std.proofs.Common.{◌≡◌, ◌≢◌, ℕ, ◌+◌, ◌≤◌, ◌⊎◌, inl, inr, ⊎_elim, List, [], ◌∷◌, ◌++◌, length, Bool, true, false, Some, refl, sym}
+use Rattle.std.proofs.Common.{ap, subst, ◌∙◌, length-append, arith}
 use Rattle.std.specs.Prelude.{◌||◌}
 use Rattle.std.specs.List.{slice_get, list_any}
 use Rattle.std.proofs.lemmas.Bool.{cases_eq, eq-eqb}
@@ -119,7 +119,7 @@ new_frozen rules room J J' p r range sound plays fits more L before rest e =
     let grown : Begins (J 1) (J' 1) = more_grown rules J J' p r more 1 one in
     let longer : held rules L (J' p) ≡ held rules L (J p) ++ words_of L r = ap (held rules L) more.here ∙ held_next rules L (J p) r in
     let many : count rules L (J' p) ≡ count rules L (J p) + length (words_of L r) =
-        ap (λ (xs : List ℕ). length xs) longer ∙ length-append (held rules L (J p)) (words_of L r) in
+    ap (λ (xs : List ℕ). length xs) longer ∙ length-append (held rules L (J p)) (words_of L r) in
     ⊎_elim
     (λ last.
     let none : words_of L r ≡ [] = ap (words_of L) (sym last.1) in
@@ -146,14 +146,14 @@ sound_more rules room J J' p r range sound plays fits more =
     record {
       valid = λ q q_plays. elim (cases_eq q p) [
         | inl same ↦ subst (λ (x : ℕ). IsJournal rules x room (J' x)) (sym same)
-        (subst (λ (journal : List Record). IsJournal rules p room journal) (sym more.here)
-        (journal_more rules p room (J p) r (sound.valid p plays) fits.may.allowed))
+            (subst (λ (journal : List Record). IsJournal rules p room journal) (sym more.here)
+            (journal_more rules p room (J p) r (sound.valid p plays) fits.may.allowed))
         | inr other ↦ subst (λ (journal : List Record). IsJournal rules q room journal) (sym (more.there q q_plays other)) (sound.valid q q_plays)
       ];
       begins = λ a q a_plays q_plays. elim (cases_eq a p) [
         | inr other ↦ rw (more.there a a_plays other)
             (begins_more (held rules q (J a)) (held rules q (J q)) (held rules q (J' q)) (sound.begins a q a_plays q_plays)
-                (held_grown rules q (J q) (J' q) (grown q q_plays)))
+            (held_grown rules q (J q) (J' q) (grown q q_plays)))
         | inl same ↦ elim (cases_eq q p) [
           | inl also ↦ subst (λ (x : ℕ). Begins (held rules q (J' a)) (held rules q (J' x))) (same ∙ sym also) (begins_same (held rules q (J' a)))
           | inr apart ↦
@@ -163,7 +163,7 @@ sound_more rules room J J' p r range sound plays fits more =
       ];
       cuts = λ a L K a_plays is. elim (cases_eq a p) [
         | inr other ↦ cut_grown L K (J 1) (J' 1) (grown 1 one)
-        (sound.cuts a L K a_plays (subst (λ (journal : List Record). cut_of L journal ≡ Some K) (more.there a a_plays other) is))
+            (sound.cuts a L K a_plays (subst (λ (journal : List Record). cut_of L journal ≡ Some K) (more.there a a_plays other) is))
         | inl same ↦ elim (cases_eq a 1) [
           | inl first ↦ subst (λ (x : ℕ). cut_of L (J' x) ≡ Some K) first is
           | inr not_one ↦
@@ -176,7 +176,7 @@ sound_more rules room J J' p r range sound plays fits more =
       decided = λ L K s is s_plays not_one stays. elim (cases_eq 1 p) [
         | inr other ↦ frozen_grown rules L K (J s) (J' s) (grown s s_plays)
             (sound.decided L K s (subst (λ (journal : List Record). cut_of L journal ≡ Some K) (more.there 1 one other) is) s_plays not_one
-                (stayed_grown s (J 1) (J' 1) (grown 1 one) stays))
+            (stayed_grown s (J 1) (J' 1) (grown 1 one) stays))
         | inl same ↦
             let stayed = stayed_grown s (J 1) (J' 1) (grown 1 one) stays in
             frozen_grown rules L K (J s) (J' s) (grown s s_plays)
@@ -184,7 +184,7 @@ sound_more rules room J J' p r range sound plays fits more =
             (λ old. sound.decided L K s old s_plays not_one stayed)
             (λ new. fits.decides L K s (sym same) new s_plays not_one stayed)
             (cut_next L K (J 1) r (subst (λ (journal : List Record). cut_of L journal ≡ Some K)
-                (subst (λ (x : ℕ). J' x ≡ J x ++ r ∷ []) (sym same) more.here) is)))
+            (subst (λ (x : ℕ). J' x ≡ J x ++ r ∷ []) (sym same) more.here) is)))
       ];
       frozen = λ s L before rest s_plays e. elim (cases_eq s p) [
         | inl same ↦ subst (λ (x : ℕ). HoldsNoMore rules J' x L (count rules L before)) (sym same)
@@ -193,8 +193,11 @@ sound_more rules room J J' p r range sound plays fits more =
             let unchanged : J' s ≡ J s = more.there s s_plays other in
             ⊎_elim
             (λ few. inl (subst (λ (journal : List Record). count rules L journal ≤ count rules L before) (sym unchanged) few))
-            (λ cut. inr (cut.0, cut_grown L cut.0 (J 1) (J' 1) (grown 1 one) cut.1,
-                subst (λ (journal : List Record). count rules L journal ≤ cut.0) (sym unchanged) cut.2))
+            (λ cut. inr (
+              cut.0,
+              cut_grown L cut.0 (J 1) (J' 1) (grown 1 one) cut.1,
+              subst (λ (journal : List Record). count rules L journal ≤ cut.0) (sym unchanged) cut.2,
+            ))
             (sound.frozen s L before rest s_plays (sym unchanged ∙ e))
       ];
       checks = λ q q_plays. elim (cases_eq q p) [
@@ -218,10 +221,13 @@ fits_later rules room J J' p r range fits same grown =
       cuts = λ L K not_one is. cut_grown L K (J 1) (J' 1) (grown 1 one) (fits.cuts L K not_one is);
       decides = λ L K s first is plays not_one stays.
           frozen_grown rules L K (J s) (J' s) (grown s plays)
-              (fits.decides L K s first is plays not_one (stayed_grown s (J 1) (J' 1) (grown 1 one) stays));
+          (fits.decides L K s first is plays not_one (stayed_grown s (J 1) (J' 1) (grown 1 one) stays));
       frozen = λ L is. ⊎_elim
           (λ none. inl none)
-          (λ cut. inr (cut.0, cut_grown L cut.0 (J 1) (J' 1) (grown 1 one) cut.1,
-              subst (λ (journal : List Record). count rules L journal + length (words_of L r) ≤ cut.0) (sym same) cut.2))
+          (λ cut. inr (
+            cut.0,
+            cut_grown L cut.0 (J 1) (J' 1) (grown 1 one) cut.1,
+            subst (λ (journal : List Record). count rules L journal + length (words_of L r) ≤ cut.0) (sym same) cut.2,
+          ))
           (fits.frozen L (subst (λ (journal : List Record). has_freeze L journal ≡ true) same is));
     }

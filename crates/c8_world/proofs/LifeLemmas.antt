@@ -1,6 +1,6 @@
 -- A world's life, one more event at a time, and what holds at its moments.
-use Rattle.std.proofs.Common.{◌≡◌, ◌≢◌, inl, inr, ⊎_elim, ℕ, ◌<◌, ◌^◌, List, [], ◌∷◌, ◌++◌, map, length, take, drop, ◌+◌, ◌-◌,
-  slice_index_or, Option, None, Err, refl, sym, ap, subst, ◌∙◌, arith}
+use Rattle.std.proofs.Common.{◌≡◌, ◌≢◌, inl, inr, ⊎_elim, ℕ, ◌<◌, ◌^◌, List, [], ◌∷◌, ◌++◌, map, length, take, drop, ◌+◌, ◌-◌}
+use Rattle.std.proofs.Common.{slice_index_or, Option, None, Err, refl, sym, ap, subst, ◌∙◌, arith}
 use Rattle.std.proofs.lemmas.List.{length-replicate, append_assoc, append-nil, take_more, drop_more, take-append-drop}
 use Rattle.c8_game.specs.declared.row.Player.{Player}
 use Rattle.c8_world.specs.declared.event.Act.TheVariants as act_ofs
@@ -18,11 +18,11 @@ use Rattle.c8_world.specs.declared.answer.Answer.TheVariants as answers
 use Rattle.c8_world.specs.declared.event.Act as acts
 use Rattle.c8_world.specs.declared.event.Event as asked
 use Rattle.c8_world.specs.declared.event.Event.TheVariants as happenings
-use Rattle.c8_world.specs.World.{World, never_opened, start, player_of, act_inside, Act, Open, Event, Do, Happening, Answer, Told,
-  CanHappen, Chain, IsReached}
+use Rattle.c8_world.specs.World.{World, never_opened, start, player_of, act_inside, Act, Open, Event, Do, Happening, Answer, Told}
+use Rattle.c8_world.specs.World.{CanHappen, Chain, IsReached}
 use Rattle.c8_world.specs.Events.{act_of, event_of}
-use Rattle.c8_world.specs.Table.{TableValue, IsTaken, IsFull, IsUntouched, node_of, IsSameMatch, Holds, HadMemory, HasHappened,
-  HasNotHappened, reported}
+use Rattle.c8_world.specs.Table.{TableValue, IsTaken, IsFull, IsUntouched, node_of, IsSameMatch, Holds, HadMemory, HasHappened}
+use Rattle.c8_world.specs.Table.{HasNotHappened, reported}
 use Rattle.c8_world.specs.Headline.{IsHeadline}
 use Rattle.c8_world.specs.Run.{IsRefusedMemory, HasLivedOn, RunsBy, Runs, WorldValue, IsLived, HasRun, HasRunOut, AreMoments}
 
@@ -70,7 +70,7 @@ pub lived_more : (old new : TableValue) (events : List asked.Event) (told : List
 lived_more old new events told event answer events_now told_now lived same happens events_are told_are =
     let one = happens lived.now lived.holds in
     let runs = runs_more (λ h. Unit {0}) old.rules old.room (start old.rules) lived.now one.world events told event answer one.told
-        lived.runs one.can tt one.reports in
+    lived.runs one.can tt one.reports in
     record {
       now = one.world;
       runs = rw (same.rules, same.room, events_are, told_are) runs;
@@ -89,7 +89,7 @@ lived_unopened old new events told act event p events_now told_now lived same ha
     let can : CanHappen old.rules old.room lived.now (Do (act_of act)) (Told (Opened (Err opens.Memory))) one.world =
     subst (λ (a : Act). CanHappen old.rules old.room lived.now (Do a) (Told (Opened (Err opens.Memory))) one.world) (sym also) (one.opens p is) in
     let runs = runs_more (λ h. Unit {0}) old.rules old.room (start old.rules) lived.now one.world events told (happenings.Do act)
-        (answers.Opened (Err opens.Memory)) (Told (Opened (Err opens.Memory))) lived.runs can tt refl in
+    (answers.Opened (Err opens.Memory)) (Told (Opened (Err opens.Memory))) lived.runs can tt refl in
     record {
       now = one.world;
       runs = rw (same.rules, same.room, events_are, told_are) runs;
@@ -122,7 +122,7 @@ pub run_more : (old mid new : TableValue) (w : World) (events now : List asked.E
 run_more old mid new w events now told told_now event answer same ran happens is also =
     let one = happens ran.world ran.holds in
     let moved : CanDo old.rules old.room ran.world (event_of event) one.told one.world =
-        rw (sym same.rules, sym same.room) (one.can, one.had_memory) in
+    rw (sym same.rules, sym same.room) (one.can, one.had_memory) in
     record {
       world = one.world;
       runs = rw (is, also) (runs_more HadMemory old.rules old.room w ran.world one.world events told event answer one.told ran.runs moved.0
@@ -135,8 +135,18 @@ pub run_out : (old mid new : TableValue) (w : World) (events before after : List
     → events ≡ before ++ event ∷ after → HasRunOut old w events told new
 run_out old mid new w events before after told event ran happens at =
     let one = happens ran.world ran.holds in
-    record { before = before; event = event; after = after; at = at; takes = inr one.takes; then = ran.world; runs = ran.runs;
-        now = one.world; left = one.left; holds = one.holds }
+    record {
+      before = before;
+      event = event;
+      after = after;
+      at = at;
+      takes = inr one.takes;
+      then = ran.world;
+      runs = ran.runs;
+      now = one.world;
+      left = one.left;
+      holds = one.holds;
+    }
 
 pub one_more : (events : List asked.Event) (i : ℕ) (event : asked.Event) → i < length events → event ≡ slice_index_or events i event
     → take (i + 1) events ≡ take i events ++ event ∷ []
@@ -146,7 +156,7 @@ pub here_split : (events : List asked.Event) (i : ℕ) (event : asked.Event) →
     → events ≡ take i events ++ event ∷ drop (i + 1) events
 here_split events i event within is =
     sym (take-append-drop i events) ∙ ap (λ (xs : List asked.Event). take i events ++ xs)
-        (drop_more events i event within ∙ ap (λ (x : asked.Event). x ∷ drop (i + 1) events) (sym is))
+    (drop_more events i event within ∙ ap (λ (x : asked.Event). x ∷ drop (i + 1) events) (sym is))
 
 pub run_next : (old mid new : TableValue) (w : World) (events : List asked.Event) (i : ℕ) (told told_now : List codes.Answer)
     (event : asked.Event) (answer : codes.Answer) → i < length events
@@ -217,8 +227,18 @@ pub run_out_first : (t : TableValue) (w : World) (events : List asked.Event) (to
     → told ≡ [] → Holds t w → HasRunOut t w events told t
 run_out_first t w [] told some none holds = absurd (some refl)
 run_out_first t w (event ∷ events) told some none holds =
-    record { before = []; event = event; after = events; at = refl; takes = inl refl; then = w; runs = rw none refl; now = w;
-        left = inl refl; holds = holds }
+    record {
+      before = [];
+      event = event;
+      after = events;
+      at = refl;
+      takes = inl refl;
+      then = w;
+      runs = rw none refl;
+      now = w;
+      left = inl refl;
+      holds = holds;
+    }
 
 -- ---- moments
 
@@ -241,7 +261,7 @@ headline_of old w law range few same earlier later =
     let range_now : AreInRange w.table.rules = rw same.rules range in
     let few_now : w.table.room < 2 ^ 64 = rw same.room few in
     moments_agree w earlier later (λ x y. IsHeadline w.table.rules w.table.room x y)
-        (λ x y events replies. law w.table.rules w.table.room x y events replies range_now few_now)
+    (λ x y events replies. law w.table.rules w.table.room x y events replies range_now few_now)
 
 pub of_view : (P : WorldValue → Type 0) (inside self : WorldValue) → inside ≡ self → P inside → P self
 of_view P inside self view is = subst P view is
@@ -258,7 +278,7 @@ start_holds t full untouched quiet five six = record {
       let to = plays.in_game in
       let size = full.1 in
       subst (λ (s : State). IsTaken t.rules t.room p (node_of t p) s) (sym (peer_at_start t.rules p))
-          (untouched (p - 1) None (omega (arith, from, to, size)) t.rules t.room p);
+      (untouched (p - 1) None (omega (arith, from, to, size)) t.rules t.room p);
   said = quiet;
   five = five;
   six = six;
@@ -274,8 +294,13 @@ pub opening_refused : (inside self : WorldValue) (event : asked.Event) (player :
     → new.answers ≡ inside.answers ++ answers.Opened (Err opens.Memory) ∷ [] → IsRefusedMemory event self new
 opening_refused inside self event player new view opens_it events_are told_are =
     subst (λ (w : WorldValue). IsRefusedMemory event w new) view
-    (record { more = happenings.Do (act_ofs.Open player) ∷ []; told = answers.Opened (Err opens.Memory) ∷ [];
-        added = inr (player, opens_it, refl, refl); events_are = events_are; answers_are = told_are })
+    (record {
+      more = happenings.Do (act_ofs.Open player) ∷ [];
+      told = answers.Opened (Err opens.Memory) ∷ [];
+      added = inr (player, opens_it, refl, refl);
+      events_are = events_are;
+      answers_are = told_are;
+    })
 
 -- any other act adds nothing
 pub nothing_refused : (inside self : WorldValue) (event : asked.Event) (new : WorldValue) → inside ≡ self
@@ -283,5 +308,10 @@ pub nothing_refused : (inside self : WorldValue) (event : asked.Event) (new : Wo
     → IsRefusedMemory event self new
 nothing_refused inside self event new view other events_are told_are =
     subst (λ (w : WorldValue). IsRefusedMemory event w new) view
-    (record { more = []; told = []; added = inl (other, refl, refl); events_are = events_are ∙ sym (append-nil inside.events);
-        answers_are = told_are ∙ sym (append-nil inside.answers) })
+    (record {
+      more = [];
+      told = [];
+      added = inl (other, refl, refl);
+      events_are = events_are ∙ sym (append-nil inside.events);
+      answers_are = told_are ∙ sym (append-nil inside.answers);
+    })

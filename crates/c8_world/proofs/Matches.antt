@@ -1,6 +1,6 @@
 -- Computes the worked matches.
-use Rattle.std.proofs.Common.{◌≡◌, ◌≢◌, ◌⊎◌, ℕ, zero, suc, ◌<◌, ◌≤◌, ◌^◌, List, [], ◌∷◌, ◌++◌, length, slice_index_or, Bool, true, false,
-  refl, inl, ap, arith}
+use Rattle.std.proofs.Common.{◌≡◌, ◌≢◌, ◌⊎◌, ℕ, zero, suc, ◌<◌, ◌≤◌, ◌^◌, List, [], ◌∷◌, ◌++◌, length, slice_index_or, Bool, true, false}
+use Rattle.std.proofs.Common.{refl, inl, ap, arith}
 use Rattle.std.specs.Prelude.{slice_index}
 use Rattle.std.proofs.lemmas.Bool.{leb-true}
 use Rattle.std.proofs.lemmas.List.{length-append}
@@ -33,9 +33,10 @@ use Rattle.c8_peer.specs.Saying.{say}
 use Rattle.c8_world.specs.checked.Below.{ArePeersLawful}
 use Rattle.c8_world.specs.World.{World, start, Open, Happening, acted, known_by, IsReached}
 use Rattle.c8_world.specs.Agreement.{IsPlayer, AgreeUpTo}
-use Rattle.c8_world.specs.Matches.{Line, events_of, answers_of, works, datagram, inputs, confirmed_by, lengths_from, two, three, four,
-  begins, replies, goes_on, GoesInTurn, lost, left, taken, StopsInTick, play, let_go, answers, cuts, CutsWhereHeld, eleventh, told,
-  DiffersWhenDropped, opened_again, CutsAfterRestart, silent, WaitsForSilent, over, EndsAfterLastFrame, with_head, RefusesOther}
+use Rattle.c8_world.specs.Matches.{Line, events_of, answers_of, works, datagram, inputs, confirmed_by, lengths_from, two, three, four}
+use Rattle.c8_world.specs.Matches.{begins, replies, goes_on, GoesInTurn, lost, left, taken, StopsInTick, play, let_go, answers, cuts}
+use Rattle.c8_world.specs.Matches.{CutsWhereHeld, eleventh, told, DiffersWhenDropped, opened_again, CutsAfterRestart, silent}
+use Rattle.c8_world.specs.Matches.{WaitsForSilent, over, EndsAfterLastFrame, with_head, RefusesOther}
 use Rattle.c8_world.proofs.Worlds.{start_sound}
 use Rattle.c8_world.proofs.Runs.{course, IsWorked, worked}
 
@@ -165,13 +166,15 @@ goes_on_worked laws = worked laws (two 100 1) both goes_on turn_range (replies_w
 
 -- DATA with one input has 48 bytes
 one_input : (head : HeadValue) (ack frame start word : ℕ) (mark : List ℕ) → head.version ≡ versions.One → length mark ≡ 8
-    → length (spelling (record { head = head;
-    message = packets.Data (record { ack = ack; mark_frame = frame; mark = mark; start = start; words = word ∷ [] }) })) ≡ 48
+    → length (spelling (record {
+      head = head;
+      message = packets.Data (record { ack = ack; mark_frame = frame; mark = mark; start = start; words = word ∷ [] });
+    })) ≡ 48
 unfolding spelling
 one_input head ack frame start word mark first eight =
     let run : length (run_bytes versions.One start (word ∷ [])) ≡ 8 = refl in
     let same : length (run_bytes head.version start (word ∷ [])) ≡ length (run_bytes versions.One start (word ∷ [])) =
-        ap (λ (v : WireVersion). length (run_bytes v start (word ∷ []))) first in
+    ap (λ (v : WireVersion). length (run_bytes v start (word ∷ []))) first in
     omega (arith, length-append mark (run_bytes head.version start (word ∷ [])), eight, run, same)
 
 turn_lengths : ArePeersLawful → lengths_from 0 turn_end ≡ 24 ∷ 28 ∷ 24 ∷ 28 ∷ 48 ∷ 48 ∷ []
@@ -415,8 +418,16 @@ refuses_other id room long fit few other = record {
   end = (acted (two 100 8) 0 (with_head id room) (Open 1) refuses).world;
   refused = record {
     happening = refuses;
-    may = λ plays. ((1, id, room, (body_of (Head 1 0 id room), 0, refl, record { has = head_spelled id room long fit few; is = refl }),
-        other), omega arith);
+    may = λ plays. (
+      (
+        1,
+        id,
+        room,
+        (body_of (Head 1 0 id room), 0, refl, record { has = head_spelled id room long fit few; is = refl }),
+        other,
+      ),
+      omega arith,
+    );
     is = refl;
   };
   stays = refl;

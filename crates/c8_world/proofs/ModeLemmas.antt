@@ -1,6 +1,6 @@
 -- The answers tell whether each peer is open, down or away.
-use Rattle.std.proofs.Common.{◌≡◌, ◌≢◌, ℕ, ◌<◌, ◌^◌, inl, inr, List, [], ◌∷◌, length, Bool, true, false, Option, Some, None, Ok, Err, refl,
-  sym, ap, subst, ◌∙◌, slice_index_or, ◌-◌}
+use Rattle.std.proofs.Common.{◌≡◌, ◌≢◌, ℕ, ◌<◌, ◌^◌, inl, inr, List, [], ◌∷◌, length, Bool, true, false, Option, Some, None, Ok, Err, refl}
+use Rattle.std.proofs.Common.{sym, ap, subst, ◌∙◌, slice_index_or, ◌-◌}
 use Rattle.std.specs.Prelude.{◌==◌, if◌then◌else◌}
 use Rattle.std.specs.List.{slice_get}
 use Rattle.std.proofs.lemmas.Bool.{cases_eq, cases_Bool, eq-eqb, ne_eqb}
@@ -12,10 +12,10 @@ use Rattle.c8_peer.specs.Steps.{DiskOutcome, Stepped, step}
 use Rattle.c8_peer.specs.Opening.{found, away, opened}
 use Rattle.c8_peer.specs.Replies.{mode_told}
 use Rattle.c8_world.specs.checked.Below.{ArePeersLawful}
-use Rattle.c8_world.specs.World.{World, start, is_player, peer_of, with_peer, Act, Open, Tick, Say, Give, Leave, Decide, player_of, Event,
-  Do, Stop, Happening, Answer, Told, IsUp, IsDown, NoSuch, Stopped, After, said_by, stepped, call_at_mode, call_at, open_at_mode, open_at,
-  give_to, acted, crashed, after, MayAct, act_inside, CanHappen, Chain, Check, Show, Hear, Seen, Fresh, Anew, Spoken, Watched, hear_at,
-  seen_by_watcher, with_rows, never_opened}
+use Rattle.c8_world.specs.World.{World, start, is_player, peer_of, with_peer, Act, Open, Tick, Say, Give, Leave, Decide, player_of, Event}
+use Rattle.c8_world.specs.World.{Do, Stop, Happening, Answer, Told, IsUp, IsDown, NoSuch, Stopped, After, said_by, stepped, call_at_mode}
+use Rattle.c8_world.specs.World.{call_at, open_at_mode, open_at, give_to, acted, crashed, after, MayAct, act_inside, CanHappen, Chain}
+use Rattle.c8_world.specs.World.{Check, Show, Hear, Seen, Fresh, Anew, Spoken, Watched, hear_at, seen_by_watcher, with_rows, never_opened}
 use Rattle.c8_world.specs.Agreement.{IsPlayer}
 use Rattle.c8_world.specs.declared.answer.Answer as codes
 use Rattle.c8_world.specs.declared.answer.Answer.TheVariants as answers
@@ -50,12 +50,12 @@ module _ (laws : ArePeersLawful) (rules : Rules) (room p : ℕ) (plays : IsPlaye
     | inl same ↦
         let test : (q == p) ≡ true = eq-eqb q p same in
         let here : peer_of (stepped w q t).world p ≡ t.state =
-            subst (λ (x : ℕ). peer_of (stepped w q t).world x ≡ t.state) same (peer_here rules w q t.state (said_by t.reply) nodes q_plays) in
+        subst (λ (x : ℕ). peer_of (stepped w q t).world x ≡ t.state) same (peer_here rules w q t.state (said_by t.reply) nodes q_plays) in
         rw test (ap (λ (s : State). s.mode) here ∙ tells)
     | inr apart ↦
         let test : (q == p) ≡ false = ne_eqb q p apart in
         let there : peer_of (stepped w q t).world p ≡ peer_of w p =
-            peer_there rules w q t.state (said_by t.reply) p q_plays plays (λ e. apart (sym e)) in
+        peer_there rules w q t.state (said_by t.reply) p q_plays plays (λ e. apart (sym e)) in
         rw test (ap (λ (s : State). s.mode) there)
   ]
 
@@ -77,10 +77,10 @@ module _ (laws : ArePeersLawful) (rules : Rules) (room p : ℕ) (plays : IsPlaye
   open_mode_tells w q h states.Open nodes q_plays = stays w q IsUp (λ mode. refl)
   open_mode_tells w q h Down nodes q_plays =
       goes_on w q (opened rules room q (peer_of w q) (found (peer_of w q) h.finds) h.opening) nodes q_plays
-          (laws.openings_tell rules room q (peer_of w q) (found (peer_of w q) h.finds) h.opening)
+      (laws.openings_tell rules room q (peer_of w q) (found (peer_of w q) h.finds) h.opening)
   open_mode_tells w q h Away nodes q_plays =
       goes_on w q (opened rules room q (peer_of w q) (found (peer_of w q) h.finds) h.opening) nodes q_plays
-          (laws.openings_tell rules room q (peer_of w q) (found (peer_of w q) h.finds) h.opening)
+      (laws.openings_tell rules room q (peer_of w q) (found (peer_of w q) h.finds) h.opening)
 
   -- a player who is not in the game is not p
   stranger : (q : ℕ) → is_player rules q ≡ false → (q == p) ≡ false
@@ -135,7 +135,7 @@ module _ (laws : ArePeersLawful) (rules : Rules) (room p : ℕ) (plays : IsPlaye
         elim (cases_eq q p) [
           | inl same ↦
               let here : peer_of (with_peer u q s) p ≡ s =
-                  subst (λ (x : ℕ). peer_of (with_peer u q s) x ≡ s) same (peer_here rules u q s [] nodes q_plays) in
+              subst (λ (x : ℕ). peer_of (with_peer u q s) x ≡ s) same (peer_here rules u q s [] nodes q_plays) in
               rw (in_game, eq-eqb q p same) (ap (λ (t : State). t.mode) here)
           | inr apart ↦
               let there : peer_of (with_peer u q s) p ≡ peer_of u p = peer_there rules u q s [] p q_plays plays (λ e. apart (sym e)) in
@@ -154,7 +154,7 @@ module _ (laws : ArePeersLawful) (rules : Rules) (room p : ℕ) (plays : IsPlaye
     after_tells w (Stop act calls pick) h sound may =
         let a = acted rules room w act h in
         crash_tells w a.world (player_of act) h.leaves a.answer (acted_sound laws rules room w act h range few sound may).sound.nodes
-            (acted_tells w act h sound.nodes)
+        (acted_tells w act h sound.nodes)
 
     event_tells : (w v : World) (event : Event) (answer : Answer) → IsSound rules room w → CanHappen rules room w event answer v
         → (peer_of v p).mode ≡ mode_after p (peer_of w p).mode event answer
@@ -220,15 +220,15 @@ module _ (laws : ArePeersLawful) (rules : Rules) (room p : ℕ) (plays : IsPlaye
       let old : Mode = (peer_of w p).mode in
       let next : (peer_of u p).mode ≡ (if q == p then mode_reported old answer else old) =
       event_tells laws rules room p plays range few w u (event_of event) reply sound can
-          ∙ ap (λ (mode : Mode). if q == p then mode else old) (reported_mode rules q u old reply ∙ ap (mode_reported old) (sym is)) in
+      ∙ ap (λ (mode : Mode). if q == p then mode else old) (reported_mode rules q u old reply ∙ ap (mode_reported old) (sym is)) in
       runs_tell u v events told (event_sound laws rules room w u (event_of event) reply range few sound can).sound rest
-          ∙ ap (λ (mode : Mode). reported_by p mode events told) next
+      ∙ ap (λ (mode : Mode). reported_by p mode events told) next
 
   pub reports_told : (v : World) (events : List asked.Event) (told : List codes.Answer) → Runs rules room (start rules) events told v
       → (peer_of v p).mode ≡ reported_by p Away events told
   reports_told v events told runs =
       runs_tell (start rules) v events told (start_sound rules room range) runs
-          ∙ ap (λ (s : State). reported_by p s.mode events told) (peer_at_start rules p)
+      ∙ ap (λ (s : State). reported_by p s.mode events told) (peer_at_start rules p)
 
 pub modes_told : (laws : ArePeersLawful) (rules : Rules) (room : ℕ) (v : World) (events : List Event) (answers : List Answer) (p : ℕ)
     → AreInRange rules → room < 2 ^ 64 → Chain rules room (start rules) events answers v
@@ -246,13 +246,13 @@ call_comes : (rules : Rules) (w : World) (q : ℕ) (call : Call) (on_disk : Disk
     → (peer_of w q).mode ≡ states.Open → call_at rules w q call on_disk ≡ stepped w q (step rules q (peer_of w q) call on_disk)
 call_comes rules w q call on_disk in_game up =
     ap (λ (b : Bool). if b then call_at_mode rules w q call on_disk (peer_of w q).mode else record { answer = IsDown; world = w }) in_game
-        ∙ ap (λ (mode : Mode). call_at_mode rules w q call on_disk mode) up
+    ∙ ap (λ (mode : Mode). call_at_mode rules w q call on_disk mode) up
 
 call_not_down : (rules : Rules) (w : World) (q : ℕ) (call : Call) (on_disk : DiskOutcome) → is_player rules q ≡ true
     → (peer_of w q).mode ≡ states.Open → (call_at rules w q call on_disk).answer ≡ IsDown → ⊥
 call_not_down rules w q call on_disk in_game up down =
     told_not_down (call_at rules w q call on_disk).answer (step rules q (peer_of w q) call on_disk).reply
-        (ap (λ (a : After). a.answer) (call_comes rules w q call on_disk in_game up)) down
+    (ap (λ (a : After). a.answer) (call_comes rules w q call on_disk in_game up)) down
 
 give_not_down : (rules : Rules) (w : World) (q : ℕ) (on_disk : DiskOutcome) (o : Option Packet) → is_player rules q ≡ true
     → (peer_of w q).mode ≡ states.Open → (give_to rules w q on_disk o).answer ≡ IsDown → ⊥
@@ -288,7 +288,7 @@ pub down_told : (laws : ArePeersLawful) (rules : Rules) (room : ℕ) (v u : Worl
     → IsPlayer rules (player_of act) → CanHappen rules room v (Do act) IsDown u → mode_by (player_of act) Away events answers ≢ states.Open
 down_told laws rules room v u events answers act range few chain plays can up =
     acted_not_down rules room v act can.happening (plays_so rules (player_of act) plays)
-        (modes_told laws rules room v events answers (player_of act) range few chain plays ∙ up) (ap (λ (a : After). a.answer) can.is)
+    (modes_told laws rules room v events answers (player_of act) range few chain plays ∙ up) (ap (λ (a : After). a.answer) can.is)
 
 pub report_not_up : (laws : ArePeersLawful) (rules : Rules) (room : ℕ) (v u : World) (events : List asked.Event) (told : List codes.Answer)
     (act : Act) (answer : Answer) → AreInRange rules → room < 2 ^ 64
@@ -297,5 +297,5 @@ pub report_not_up : (laws : ArePeersLawful) (rules : Rules) (room : ℕ) (v u : 
     → reported_by (player_of act) Away events told ≢ states.Open
 report_not_up laws rules room v u events told act answer range few runs plays can down up =
     acted_not_down rules room v act can.happening (plays_so rules (player_of act) plays)
-        (reports_told laws rules room (player_of act) plays range few v events told runs ∙ up)
+    (reports_told laws rules room (player_of act) plays range few v events told runs ∙ up)
     (ap (λ (a : After). a.answer) can.is ∙ reported_down rules (player_of act) u answer down)

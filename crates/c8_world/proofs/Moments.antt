@@ -1,6 +1,6 @@
 -- What sound journals have in common: bounds by cuts, agreement, and inputs that were entered.
-use Rattle.std.proofs.Common.{◌≡◌, ℕ, zero, suc, ◌<◌, ◌≤◌, ◌⊎◌, inl, inr, ⊎_elim, List, [], ◌∷◌, ◌++◌, length, Bool, true, false, Option,
-  Some, None, refl, sym, ap, subst, ◌∙◌, arith}
+use Rattle.std.proofs.Common.{◌≡◌, ℕ, zero, suc, ◌<◌, ◌≤◌, ◌⊎◌, inl, inr, ⊎_elim, List, [], ◌∷◌, ◌++◌, length, Bool, true, false, Option}
+use Rattle.std.proofs.Common.{Some, None, refl, sym, ap, subst, ◌∙◌, arith}
 use Rattle.std.specs.Prelude.{nat_le, if◌then◌else◌}
 use Rattle.std.specs.List.{slice_get}
 use Rattle.std.proofs.lemmas.Bool.{cases_eq, cases_lt, leb-true}
@@ -72,7 +72,7 @@ input_is : (p : PlayerValue) (frame word : ℕ) → input_of p frame ≡ Some wo
 unfolding input_of
 input_is p frame word e =
     ⊎_elim (λ here. inl here) (λ past. inr (record { cut = past.0; stands = past.1; past = past.2; empty = past.3; unheld = past.4 }))
-        (held_or_cut (slice_get p.held frame) p.cut frame word e)
+    (held_or_cut (slice_get p.held frame) p.cut frame word e)
 
 -- there is nothing beyond the end of a list
 none_long : {X : Type 0} (xs : List X) (i : ℕ) → slice_get xs i ≡ None → length xs ≤ i
@@ -120,7 +120,7 @@ confirmed_input rules p journal q frame plays below =
     let from = plays.from_one in
     let to = plays.in_game in
     some_value (input_of (player_in k q) frame)
-        ((confirmed_is k).settled frame q below (record { from_one = from; in_game = omega (arith, to, players_known rules p journal) }))
+    ((confirmed_is k).settled frame q below (record { from_one = from; in_game = omega (arith, to, players_known rules p journal) }))
 
 said_input : (rules : Rules) (p : ℕ) (journal : List Record) (q frame : ℕ) → IsPlayer rules q
     → input_of (player_in (known_of rules p journal) q) frame ≡ input_of (said_of rules q journal) frame
@@ -134,9 +134,9 @@ sets_agree rules room J p r frame q range sound p_plays r_plays p_stays r_stays 
     elim (cases_lt rules.players q) [
       | inl past ↦
           let p_none : player_in (known_of rules p (J p)) q ≡ nobody =
-              nobody_past (known_of rules p (J p)) q (omega (arith, past, players_known rules p (J p))) in
+          nobody_past (known_of rules p (J p)) q (omega (arith, past, players_known rules p (J p))) in
           let r_none : player_in (known_of rules r (J r)) q ≡ nobody =
-              nobody_past (known_of rules r (J r)) q (omega (arith, past, players_known rules r (J r))) in
+          nobody_past (known_of rules r (J r)) q (omega (arith, past, players_known rules r (J r))) in
           ap (λ (v : PlayerValue). or_empty (input_of v frame)) (p_none ∙ sym r_none)
       | inr in_game ↦
           let q_plays : IsPlayer rules q = record { from_one = from; in_game = in_game } in
@@ -172,12 +172,12 @@ grown_rows : (rules : Rules) (room : ℕ) (J J' : ℕ → List Record) (p n : �
 grown_rows rules room J J' p n range sound grown plays counts =
     let begins : Begins (J p) (J' p) = grown p plays in
     let valid : IsJournal rules p room (J p ++ begins.rest) =
-        subst (λ (journal : List Record). IsJournal rules p room journal) begins.is (sound.valid p plays) in
+    subst (λ (journal : List Record). IsJournal rules p room journal) begins.is (sound.valid p plays) in
     let rises = confirmed_rises (known_of rules p (J p)) (known_of rules p (J p ++ begins.rest))
-        (journal_grows rules p room (J p) begins.rest range plays.from_one plays.in_game valid) in
+    (journal_grows rules p room (J p) begins.rest range plays.from_one plays.in_game valid) in
     let rows = confirmed_stays rules p room n (J p) begins.rest range plays.from_one plays.in_game valid counts in
     subst (λ (journal : List Record). (n ≤ confirmed (known_of rules p journal))
-        × (rows_below (known_of rules p journal) n ≡ rows_below (known_of rules p (J p)) n)) (sym begins.is)
+    × (rows_below (known_of rules p journal) n ≡ rows_below (known_of rules p (J p)) n)) (sym begins.is)
     (omega (arith, counts, rises), rows)
 
 -- two moments
@@ -200,8 +200,13 @@ input_entered rules room J J' p q frame word range sound grown p_plays q_plays i
     ⊎_elim
     (λ holds. inl (begins_get (held rules q (J q)) (held rules q (J' q)) frame word (held_grown rules q (J q) (J' q) (grown q q_plays))
     (begins_get (held rules q (J p)) (held rules q (J q)) frame word (sound.begins p q p_plays q_plays) holds)))
-    (λ past. inr (past.empty, past.cut, cut_grown q past.cut (J 1) (J' 1) (grown 1 (player_one rules range))
-        (sound.cuts p q past.cut p_plays past.stands), past.past))
+    (λ past. inr (
+      past.empty,
+      past.cut,
+      cut_grown q past.cut (J 1) (J' 1) (grown 1 (player_one rules range))
+          (sound.cuts p q past.cut p_plays past.stands),
+      past.past,
+    ))
     (input_is (said_of rules q (J p)) frame word is)
 
 pub confirmed_entered : (rules : Rules) (room : ℕ) (J J' : ℕ → List Record) (p q frame : ℕ) → AreInRange rules → AreSound rules room J

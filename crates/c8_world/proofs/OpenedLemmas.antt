@@ -1,6 +1,6 @@
 -- What an opening does to a table.
-use Rattle.std.proofs.Common.{◌≡◌, ◌≢◌, inl, inr, ℕ, ◌+◌, ◌-◌, ◌<◌, ◌≤◌, List, [], length, map, Bool, false, cond, Option, Some, None,
-  Result, Ok, Err, refl, sym, ap, subst, ◌∙◌, slice_set, slice_index_or}
+use Rattle.std.proofs.Common.{◌≡◌, ◌≢◌, inl, inr, ℕ, ◌+◌, ◌-◌, ◌<◌, ◌≤◌, List, [], length, map, Bool, false, cond, Option, Some, None}
+use Rattle.std.proofs.Common.{Result, Ok, Err, refl, sym, ap, subst, ◌∙◌, slice_set, slice_index_or}
 use Rattle.std.specs.Prelude.{IfOk, IfErr}
 use Rattle.std.proofs.lemmas.List.{append-nil, set-get_or}
 use Rattle.c8_game.specs.Rules.{Rules}
@@ -19,14 +19,14 @@ use Rattle.c8_peer.specs.Opening.{Opening, NoPlayer, Stands, NotWritten, NoMemor
 use Rattle.c8_world.specs.declared.answer.Answer as codes
 use Rattle.c8_world.specs.declared.answer.Answer.TheVariants as answers
 use Rattle.c8_world.specs.declared.node.Node.{Node}
-use Rattle.c8_world.specs.World.{World, never_opened, peer_of, with_peer, Open, Do, Happening, Told, IsUp, After, said_by, stepped,
-  open_at_mode, acted, CanHappen}
+use Rattle.c8_world.specs.World.{World, never_opened, peer_of, with_peer, Open, Do, Happening, Told, IsUp, After, said_by, stepped}
+use Rattle.c8_world.specs.World.{open_at_mode, acted, CanHappen}
 use Rattle.c8_world.specs.Agreement.{IsPlayer}
 use Rattle.c8_world.specs.Nodes.{IsNode, IsOpening, IsOpenedNode}
 use Rattle.c8_world.specs.Table.{TableValue, IsTaken, IsOpenedAs, IsUnopened, Holds, HasHappened, HasNotHappened}
 use Rattle.c8_world.proofs.Openings.{plays_so}
-use Rattle.c8_world.proofs.TableLemmas.{CanDo, set_renodeed, nodeed, placed, placed_holds, placed_happens, same_happens, taken_at,
-  no_player, with_node, reached_more}
+use Rattle.c8_world.proofs.TableLemmas.{CanDo, set_renodeed, nodeed, placed, placed_holds, placed_happens, same_happens, taken_at}
+use Rattle.c8_world.proofs.TableLemmas.{no_player, with_node, reached_more}
 
 abbrev with_opening : Bool → Opening → Happening
 with_opening finds opening = record { finds = finds; opening = opening; on_disk = Works; leaves = false }
@@ -142,9 +142,12 @@ module _ (t : TableValue) (place p : ℕ) (node : Node) (at : place + 1 ≡ p) (
   opening_happens result is other =
       let can = opened_can t.rules t.room w p is.finds is.opening result plays is.not_open is.may is.replies in
       placed_happens t (with_node t place node) w p (opened t.rules t.room p (peer_of w p) (found (peer_of w p) is.finds) is.opening).state
-          [] node (Open p) (Told (Opened result)) (answers.Opened result)
-      refl refl plays refl holds (can.0, λ e. had_memory (peer_of w p) (found (peer_of w p) is.finds) is.opening result is.replies other
-          (sym can.1 ∙ e))
+      [] node (Open p) (Told (Opened result)) (answers.Opened result)
+      refl refl plays refl holds (
+        can.0,
+        λ e. had_memory (peer_of w p) (found (peer_of w p) is.finds) is.opening result is.replies other
+            (sym can.1 ∙ e),
+      )
       (set_renodeed t.nodes place p node at within) is.node_is
       (holds.said ∙ ap (λ (xs : List Packet). map spelling xs) (sym (append-nil w.said))) (refl, refl)
       (λ v here said. refl)
@@ -203,11 +206,11 @@ module _ (t : TableValue) (place p : ℕ) (node : Node) (at : place + 1 ≡ p) (
       let can = (opened_can t.rules t.room w p is.finds is.opening (Err opens.Memory) plays is.not_open is.may is.replies).0 in
       let reached = reached_more t.rules t.room w (placed w p t_is.state []) (Do (Open p)) (Told (Opened (Err opens.Memory))) holds.reached can in
       let now = placed_holds t (with_node t place node) w p t_is.state [] node refl refl plays holds reached
-          (set_renodeed t.nodes place p node at within) is.node_is
+      (set_renodeed t.nodes place p node at within) is.node_is
       (holds.said ∙ ap (λ (xs : List Packet). map spelling xs) (sym (append-nil w.said))) (refl, refl) in
       let quiet : placed w p t_is.state [] ≡ with_peer w p (away s s.journal s.pending) =
       ap (λ (xs : List Packet). record w { peers = slice_set w.peers (p - 1) t_is.state; said = xs }) (append-nil w.said)
-          ∙ ap (λ (x : State). with_peer w p x) same in
+      ∙ ap (λ (x : State). with_peer w p x) same in
       record {
         world = with_peer w p (away s s.journal s.pending);
         takes = tt;
@@ -233,7 +236,7 @@ with_taken t place x = record t { nodes = slice_set t.nodes place x }
 opened_by : (t : TableValue) (place p : ℕ) (at : place + 1 ≡ p) (within : place < length t.nodes) (plays : IsPlayer t.rules p) (w : World)
     (holds : Holds t w)
     (answer : codes.Answer) (x : Option Node) → IsOpenedAs t.rules t.room p (peer_of w p) answer x
-        → HasHappened t w (Do (Open p)) answer (with_taken t place x)
+    → HasHappened t w (Do (Open p)) answer (with_taken t place x)
 opened_by t place p at within plays w holds answer None is = absurd is
 opened_by t place p at within plays w holds answers.Up (Some node) is = up_happens t place p node at within plays w holds is
 opened_by t place p at within plays w holds (answers.Opened result) (Some node) is =
@@ -263,19 +266,19 @@ module _ {E : Type 0} (t self : TableValue) (place p : ℕ) (x y : Option Node) 
     (journals : (w : World) → Holds t w → (finds : Bool) → IsJournal t.rules p t.room (found (peer_of w p) finds)) where
   pub opened_happens :
       IfOk result (λ answer. (s : State) → p ≤ t.rules.players → IsTaken t.rules t.room p x s
-          → ((finds : Bool) → IsJournal t.rules p t.room (found s finds)) → IsOpenedAs t.rules t.room p s answer y)
+      → ((finds : Bool) → IsJournal t.rules p t.room (found s finds)) → IsOpenedAs t.rules t.room p s answer y)
       → IfOk result (λ answer. (w : World) → Holds self w → HasHappened self w (Do (Open p)) answer (with_taken t place y))
   opened_happens =
       if_ok _ _ result (λ answer asked. subst (λ (u : TableValue). (w : World) → Holds u w
-          → HasHappened u w (Do (Open p)) answer (with_taken t place y)) view
+      → HasHappened u w (Do (Open p)) answer (with_taken t place y)) view
       (λ w holds. opened_by t place p at within plays w holds answer y
-          (asked (peer_of w p) plays.in_game (taken_at t place p w at within plays x here holds) (journals w holds))))
+      (asked (peer_of w p) plays.in_game (taken_at t place p w at within plays x here holds) (journals w holds))))
 
   pub unopened_happens :
       IfErr result (λ e. (s : State) → p ≤ t.rules.players → IsTaken t.rules t.room p x s
-          → ((finds : Bool) → IsJournal t.rules p t.room (found s finds)) → IsUnopened t.rules t.room p s y)
+      → ((finds : Bool) → IsJournal t.rules p t.room (found s finds)) → IsUnopened t.rules t.room p s y)
       → IfErr result (λ e. (w : World) → Holds self w → HasNotHappened self w (Open p) (with_taken t place y))
   unopened_happens =
       if_err _ _ result (λ e asked. subst (λ (u : TableValue). (w : World) → Holds u w → HasNotHappened u w (Open p) (with_taken t place y)) view
       (λ w holds. unopened_by t place p at within plays w holds y
-          (asked (peer_of w p) plays.in_game (taken_at t place p w at within plays x here holds) (journals w holds))))
+      (asked (peer_of w p) plays.in_game (taken_at t place p w at within plays x here holds) (journals w holds))))

@@ -12,8 +12,8 @@ use Rattle.c8_peer.specs.State as states
 use Rattle.c8_peer.specs.State.{Mode, Down, Away, State}
 use Rattle.c8_peer.specs.Opening.{Opening, NoPlayer, Stands, NotWritten, NoMemory, NotRead, Unfit, Spent, found, opened, MayBecome}
 use Rattle.c8_world.specs.checked.Below.{ArePeersLawful}
-use Rattle.c8_world.specs.World.{World, is_player, peer_of, journal_of, Open, Do, Happening, Answer, Told, After, open_at_mode, open_at,
-  acted, CanHappen, IsReached}
+use Rattle.c8_world.specs.World.{World, is_player, peer_of, journal_of, Open, Do, Happening, Answer, Told, After, open_at_mode, open_at}
+use Rattle.c8_world.specs.World.{acted, CanHappen, IsReached}
 use Rattle.c8_world.specs.Agreement.{IsPlayer, IsFit}
 use Rattle.c8_world.proofs.Worlds.{IsSound}
 use Rattle.c8_world.proofs.Reached.{reached_sound}
@@ -74,7 +74,7 @@ pub openings_fit : (laws : ArePeersLawful) (rules : Rules) (room : ℕ) (w v : W
 unfolding acted
 openings_fit laws rules room w v p answer range few reached plays can =
     subst (λ (a : After). IsFit a.answer) can.is
-        (open_fit rules room w p can.happening (reached_sound laws rules room w range few reached) plays can.may)
+    (open_fit rules room w p can.happening (reached_sound laws rules room w range few reached) plays can.may)
 
 pub found_journal : (laws : ArePeersLawful) (rules : Rules) (room : ℕ) (w : World) (p : ℕ) (finds : Bool) → AreInRange rules → room < 2 ^ 64
     → IsReached rules room w → IsPlayer rules p

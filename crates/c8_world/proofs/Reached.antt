@@ -1,6 +1,6 @@
 -- What holds for each world to which some list of events leads.
-use Rattle.std.proofs.Common.{◌≡◌, ◌≢◌, ℕ, zero, suc, ◌<◌, ◌≤◌, ◌^◌, inl, inr, ⊎_elim, List, [], ◌∷◌, ◌++◌, length, take, true, false, None,
-  refl, sym, ap, subst, ◌∙◌, arith, Option, Some}
+use Rattle.std.proofs.Common.{◌≡◌, ◌≢◌, ℕ, zero, suc, ◌<◌, ◌≤◌, ◌^◌, inl, inr, ⊎_elim, List, [], ◌∷◌, ◌++◌, length, take, true, false, None}
+use Rattle.std.proofs.Common.{refl, sym, ap, subst, ◌∙◌, arith, Option, Some}
 use Rattle.std.proofs.lemmas.Bool.{cases_eq, leb-true, and_parts, both_ways}
 use Rattle.std.proofs.Math.Seq.{take-append_seam}
 use Rattle.c8_game.specs.Rules.{Rules, AreInRange}
@@ -23,8 +23,9 @@ use Rattle.c8_peer.specs.Truth.{IsTrue}
 use Rattle.c8_peer.specs.TrueChecks.{HasTrueChecks}
 use Rattle.c8_world.specs.checked.Below.{ArePeersLawful}
 use Rattle.c8_world.specs.World.{World, start, peer_of, journal_of, known_by, rows_of, with_peer, Event, Answer, Chain, IsReached}
-use Rattle.c8_world.specs.Agreement.{IsPlayer, IsUndropped, base_of, NobodyLeaves, AreSameUpTo, AgreeUpTo, Agree, AreEntered, IsBounded,
-  AreReports, HasFrozen, Reads, read_by, AgreeByReads, IsAmong, AreLinked, IsTrueSaid, IsTrueBy, HasTrueRows}
+use Rattle.c8_world.specs.Agreement.{IsPlayer, IsUndropped, base_of, NobodyLeaves, AreSameUpTo, AgreeUpTo, Agree, AreEntered, IsBounded}
+use Rattle.c8_world.specs.Agreement.{AreReports, HasFrozen, Reads, read_by, AgreeByReads, IsAmong, AreLinked, IsTrueSaid, IsTrueBy}
+use Rattle.c8_world.specs.Agreement.{HasTrueRows}
 use Rattle.c8_world.proofs.Journals.{AreSound, has_freeze_at, player_one}
 use Rattle.c8_world.proofs.Moments.{bounded_at, rows_agree, same_up_to, moments_agree, confirmed_entered}
 use Rattle.c8_world.proofs.Worlds.{IsSound, peer_here, peer_there, crash_sound, chain_sound, start_sound}
@@ -82,9 +83,9 @@ had_by : (rules : Rules) (w : World) (packet : Packet) (heard : Option ℕ) (l :
 had_by rules w packet None l seen told spelled opens = told.1.epoch
 had_by rules w packet (Some rows) l seen told spelled opens =
     let from = leb-true 5 packet.head.from (and_parts (nat_le 5 packet.head.from) (nat_le packet.head.from 6)
-        (seen_seats packet rows spelled seen).0).0 in
+    (seen_seats packet rows spelled seen).0).0 in
     let none : (link_to l packet.head.from).is_open ≡ false =
-        ap (λ (link : LinkValue). link.is_open) (link_past l packet.head.from (omega (arith, from))) in
+    ap (λ (link : LinkValue). link.is_open) (link_past l packet.head.from (omega (arith, from))) in
     absurd (both_ways (link_to l packet.head.from).is_open none opens)
 
 pub links_name : (laws : ArePeersLawful) (rules : Rules) (room : ℕ) (w : World) (p q : ℕ) → AreInRange rules → room < 2 ^ 64
@@ -98,7 +99,7 @@ links_name laws rules room w p q range few is plays here opens =
       had = subst (λ (x : ℕ). had_epoch number (journal_of w x) ≡ true) n.from
           (subst (λ (x : ℕ). had_epoch x (journal_of w n.packet.head.from) ≡ true) n.sender_epoch
           (had_by rules w n.packet (seen_in n.packet.message) (peer_of w p).memory.links refl told.told told.spelled
-              (subst (λ (x : ℕ). (link_to (peer_of w p).memory.links x).is_open ≡ true) (sym n.from) opens)));
+          (subst (λ (x : ℕ). (link_to (peer_of w p).memory.links x).is_open ≡ true) (sym n.from) opens)));
       named = n;
     }
 
@@ -133,7 +134,7 @@ pub peers_agree : (laws : ArePeersLawful) (rules : Rules) (room : ℕ) (w v : Wo
 peers_agree laws rules room w v events answers p r range few is chain p_plays r_plays p_stays r_stays n p_counts r_counts =
     let later = chain_sound laws rules room w v events answers range few (reached_sound laws rules room w range few is) chain in
     moments_agree rules room (journal_of w) (journal_of v) p r n range later.sound.journals later.grown p_plays r_plays p_stays r_stays
-        p_counts r_counts
+    p_counts r_counts
 
 -- ---- machines
 
@@ -146,14 +147,14 @@ pub base_serial : (laws : ArePeersLawful) → BeginsOnTheWay → (rules : Rules)
 unfolding roll_since roll_of
 base_serial laws way rules room w p range few is plays =
     ap (λ (v : RollValue). v.base) (way rules (known_by rules w p) (begun_at rules (journal_of w p))
-        (checks_true laws rules room w p range few is plays).begun)
+    (checks_true laws rules room w p range few is plays).begun)
 
 pub one_machine : (laws : ArePeersLawful) → BeginsOnTheWay → (rules : Rules) (room : ℕ) (w : World) (p r : ℕ) → AreInRange rules
     → room < 2 ^ 64 → IsReached rules room w → IsPlayer rules p → IsPlayer rules r
     → IsUndropped w p → IsUndropped w r → confirmed (known_by rules w p) ≡ confirmed (known_by rules w r) → base_of rules w p ≡ base_of rules w r
 one_machine laws way rules room w p r range few is plays others p_stays r_stays same =
     let agree = peers_agree laws rules room w w [] [] p r range few is refl plays others p_stays r_stays (confirmed (known_by rules w p))
-        (omega arith) (omega (arith, same)) in
+    (omega arith) (omega (arith, same)) in
     base_serial laws way rules room w p range few is plays ∙ agree.machine ∙ ap (λ (n : ℕ). serial rules (rows_below (known_by rules w r) n)) same
     ∙ sym (base_serial laws way rules room w r range few is others)
 
@@ -203,7 +204,7 @@ adopt_past rules room w reads zero q past plays = refl
 adopt_past rules room w reads (suc n) q past plays =
     let within = plays.in_game in
     other_peer rules (adopt w reads n) (suc n) q _ (record { from_one = omega arith; in_game = omega (arith, within, past) }) plays
-        (λ e. omega (arith, e, past))
+    (λ e. omega (arith, e, past))
     ∙ adopt_past rules room w reads n q (omega (arith, past)) plays
 
 adopt_is : (rules : Rules) (room : ℕ) (w : World) (reads : Reads) (n q : ℕ) → AreInRange rules → IsSound rules room w → n ≤ rules.players
@@ -218,7 +219,7 @@ adopt_is rules room w reads (suc n) q range sound within few plays =
           let old : peer_of (adopt w reads n) (suc n) ≡ peer_of w (suc n) = adopt_past rules room w reads n (suc n) (omega arith) here in
           subst (λ (x : ℕ). journal_of (adopt w reads (suc n)) x ≡ read_by w reads x) (sym same)
           (ap (λ (s : State). s.journal) (this_peer rules (adopt w reads n) (suc n) _ before.nodes here)
-              ∙ ap (λ (s : State). found s (reads (suc n))) old)
+          ∙ ap (λ (s : State). found s (reads (suc n))) old)
       | inr apart ↦
           ap (λ (s : State). s.journal) (other_peer rules (adopt w reads n) (suc n) q _ here plays apart)
           ∙ adopt_is rules room w reads n q range sound (omega (arith, within)) (omega (arith, few, apart)) plays
@@ -246,9 +247,9 @@ reads_agree laws rules room w reads p r range few is p_plays r_plays p_stays r_s
     let v : World = adopt w reads rules.players in
     let one = player_one rules range in
     let at : (q : ℕ) → IsPlayer rules q → journal_of v q ≡ read_by w reads q =
-        λ q plays. adopt_is rules room w reads rules.players q range sound (omega arith) plays.in_game plays in
+    λ q plays. adopt_is rules room w reads rules.players q range sound (omega arith) plays.in_game plays in
     agree_at rules room (journal_of v) p r n (read_by w reads 1) (read_by w reads p) (read_by w reads r) range
-        (adopt_sound rules room w reads rules.players range sound (omega arith)).journals p_plays r_plays
+    (adopt_sound rules room w reads rules.players range sound (omega arith)).journals p_plays r_plays
     (at 1 one) (at p p_plays) (at r r_plays) p_stays r_stays p_counts r_counts
 
 -- ---- all of it

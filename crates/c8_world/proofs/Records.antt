@@ -1,13 +1,13 @@
 -- Each kind of record that a step adds fits the others' journals.
-use Rattle.std.proofs.Common.{◌≡◌, ◌≢◌, ℕ, ◌+◌, ◌-◌, ◌≤◌, ◌⊎◌, inl, inr, List, [], ◌∷◌, ◌++◌, length, drop, true, false, Some, None, refl,
-  sym, ap, subst, ◌∙◌, arith}
+use Rattle.std.proofs.Common.{◌≡◌, ◌≢◌, ℕ, ◌+◌, ◌-◌, ◌≤◌, ◌⊎◌, inl, inr, List, [], ◌∷◌, ◌++◌, length, drop, true, false, Some, None, refl}
+use Rattle.std.proofs.Common.{sym, ap, subst, ◌∙◌, arith}
 use Rattle.std.specs.Prelude.{◌==◌, if◌then◌else◌}
 use Rattle.std.specs.List.{slice_get}
 use Rattle.std.proofs.lemmas.Bool.{cases_eq, eq-eqb, ne_eqb, both_ways}
 use Rattle.std.proofs.lemmas.List.{append-nil}
 use Rattle.c8_game.specs.Rules.{Rules}
-use Rattle.c8_known.specs.Journal.{Record, Head, Epoch, Own, Got, Freeze, Leave, Cut, State, Check, player_of, words_of, cuts_of, held,
-  count, has_freeze, has_leave, cut_of}
+use Rattle.c8_known.specs.Journal.{Record, Head, Epoch, Own, Got, Freeze, Leave, Cut, State, Check, player_of, words_of, cuts_of, held}
+use Rattle.c8_known.specs.Journal.{count, has_freeze, has_leave, cut_of}
 use Rattle.c8_known.specs.Known.{PlayerValue, KnownValue, player_in, count_in, said_of, known_of}
 use Rattle.c8_known.specs.Growth.{Begins, Stands}
 use Rattle.c8_known.specs.checked.BeginsLaws.{begins_fresh}
@@ -71,7 +71,7 @@ cut_is_of q K r is =
     elim (cases_eq (player_of r) q) [
       | inl same ↦ sym same
       | inr other ↦ let none : slice_get (cuts_of q r) 0 ≡ None = ap (λ (cuts : List ℕ). slice_get cuts 0) (cuts_of_other q r other) in
-      absurd (cc (is, none))
+          absurd (cc (is, none))
     ]
 
 -- how a record about player q must fit the others' journals
@@ -102,10 +102,10 @@ fits_by rules room J p r sound plays may of = record {
   decides = λ L K s first is s_plays not_one stays.
       let whose : L ≡ player_of r = cut_is_of L K r is in
       subst (λ (x : ℕ). IsFrozenAt rules x K (J s)) (sym whose)
-          (of.decides K s first (subst (λ (x : ℕ). slice_get (cuts_of x r) 0 ≡ Some K) whose is) s_plays not_one stays);
+      (of.decides K s first (subst (λ (x : ℕ). slice_get (cuts_of x r) 0 ≡ Some K) whose is) s_plays not_one stays);
   frozen = λ L is. elim (cases_eq (player_of r) L) [
     | inl same ↦ subst (λ (x : ℕ). (words_of x r ≡ [])
-    ⊎ ((K : ℕ) × (cut_of x (J 1) ≡ Some K) × (count rules x (J p) + length (words_of x r) ≤ K))) same
+        ⊎ ((K : ℕ) × (cut_of x (J 1) ≡ Some K) × (count rules x (J p) + length (words_of x r) ≤ K))) same
         (of.frozen (subst (λ (x : ℕ). has_freeze x (J p) ≡ true) (sym same) is))
     | inr apart ↦ inl (words_of_other L r apart)
   ];
@@ -131,13 +131,13 @@ pub fits_head : (rules : Rules) (room : ℕ) (J : ℕ → List Record) (p player
     → MayAdd rules room J p (Head player form id named) → Fits rules room J p (Head player form id named)
 fits_head rules room J p player form id named sound plays may =
     fits_by rules room J p (Head player form id named) sound plays may
-        (quiet rules room J p player sound plays (names_player rules room p (J p) (Head player form id named) may.allowed))
+    (quiet rules room J p player sound plays (names_player rules room p (J p) (Head player form id named) may.allowed))
 
 pub fits_epoch : (rules : Rules) (room : ℕ) (J : ℕ → List Record) (p player number form : ℕ) → AreSound rules room J → IsPlayer rules p
     → MayAdd rules room J p (Epoch player number form) → Fits rules room J p (Epoch player number form)
 fits_epoch rules room J p player number form sound plays may =
     fits_by rules room J p (Epoch player number form) sound plays may
-        (quiet rules room J p player sound plays (names_player rules room p (J p) (Epoch player number form) may.allowed))
+    (quiet rules room J p player sound plays (names_player rules room p (J p) (Epoch player number form) may.allowed))
 
 pub fits_freeze : (rules : Rules) (room : ℕ) (J : ℕ → List Record) (p L : ℕ) → AreSound rules room J → IsPlayer rules p
     → MayAdd rules room J p (Freeze L) → Fits rules room J p (Freeze L)
@@ -154,13 +154,13 @@ pub fits_state : (rules : Rules) (room : ℕ) (J : ℕ → List Record) (p playe
     → MayAdd rules room J p (State player frames piece bytes) → Fits rules room J p (State player frames piece bytes)
 fits_state rules room J p player frames piece bytes sound plays may =
     fits_by rules room J p (State player frames piece bytes) sound plays may
-        (quiet rules room J p player sound plays (names_player rules room p (J p) (State player frames piece bytes) may.allowed))
+    (quiet rules room J p player sound plays (names_player rules room p (J p) (State player frames piece bytes) may.allowed))
 
 pub fits_check : (rules : Rules) (room : ℕ) (J : ℕ → List Record) (p player frames : ℕ) (digest : List ℕ) → AreSound rules room J → IsPlayer rules p
     → MayAdd rules room J p (Check player frames digest) → Fits rules room J p (Check player frames digest)
 fits_check rules room J p player frames digest sound plays may =
     fits_by rules room J p (Check player frames digest) sound plays may
-        (quiet rules room J p player sound plays (names_player rules room p (J p) (Check player frames digest) may.allowed))
+    (quiet rules room J p player sound plays (names_player rules room p (J p) (Check player frames digest) may.allowed))
 
 -- no player freezes itself, and player 1 freezes nobody
 pub own_unfrozen : (rules : Rules) (room : ℕ) (J : ℕ → List Record) (p : ℕ) → AreSound rules room J → IsPlayer rules p → has_freeze p (J p) ≡ false

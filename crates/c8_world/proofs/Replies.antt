@@ -1,7 +1,7 @@
 -- Answers that a call of an open peer never has.
 use Rattle.c8_known.specs.Growth.{Stands}
-use Rattle.std.proofs.Common.{◌≡◌, ◌≢◌, ℕ, ◌+◌, ◌≤◌, List, [], ◌∷◌, length, false, not, Option, Some, None, Result, Ok, Err, refl, sym, ap,
-  subst, ◌∙◌, arith, true}
+use Rattle.std.proofs.Common.{◌≡◌, ◌≢◌, ℕ, ◌+◌, ◌≤◌, List, [], ◌∷◌, length, false, not, Option, Some, None, Result, Ok, Err, refl, sym, ap}
+use Rattle.std.proofs.Common.{subst, ◌∙◌, arith, true}
 use Rattle.std.specs.Prelude.{◌==◌, ◌||◌, nat_lt, nat_le, is_some}
 use Rattle.std.proofs.lemmas.Bool.{both_ways, ltb-true, eq-eqb, or_parts, not-false, eqb-true, and_parts}
 use Rattle.c8_game.specs.Rules.{Rules, AreInRange}
@@ -30,11 +30,11 @@ use Rattle.c8_refusals.specs.declared.error.DecideError.{DecideError}
 use Rattle.c8_refusals.specs.declared.error.CheckError.{CheckError}
 use Rattle.c8_peer.specs.declared.check.Check.{Check}
 use Rattle.c8_peer.specs.declared.heard.Heard.{Heard}
-use Rattle.c8_peer.specs.State.{Memory, Saying, Call, Tick, Deliver, Say, Show, Leave, Decide, Checkpoint, Reply, Ticked, Delivered, Said,
-  Left, Decided, Checked, Outcome}
+use Rattle.c8_peer.specs.State.{Memory, Saying, Call, Tick, Deliver, Say, Show, Leave, Decide, Checkpoint, Reply, Ticked, Delivered, Said}
+use Rattle.c8_peer.specs.State.{Left, Decided, Checked, Outcome}
 use Rattle.c8_peer.specs.Calls.{tick, leave, decide, next_piece, checkpoint}
-use Rattle.c8_peer.specs.Hearing.{is_of_other_wire, refused, unless_misfit, got, is_desync, hear_data, hear_welcome, hear_freeze,
-  hear_frozen, hear_end, hear_cut, hear_message, hear_seen, hear_from, seen_in, unless_hand, deliver}
+use Rattle.c8_peer.specs.Hearing.{is_of_other_wire, refused, unless_misfit, got, is_desync, hear_data, hear_welcome, hear_freeze}
+use Rattle.c8_peer.specs.Hearing.{hear_frozen, hear_end, hear_cut, hear_message, hear_seen, hear_from, seen_in, unless_hand, deliver}
 use Rattle.c8_peer.specs.Saying.{is_not_mine, lacks_record, lacks_link, say, show}
 use Rattle.c8_peer.specs.Steps.{outcome}
 use Rattle.c8_peer.specs.Truth.{IsTrueMark, IsTrueMessage}
@@ -107,7 +107,7 @@ calm_data rules room J p q m d range sound plays q_plays few stands is_mark =
     branch P (nat_lt (count_in k k.me) d.ack) _ _ (λ is. absurd (no_bad_ack rules room J p q d.ack sound plays q_plays few is)) (λ ack.
     unless_misfit_calm P m (misfit k q d.start d.words) _
     (λ error e. calm_known J p q error (not_differs k q d.start d.words error
-        (no_difference rules room J p q d.start d.words sound plays q_plays stands) e))
+    (no_difference rules room J p q d.start d.words sound plays q_plays stands) e))
     (branch P (is_desync (told_of rules p (J p)) d) _ _
     (λ is. calm_reply J p q refusals.Desync (record {
       ack = λ e. cc e;
@@ -140,12 +140,12 @@ calm_frozen rules room J p q m f sound plays q_plays stands =
     branch P (is_some (player_in k f.leaver).cut) _ _ (λ is. hears _) (λ uncut.
     branch P (nat_lt k.limit f.length) _ _ (λ is. calm_known J p q knowns.Full (λ e. cc e)) (λ room_left.
     let leaver : IsPlayer rules f.leaver = in_game rules p f.leaver (J p)
-        (not-false (is_player k f.leaver) (or_parts (f.leaver == q) (not (is_player k f.leaver)) who).1) in
+    (not-false (is_player k f.leaver) (or_parts (f.leaver == q) (not (is_player k f.leaver)) who).1) in
     let entered : Stands f.start f.words (held rules f.leaver (J f.leaver)) =
-        stands_entered rules room J q f.leaver f.start f.words sound q_plays leaver stands in
+    stands_entered rules room J q f.leaver f.start f.words sound q_plays leaver stands in
     unless_misfit_calm P m (misfit k f.leaver f.start f.words) _
     (λ error e. calm_known J p q error (not_differs k f.leaver f.start f.words error
-        (no_difference rules room J p f.leaver f.start f.words sound plays leaver entered) e))
+    (no_difference rules room J p f.leaver f.start f.words sound plays leaver entered) e))
     (calm_got J p q k _ f.leaver (fresh_words k f.leaver f.start f.words)))))))
 
 -- at an undropped player a cut has player 1's length, and no more inputs than that are held
@@ -160,7 +160,7 @@ calm_end rules room J p q m c (Some K) range sound plays leaver cut stands e =
     let at_one : cut_of c.leaver (J 1) ≡ Some K = sound.cuts p c.leaver K plays here in
     let same : K ≡ c.length = cc (at_one, cut) in
     branch P (K == c.length) _ _ (λ is. unrefused J p q _ (λ why x. cc x))
-        (λ apart. absurd (both_ways (K == c.length) apart (eq-eqb K c.length same)))
+    (λ apart. absurd (both_ways (K == c.length) apart (eq-eqb K c.length same)))
 calm_end rules room J p q m c None range sound plays leaver cut stands e =
     let P : Outcome → Type 0 = EndsCalmly J p q in
     let k : KnownValue = known_of rules p (J p) in
@@ -177,9 +177,9 @@ calm_end rules room J p q m c None range sound plays leaver cut stands e =
     (λ few.
     unless_misfit_calm P m (misfit k c.leaver c.start c.words) _
     (λ error x. calm_known J p q error (not_differs k c.leaver c.start c.words error
-        (no_difference rules room J p c.leaver c.start c.words sound plays leaver stands) x))
+    (no_difference rules room J p c.leaver c.start c.words sound plays leaver stands) x))
     (branch P (count_in k c.leaver + length fresh == c.length) _ _ (λ is. unrefused J p q _ (λ why x. cc x))
-        (λ short. calm_got J p q k m c.leaver fresh)))
+    (λ short. calm_got J p q k m c.leaver fresh)))
 
 calm_cut : (rules : Rules) (room : ℕ) (J : ℕ → List Record) (p q : ℕ) (m : Memory) (c : LeaverMessage) → AreInRange rules
     → AreSound rules room J → IsPlayer rules p → IsPlayer rules q
@@ -197,7 +197,7 @@ calm_cut rules room J p q m c range sound plays q_plays first cut stands =
     let leaver : IsPlayer rules c.leaver = in_game rules p c.leaver (J p) (not-false (is_player k c.leaver) inside) in
     calm_end rules room J p q m c (player_in k c.leaver).cut range sound plays leaver
     (subst (λ (x : ℕ). cut_of c.leaver (J x) ≡ Some c.length) first cut)
-        (stands_entered rules room J q c.leaver c.start c.words sound q_plays leaver stands) refl))))
+    (stands_entered rules room J q c.leaver c.start c.words sound q_plays leaver stands) refl))))
 
 calm_welcome : (rules : Rules) (room : ℕ) (J : ℕ → List Record) (p : ℕ) (m : Memory) (head : HeadValue) (ack : ℕ) → AreSound rules room J
     → IsPlayer rules p → IsPlayer rules head.from
@@ -208,7 +208,7 @@ calm_welcome rules room J p m head ack sound plays q_plays few =
     let hears = λ (what : Heard). unrefused J p head.from (Delivered (Ok what)) (λ why e. cc e) in
     let k : KnownValue = known_of rules p (J p) in
     branch P (nat_lt (count_in k k.me) ack) _ _ (λ is. absurd (no_bad_ack rules room J p head.from ack sound plays q_plays few is))
-        (λ within. hears _)
+    (λ within. hears _)
 
 calm_message : (rules : Rules) (room : ℕ) (J : ℕ → List Record) (p : ℕ) (m : Memory) (head : HeadValue) (message : Message)
     → AreInRange rules → AreSound rules room J → IsPlayer rules p → IsPlayer rules head.from
@@ -235,7 +235,7 @@ calm_seen : (J : ℕ → List Record) (p q : ℕ) (rules : Rules) (m : Memory) (
 unfolding hear_seen
 calm_seen J p q rules m head ack few =
     branch (EndsCalmly J p q) (nat_lt (confirmed (known_of rules p (J p))) ack) _ _
-        (λ is. absurd (let past = ltb-true (confirmed (known_of rules p (J p))) ack is in omega (arith, past, few)))
+    (λ is. absurd (let past = ltb-true (confirmed (known_of rules p (J p))) ack is in omega (arith, past, few)))
     (λ within. unrefused J p q _ (λ why e. cc e))
 
 seen_kind : (message : Message) (ack : ℕ) → seen_in message ≡ Some ack → kind_of message ≡ kinds.Seen
@@ -254,7 +254,7 @@ pub seen_seats : (packet : Packet) (ack : ℕ) → IsPacket packet → seen_in p
 seen_seats packet ack spelled seen =
     let kind : packet.head.kind ≡ kinds.Seen = spelled.kind ∙ seen_kind packet.message ack seen in
     let seats : are_seats kinds.Seen packet.head.from packet.head.to ≡ true =
-        ap (λ (k : DatagramKind). are_seats k packet.head.from packet.head.to) (sym kind) ∙ spelled.head.seats in
+    ap (λ (k : DatagramKind). are_seats k packet.head.from packet.head.to) (sym kind) ∙ spelled.head.seats in
     and_parts (is_watcher packet.head.from) (packet.head.to == 1) seats
 
 to_one : (l : LinksValue) (packet : Packet) (ack : ℕ) → IsPacket packet → seen_in packet.message ≡ Some ack
@@ -270,13 +270,13 @@ calm_from : (rules : Rules) (room : ℕ) (J : ℕ → List Record) (said : List 
 calm_from rules room J said p m packet (Some ack) range sound plays awake told spelled seen =
     let q : ℕ = packet.head.from in
     unless_hand_calm (EndsCalmly J p q) m (links.refusal_of_seen m.links packet.head) _
-        (λ error. calm_other J p q _ (λ e. cc e) (λ e. cc e) (λ e. cc e)) (λ admitted.
+    (λ error. calm_other J p q _ (λ e. cc e) (λ e. cc e) (λ e. cc e)) (λ admitted.
     let one : p ≡ 1 = sym awake.lawful.player ∙ to_one m.links packet ack spelled seen admitted in
     calm_seen J p q rules m packet.head ack (subst (λ (x : ℕ). ack ≤ confirmed (known_of rules x (J x))) (sym one) told))
 calm_from rules room J said p m packet None range sound plays awake told spelled seen =
     let q : ℕ = packet.head.from in
     unless_hand_calm (EndsCalmly J p q) m (links.refusal m.links packet.head) _
-        (λ error. calm_other J p q _ (λ e. cc e) (λ e. cc e) (λ e. cc e)) (λ admitted.
+    (λ error. calm_other J p q _ (λ e. cc e) (λ e. cc e) (λ e. cc e)) (λ admitted.
     let mine : packet.head.to ≡ p = (is_for_me m.links packet.head admitted).to ∙ awake.lawful.player in
     calm_message rules room J p m packet.head packet.message range sound plays told.0
     (subst (λ (to : ℕ). IsTrueMessage rules q to (J q) packet.message) mine told.1.message))

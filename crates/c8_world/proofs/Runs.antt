@@ -23,13 +23,13 @@ use Rattle.c8_peer.specs.Told.{Told, told_of}
 use Rattle.c8_peer.specs.State as states
 use Rattle.c8_peer.specs.State.{Memory, Mode, Down, Away, State, Call, Outcome}
 use Rattle.c8_peer.specs.Steps.{outcome, DiskOutcome, done, at_mode}
-use Rattle.c8_peer.specs.Hearing.{is_of_other_wire, refused, unless_misfit, got, differs_from, is_desync, hear_data, hear_message,
-  unless_hand, deliver, hear_from, seen_in}
+use Rattle.c8_peer.specs.Hearing.{is_of_other_wire, refused, unless_misfit, got, differs_from, is_desync, hear_data, hear_message}
+use Rattle.c8_peer.specs.Hearing.{unless_hand, deliver, hear_from, seen_in}
 use Rattle.c8_peer.specs.Opening.{Opening, NoPlayer, Stands, NotWritten, NoMemory, NotRead, Unfit, Spent, found, MayBecome, last_epoch}
 use Rattle.c8_world.specs.checked.Below.{ArePeersLawful}
-use Rattle.c8_world.specs.World.{World, is_player, peer_of, journal_of, Act, Open, Tick, Say, Give, Leave, Decide, Event, Do, Stop,
-  player_of, Happening, Answer, IsDown, NoSuch, Stopped, After, stepped, call_at_mode, give_to, acted, crashed, after, MayAct, act_inside,
-  Chain, Check, Show, Hear, Seen, Fresh}
+use Rattle.c8_world.specs.World.{World, is_player, peer_of, journal_of, Act, Open, Tick, Say, Give, Leave, Decide, Event, Do, Stop}
+use Rattle.c8_world.specs.World.{player_of, Happening, Answer, IsDown, NoSuch, Stopped, After, stepped, call_at_mode, give_to, acted}
+use Rattle.c8_world.specs.World.{crashed, after, MayAct, act_inside, Chain, Check, Show, Hear, Seen, Fresh}
 use Rattle.c8_world.specs.Agreement.{IsPlayer}
 use Rattle.c8_world.specs.Matches.{Line, events_of, answers_of, Leads}
 use Rattle.c8_world.proofs.Worlds.{IsSound, plays_if, after_sound}
@@ -146,14 +146,14 @@ deliver_is rules t k m packet same =
     let session = ap (λ (t : Marks). t.session) same in
     let mark = ap (λ (t : Marks). t.mark) same in
     choose (player_in k k.me).leaving _ _ _ (choose (is_of_other_wire rules packet.head) _ _ _
-        (from_is rules t k m packet (seen_in packet.message) session mark))
+    (from_is rules t k m packet (seen_in packet.message) session mark))
 
 -- ---- an event
 
 abbrev pub given_at : Rules → World → ℕ → DiskOutcome → Packet → Mode → After
 given_at rules w p on_disk packet states.Open =
     stepped w p (done (peer_of w p) (states.Deliver (Ok packet))
-        (deliver_here rules (told_of rules p (journal_of w p)) (known_of rules p (journal_of w p)) (peer_of w p).memory packet)
+    (deliver_here rules (told_of rules p (journal_of w p)) (known_of rules p (journal_of w p)) (peer_of w p).memory packet)
     (deliver_here rules (told_of rules p (journal_of w p)) (known_of rules p (journal_of w p)) (peer_of w p).memory packet).keeps on_disk)
 given_at rules w p on_disk packet Down = record { answer = IsDown; world = w }
 given_at rules w p on_disk packet Away = record { answer = IsDown; world = w }
@@ -381,5 +381,7 @@ pub worked : (laws : ArePeersLawful) (rules : Rules) (w : World) (lines : List L
     → IsWorked rules w lines (course rules 0 w lines).world
 worked laws rules w lines range sound same may is =
     let c = course_is laws rules 0 w lines range (omega arith) sound same may in
-    record { leads = subst (λ (answers : List Answer). Chain rules 0 w (events_of lines) answers (course rules 0 w lines).world) is c.chain;
-        sound = c.sound }
+    record {
+      leads = subst (λ (answers : List Answer). Chain rules 0 w (events_of lines) answers (course rules 0 w lines).world) is c.chain;
+      sound = c.sound;
+    }

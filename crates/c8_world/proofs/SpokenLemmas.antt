@@ -1,6 +1,6 @@
 -- Datagrams that are sent and delivered at a table.
-use Rattle.std.proofs.Common.{◌≡◌, ◌≢◌, ℕ, zero, suc, ◌+◌, ◌-◌, ◌<◌, ◌≤◌, List, [], ◌∷◌, ◌++◌, length, map, take, Option, Some, None,
-  Result, Ok, Err, refl, sym, ap, subst, ◌∙◌, arith, slice_index_or}
+use Rattle.std.proofs.Common.{◌≡◌, ◌≢◌, ℕ, zero, suc, ◌+◌, ◌-◌, ◌<◌, ◌≤◌, List, [], ◌∷◌, ◌++◌, length, map, take, Option, Some, None}
+use Rattle.std.proofs.Common.{Result, Ok, Err, refl, sym, ap, subst, ◌∙◌, arith, slice_index_or}
 use Rattle.std.specs.Prelude.{IfOk}
 use Rattle.std.specs.List.{slice_get}
 use Rattle.std.proofs.lemmas.List.{append-nil, map-append, length-map, length-append, length-take-le}
@@ -20,8 +20,8 @@ use Rattle.c8_world.specs.World.{World, peer_of, Say, Give, Do, Told, NoSuch, gi
 use Rattle.c8_world.specs.Agreement.{IsPlayer}
 use Rattle.c8_world.specs.Nodes.{IsNode, IsSaying, IsAsked}
 use Rattle.c8_world.specs.Table.{TableValue, Holds, HasHappened}
-use Rattle.c8_world.proofs.TableLemmas.{CanDo, stands_is_memory, IsCallOf, same_renodeed, placed_happens, replied_can, down_can,
-  same_happens, node_held, held_at, asked_as, absent_can, no_player, with_outcome, with_node}
+use Rattle.c8_world.proofs.TableLemmas.{CanDo, stands_is_memory, IsCallOf, same_renodeed, placed_happens, replied_can, down_can}
+use Rattle.c8_world.proofs.TableLemmas.{same_happens, node_held, held_at, asked_as, absent_can, no_player, with_outcome, with_node}
 
 -- ---- the pool
 
@@ -64,7 +64,7 @@ module _ (t : TableValue) (p : ℕ) (act : Act) (call : Call) (is_call : IsSayin
   unsaid_happens error up is =
       let does = is_call t.rules t.room w in
       placed_happens t t w p (step t.rules p (peer_of w p) call Works).state [] node act (Told (Said (Err error)))
-          (answers.Said (Err error)) refl refl plays does.by holds
+      (answers.Said (Err error)) refl refl plays does.by holds
       (replied_can t.rules t.room w p act call (Said (Err error)) plays does up (ap (λ (x : Stepped). x.reply) is))
       (same_renodeed t.nodes p node at) (said_state (Said (Err error)) is)
       (holds.said ∙ ap (λ (xs : List Packet). map spelling xs) (sym (append-nil w.said))) (refl, refl)
@@ -79,15 +79,15 @@ module _ (t : TableValue) (p : ℕ) (act : Act) (call : Call) (is_call : IsSayin
       let same : length t.pool ≡ length w.said = ap (λ (xs : List (List ℕ)). length xs) holds.said ∙ length-map w.said spelling in
       let long : size ≡ length (spelling packet) = sym (length-take-le size bytes fits) ∙ ap (λ (xs : List ℕ). length xs) spells.spelled in
       placed_happens t (with_said t (take size bytes)) w p (step t.rules p (peer_of w p) call Works).state (packet ∷ []) node act
-          (Told (Said (Ok packet)))
+      (Told (Said (Ok packet)))
       (answers.Said (Ok (record { number = length t.pool; length = size }))) refl refl plays does.by holds
       (replied_can t.rules t.room w p act call (Said (Ok packet)) plays does up (ap (λ (x : Stepped). x.reply) is))
       (same_renodeed t.nodes p node at) (said_state (Said (Ok packet)) is)
       (ap (λ (xs : List (List ℕ)). xs ++ take size bytes ∷ []) holds.said
-          ∙ ap (λ (x : List ℕ). map spelling w.said ++ x ∷ []) spells.spelled ∙ sym (map-append spelling w.said (packet ∷ []))) (refl, refl)
+      ∙ ap (λ (x : List ℕ). map spelling w.said ++ x ∷ []) spells.spelled ∙ sym (map-append spelling w.said (packet ∷ []))) (refl, refl)
       (λ v here said.
       let count : length t.pool ≡ length v.said - 1 =
-          omega (arith, same, ap (λ (xs : List Packet). length xs) said, length-append w.said (packet ∷ [])) in
+      omega (arith, same, ap (λ (xs : List Packet). length xs) said, length-append w.said (packet ∷ [])) in
       ap (λ (x : Posted). answers.Said (Ok x)) (rw (count, long) refl))
 
 -- ---- a datagram that is delivered
@@ -130,7 +130,7 @@ given_absent t self number p bytes view at absent =
     let told = said_at w.said number bytes (subst (λ (xs : List (List ℕ)). slice_get xs number ≡ Some bytes) holds.said at) in
     same_happens t w (Give number p) _ answers.Down holds
     (absent_can t.rules t.room w p (Give number p) (states.Deliver (Ok told.0)) (no_player t.rules p absent)
-        (given_call t.rules t.room w number p told.0 told.1)) refl)
+    (given_call t.rules t.room w number p told.0 told.1)) refl)
 
 pub given_happens : (t self : TableValue) (number place p : ℕ) (bytes : List ℕ) (old new : Node) (x : Option Node) (answer : codes.Answer)
     → t ≡ self → slice_get t.pool number ≡ Some bytes
@@ -144,9 +144,9 @@ given_happens t self number place p bytes old new x answer view at reads places 
     let told = said_at w.said number bytes (subst (λ (xs : List (List ℕ)). slice_get xs number ≡ Some bytes) holds.said at) in
     let is_read : read bytes ≡ Ok told.0 = ap read told.2 ∙ reads w holds told.0 number told.1 in
     asked_as t place p new (Give number p) (states.Deliver (Ok told.0)) places within plays w
-        (given_call t.rules t.room w number p told.0 told.1) holds answer
+    (given_call t.rules t.room w number p told.0 told.1) holds answer
     (subst (λ (r : _). IsAsked t.rules t.room p (peer_of w p) (states.Deliver r) answer new) is_read
-        (asked t.rules t.room p (peer_of w p) (node_held t place p old w places within plays x here old_is holds))))
+    (asked t.rules t.room p (peer_of w p) (node_held t place p old w places within plays x here old_is holds))))
 
 -- ---- what a player sends
 
@@ -155,7 +155,7 @@ pub say_absent : (t self : TableValue) (p : ℕ) (act : Act) (call : Call) → I
 say_absent t self p act call is_call view absent =
     subst (λ (u : TableValue). (w : World) → Holds u w → HasHappened u w (Do act) answers.Down u) view
     (λ w holds. same_happens t w act _ answers.Down holds
-        (absent_can t.rules t.room w p act call (no_player t.rules p absent) (is_call t.rules t.room w)) refl)
+    (absent_can t.rules t.room w p act call (no_player t.rules p absent) (is_call t.rules t.room w)) refl)
 
 -- a call at a node that is only read
 module _ (t self : TableValue) (place p : ℕ) (act : Act) (call : Call) (is_call : IsSayingOf act p call) (node : Node) (x : Option Node)
@@ -167,7 +167,7 @@ module _ (t self : TableValue) (place p : ℕ) (act : Act) (call : Call) (is_cal
       subst (λ (u : TableValue). (w : World) → Holds u w → HasHappened u w (Do act) answers.Down u) view
       (λ w holds. same_happens t w act _ answers.Down holds
       (down_can t.rules t.room w p act call plays (is_call t.rules t.room w)
-          (down t.rules t.room p (peer_of w p) (node_held t place p node w places within plays x here is holds))) refl)
+      (down t.rules t.room p (peer_of w p) (node_held t place p node w places within plays x here is holds))) refl)
 
   pub refused_happens : (result : Result ℕ Unsayable) (error : Unsayable) (bytes : List ℕ) → result ≡ Err error
       → ((rules : Rules) (room q : ℕ) (s : State) → IsNode rules room q node s → (s.mode ≡ states.Open) × IsSaying rules q s call result bytes)
@@ -188,12 +188,12 @@ module _ (t self : TableValue) (place p : ℕ) (act : Act) (call : Call) (is_cal
       (record t { pool = pool })
   spoken_happens result number size most bytes pool oks numbered grown few long asked =
       subst (λ (u : TableValue). (w : World) → Holds u w
-          → HasHappened u w (Do act) (answers.Said (Ok (record { number = number; length = size }))) (record t { pool = pool })) view
+      → HasHappened u w (Do act) (answers.Said (Ok (record { number = number; length = size }))) (record t { pool = pool })) view
       (λ w holds.
       let nodeed = node_held t place p node w places within plays x here is holds in
       let told = asked t.rules t.room p (peer_of w p) nodeed in
       let saying : IsSaying t.rules p (peer_of w p) call (Ok size) bytes =
-          subst (λ (r : Result ℕ Unsayable). IsSaying t.rules p (peer_of w p) call r bytes) oks told.1 in
+      subst (λ (r : Result ℕ Unsayable). IsSaying t.rules p (peer_of w p) call r bytes) oks told.1 in
       let at_most : size ≤ most = subst (λ (r : Result ℕ Unsayable). IfOk r (λ n. n ≤ most)) oks few in
       rw (numbered, grown) (said_happens t p act call is_call node plays w holds (held_at t place p node places within x here is) nodeed
-          saying.0 size bytes told.0 saying.1 (omega (arith, at_most, long)) saying.2))
+      saying.0 size bytes told.0 saying.1 (omega (arith, at_most, long)) saying.2))

@@ -1,6 +1,6 @@
 -- What a stop does to a table.
-use Rattle.std.proofs.Common.{◌≡◌, ◌≢◌, ℕ, ◌+◌, ◌-◌, ◌<◌, length, map, Bool, true, false, cond, Option, Some, None, Result, Ok, Err, refl,
-  sym, ap, subst, ◌∙◌, arith, slice_set, slice_index_or}
+use Rattle.std.proofs.Common.{◌≡◌, ◌≢◌, ℕ, ◌+◌, ◌-◌, ◌<◌, length, map, Bool, true, false, cond, Option, Some, None, Result, Ok, Err, refl}
+use Rattle.std.proofs.Common.{sym, ap, subst, ◌∙◌, arith, slice_set, slice_index_or}
 use Rattle.std.specs.Prelude.{IfOk, IfErr}
 use Rattle.std.proofs.lemmas.List.{length-set, get_or-set_same, get_or-set_other}
 use Rattle.c8_game.specs.Rules.{Rules}
@@ -11,8 +11,9 @@ use Rattle.c8_peer.specs.Runs as runs
 use Rattle.c8_world.specs.declared.answer.Answer as codes
 use Rattle.c8_world.specs.declared.answer.Answer.TheVariants as answers
 use Rattle.c8_world.specs.declared.node.Node.{Node}
-use Rattle.c8_world.specs.World.{World, never_opened, is_player, peer_of, with_peer, Act, Open, Tick, Say, Give, Leave, Decide, player_of,
-  Event, Do, Stop, Stopped, Happening, After, acted, crashed, MayAct, CanHappen, Check, Show, Hear, Seen, Fresh}
+use Rattle.c8_world.specs.World.{World, never_opened, is_player, peer_of, with_peer, Act, Open, Tick, Say, Give, Leave, Decide, player_of}
+use Rattle.c8_world.specs.World.{Event, Do, Stop, Stopped, Happening, After, acted, crashed, MayAct, CanHappen, Check, Show, Hear, Seen}
+use Rattle.c8_world.specs.World.{Fresh}
 use Rattle.c8_world.specs.Agreement.{IsPlayer}
 use Rattle.c8_world.specs.Table.{TableValue, IsTaken, node_of, IsSameMatch, Holds, HasHappened, HasNotHappened, HasCrashed}
 use Rattle.c8_world.proofs.Openings.{plays_so}
@@ -45,7 +46,7 @@ nodeed_as : (t : TableValue) (place p : ℕ) (y : Option Node) (w v : World) →
 nodeed_as t place p None w v at within holds here there = absurd here
 nodeed_as t place p (Some node) w v at within holds here there =
     nodeed t.rules t.room p t.nodes (slice_set t.nodes place (Some node)) node w v (set_renodeed t.nodes place p node at within) holds.peers
-        here there
+    here there
 
 pub crash_happens : (t self : TableValue) (place p : ℕ) (x y : Option Node) → t ≡ self → place + 1 ≡ p → place < length t.nodes
     → IsPlayer t.rules p → x ≡ slice_index_or t.nodes place x
@@ -144,7 +145,7 @@ stop_happens old mid new w act calls pick answer holds first last one crashes =
         count = crashed_if (λ (x : World). length x.peers ≡ new.rules.players) (is_player old.rules p)
             (with_peer one.world p (away (peer_of one.world p) (found (peer_of one.world p) crash.leaves) None)) one.world
             (length-set one.world.peers (p - 1) (away (peer_of one.world p) (found (peer_of one.world p) crash.leaves) None)
-                ∙ one.holds.count ∙ ap (λ (r : Rules). r.players) (sym last.rules))
+            ∙ one.holds.count ∙ ap (λ (r : Rules). r.players) (sym last.rules))
             (one.holds.count ∙ ap (λ (r : Rules). r.players) (sym last.rules));
         peers = rw (last.rules, last.room) (rw (sym first.rules) crash.peers);
         said = crash.pool ∙ one.holds.said ∙ crashed_if (λ (x : World). map spelling one.world.said ≡ map spelling x.said)

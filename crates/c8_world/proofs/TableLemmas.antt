@@ -1,6 +1,6 @@
 -- What happens to a table when one of its nodes, or its pool, changes.
-use Rattle.std.proofs.Common.{◌≡◌, ◌≢◌, inl, inr, ℕ, ◌+◌, ◌-◌, ◌<◌, ◌≤◌, ◌^◌, List, [], ◌∷◌, ◌++◌, length, map, Bool, false, cond, Option,
-  Some, None, Ok, Err, refl, sym, ap, subst, ◌∙◌, arith, slice_set, slice_index_or}
+use Rattle.std.proofs.Common.{◌≡◌, ◌≢◌, inl, inr, ℕ, ◌+◌, ◌-◌, ◌<◌, ◌≤◌, ◌^◌, List, [], ◌∷◌, ◌++◌, length, map, Bool, false, cond, Option}
+use Rattle.std.proofs.Common.{Some, None, Ok, Err, refl, sym, ap, subst, ◌∙◌, arith, slice_set, slice_index_or}
 use Rattle.std.proofs.lemmas.Bool.{cases_eq, and_right, lt-leb}
 use Rattle.std.specs.Prelude.{nat_le, IfSome, MatchOption}
 use Rattle.std.proofs.lemmas.List.{append-nil, length-set, get_or-set_same, get_or-set_other, get_or_default}
@@ -19,8 +19,9 @@ use Rattle.c8_world.specs.declared.answer.Answer.TheVariants as answers
 use Rattle.c8_world.specs.declared.answer.Counts.{Counts}
 use Rattle.c8_world.specs.declared.node.Node.{Node}
 use Rattle.c8_world.specs.declared.node.Node.TheVariants as nodes
-use Rattle.c8_world.specs.World.{World, never_opened, start, is_player, peer_of, Act, Tick, Leave, Decide, player_of, Event, Do, Happening,
-  Answer, Told, IsDown, said_by, stepped, call_at_mode, call_at, acted, MayAct, CanHappen, Chain, IsReached, Check}
+use Rattle.c8_world.specs.World.{World, never_opened, start, is_player, peer_of, Act, Tick, Leave, Decide, player_of, Event, Do, Happening}
+use Rattle.c8_world.specs.World.{Answer, Told, IsDown, said_by, stepped, call_at_mode, call_at, acted, MayAct, CanHappen, Chain, IsReached}
+use Rattle.c8_world.specs.World.{Check}
 use Rattle.c8_world.specs.Agreement.{IsPlayer}
 use Rattle.c8_world.specs.Nodes.{IsNode, IsPeerOf, IsCalled, IsAsked}
 use Rattle.c8_world.specs.Table.{TableValue, IsTaken, IsNotHeld, node_of, Holds, HadMemory, HasHappened, reported_reply, reported}
@@ -111,7 +112,7 @@ placed_holds old new w p s said node rules_same room_same plays holds reached is
       peers = subst (λ (r : Rules). (q : ℕ) → IsPlayer r q → IsTaken r new.room q (node_of new q) (peer_of v q)) (sym rules_same)
           (subst (λ (n : ℕ). (q : ℕ) → IsPlayer old.rules q → IsTaken old.rules n q (node_of new q) (peer_of v q)) (sym room_same)
           (nodeed old.rules old.room p old.nodes new.nodes node w v is holds.peers
-              (subst (λ (x : State). IsNode old.rules old.room p node x) (sym here) node_is)
+          (subst (λ (x : State). IsNode old.rules old.room p node x) (sym here) node_is)
           (λ q q_plays apart. placed_there old.rules w p s said q plays q_plays apart)));
       said = pool_is;
       five = rows.0 ∙ holds.five;
@@ -242,11 +243,11 @@ module _ (t : TableValue) (place p : ℕ) (node : Node) (act : Act) (call : Call
       → HasHappened t w (Do act) answer (with_node t place node)
   replied reply answer called quiet reports =
       placed_happens t (with_node t place node) w p (step t.rules p (peer_of w p) call (disk_outcome_of reply)).state (said_by reply) node
-          act (Told reply) answer
+      act (Told reply) answer
       refl refl plays is.by holds (replied_can t.rules t.room w p act call reply plays is called.0 called.1)
       (set_renodeed t.nodes place p node at within) called.2
       (holds.said ∙ ap (λ (xs : List Packet). map spelling xs)
-          (sym (append-nil w.said) ∙ ap (λ (new : List Packet). w.said ++ new) (sym quiet))) (refl, refl)
+      (sym (append-nil w.said) ∙ ap (λ (new : List Packet). w.said ++ new) (sym quiet))) (refl, refl)
       (λ v here said. subst (λ (x : State). answer ≡ reported_reply t.rules p x (length v.said - 1) reply) (sym here) (reports (length v.said - 1)))
 
   unasked : IsCalled t.rules t.room p (peer_of w p) call None node → HasHappened t w (Do act) answers.Down (with_node t place node)
@@ -291,7 +292,7 @@ pub taken_at : (t : TableValue) (place p : ℕ) (w : World) → place + 1 ≡ p 
 taken_at t place p w at within plays x here holds =
     let i : place ≡ p - 1 = omega (arith, at) in
     let found : slice_index_or t.nodes (p - 1) None ≡ x =
-        subst (λ (j : ℕ). slice_index_or t.nodes j None ≡ x) i (get_or_default t.nodes place None x within ∙ sym here) in
+    subst (λ (j : ℕ). slice_index_or t.nodes j None ≡ x) i (get_or_default t.nodes place None x within ∙ sym here) in
     subst (λ (y : Option Node). IsTaken t.rules t.room p y (peer_of w p)) found (holds.peers p plays)
 
 -- the node of a table at a place
@@ -315,7 +316,7 @@ pub asked_happens : (t self : TableValue) (place p : ℕ) (old new : Node) (x : 
 asked_happens t self place p old new x act call answer view is at within plays here old_is asked =
     subst (λ (u : TableValue). (w : World) → Holds u w → HasHappened u w (Do act) answer (with_node t place new)) view
     (λ w holds. asked_as t place p new act call at within plays w (is w) holds answer
-        (asked t.rules t.room p (peer_of w p) (node_held t place p old w at within plays x here old_is holds)))
+    (asked t.rules t.room p (peer_of w p) (node_held t place p old w at within plays x here old_is holds)))
 
 -- ---- the calls that acts are
 
@@ -349,6 +350,6 @@ lent_checked now law t w p None range few from holds within held = tt
 lent_checked now law t w p (Some r) range few from holds within held =
     let plays : IsPlayer t.rules p = record { from_one = from; in_game = within } in
     let is : IsPeerOf t.rules t.room p (now r) (peer_of w p) =
-        subst (λ (node : Option Node). IsTaken t.rules t.room p node (peer_of w p)) held (holds.peers p plays) in
+    subst (λ (node : Option Node). IsTaken t.rules t.room p node (peer_of w p)) held (holds.peers p plays) in
     subst (λ (x : Rules × ℕ × State). HasTrueChecks x.0 x.1 x.2.journal) (λ i. (sym is.rules_are i, sym is.me_is i, sym is.state_is i))
-        (law t.rules t.room w p range few holds.reached plays)
+    (law t.rules t.room w p range few holds.reached plays)

@@ -1,6 +1,6 @@
 -- Each event is a turn of its player.
-use Rattle.std.proofs.Common.{◌≡◌, inl, inr, ◌<◌, ⊎_elim, ℕ, ◌+◌, ◌-◌, List, [], ◌∷◌, ◌++◌, length, take, drop, slice_set, slice_index_or,
-  Option, None, Some, refl, sym, ap, subst, ◌∙◌, arith}
+use Rattle.std.proofs.Common.{◌≡◌, inl, inr, ◌<◌, ⊎_elim, ℕ, ◌+◌, ◌-◌, List, [], ◌∷◌, ◌++◌, length, take, drop, slice_set, slice_index_or}
+use Rattle.std.proofs.Common.{Option, None, Some, refl, sym, ap, subst, ◌∙◌, arith}
 use Rattle.std.proofs.lemmas.List.{get_or-set_same, get_or-set_other, get_or_default, get_or_past}
 use Rattle.c8_disk.specs.declared.disk.Disk.{Ghosts}
 use Rattle.c8_game.specs.Rules.{Rules}
@@ -33,9 +33,9 @@ pub node_moves : (P : Node → Node → Type 0) (t self : TableValue) (place p :
 node_moves P t self place p x y view at within here is =
     let i : place ≡ p - 1 = omega (arith, at) in
     let found : x ≡ node_of t p = sym (subst (λ (j : ℕ). slice_index_or t.nodes j None ≡ x) i
-        (get_or_default t.nodes place None x within ∙ sym here)) in
+    (get_or_default t.nodes place None x within ∙ sym here)) in
     let made : y ≡ node_of (with_taken t place y) p =
-        sym (subst (λ (j : ℕ). slice_index_or (slice_set t.nodes place y) j None ≡ y) i (get_or-set_same t.nodes place y None within)) in
+    sym (subst (λ (j : ℕ). slice_index_or (slice_set t.nodes place y) j None ≡ y) i (get_or-set_same t.nodes place y None within)) in
     subst (λ (u : TableValue). IsMove p P u (with_taken t place y)) view (record {
       same = record { rules = refl; room = refl };
       others = others_set t place p y at;

@@ -4,8 +4,8 @@ use Rattle.c8_wire.specs.declared.error.WireError.{WireError}
 use Rattle.c8_spectator.specs.declared.error.NotTaken.{NotTaken}
 use Rattle.c8_spectator.specs.declared.taken.Taken.{Taken}
 use Rattle.std.proofs.lemmas.Bool.{eq-eqb, ne_eqb, le-leb}
-use Rattle.std.proofs.Common.{◌≡◌, ℕ, ◌-◌, ◌≤◌, List, [], ◌∷◌, ◌++◌, length, map, take, true, Option, Some, Ok, refl, sym, ap, subst, ◌∙◌,
-  arith, Result}
+use Rattle.std.proofs.Common.{◌≡◌, ℕ, ◌-◌, ◌≤◌, List, [], ◌∷◌, ◌++◌, length, map, take, true, Option, Some, Ok, refl, sym, ap, subst, ◌∙◌}
+use Rattle.std.proofs.Common.{arith, Result}
 use Rattle.std.specs.Prelude.{◌==◌, if◌then◌else◌}
 use Rattle.std.specs.List.{slice_get}
 use Rattle.std.proofs.lemmas.List.{map-append, length-map, length-append, length-take-le}
@@ -21,8 +21,8 @@ use Rattle.c8_peer.specs.State as states
 use Rattle.c8_peer.specs.Steps.{Works}
 use Rattle.c8_world.specs.declared.answer.Answer as codes
 use Rattle.c8_world.specs.declared.answer.Answer.TheVariants as answers
-use Rattle.c8_world.specs.World.{World, Act, Answer, player_of, Show, Hear, Seen, Fresh, Do, Watched, Spoken, Anew, NoSuch, rows_of,
-  watch_of, with_rows, hear_at, seen_by_watcher, acted}
+use Rattle.c8_world.specs.World.{World, Act, Answer, player_of, Show, Hear, Seen, Fresh, Do, Watched, Spoken, Anew, NoSuch, rows_of}
+use Rattle.c8_world.specs.World.{watch_of, with_rows, hear_at, seen_by_watcher, acted}
 use Rattle.c8_world.specs.Table.{TableValue, Holds, HasHappened, reported, rows_in, watch_in, IsWatch}
 use Rattle.c8_world.proofs.TableLemmas.{CanDo, stands_is_memory, IsCallOf, same_happens, with_outcome, reached_more}
 use Rattle.c8_world.proofs.SpokenLemmas.{AreRead, said_at, not_said}
@@ -91,7 +91,7 @@ unfolding acted
 heard_happens t self number watcher bytes watches view at reads =
     let after : watching.Watched = hear (watch_in t watcher) (read bytes) in
     subst (λ (u : TableValue). (w : World) → Holds u w
-        → HasHappened u w (Do (Hear number watcher)) (answers.Watched after.answer) (with_watch t watcher after.watch.rows)) view
+    → HasHappened u w (Do (Hear number watcher)) (answers.Watched after.answer) (with_watch t watcher after.watch.rows)) view
     (λ w holds.
     let told = said_at w.said number bytes (subst (λ (xs : List (List ℕ)). slice_get xs number ≡ Some bytes) holds.said at) in
     let is_read : read bytes ≡ Ok told.0 = ap read told.2 ∙ reads w holds told.0 number told.1 in
@@ -115,7 +115,7 @@ fresh_happens t self watcher watches view =
     subst (λ (u : TableValue). (w : World) → Holds u w → HasHappened u w (Do (Fresh watcher)) answers.Anew (with_watch t watcher [])) view
     (λ w holds.
     let can : CanDo t.rules t.room w (Do (Fresh watcher)) Anew (with_rows w watcher []) =
-        (record { happening = with_outcome Works; may = watches; is = refl }, stands_is_memory) in
+    (record { happening = with_outcome Works; may = watches; is = refl }, stands_is_memory) in
     watched_happens t w (Fresh watcher) watcher [] Anew answers.Anew holds can refl)
 
 -- ---- a watcher acknowledges its rows
@@ -128,7 +128,7 @@ pub seen_happens : (t self : TableValue) (watcher number size : ℕ) (bytes : Li
 unfolding acted
 seen_happens t self watcher number size bytes pool watches view numbered grown spells fits =
     subst (λ (u : TableValue). (w : World) → Holds u w
-        → HasHappened u w (Do (Seen watcher)) (answers.Spoken (record { number = number; length = size })) (record t { pool = pool })) view
+    → HasHappened u w (Do (Seen watcher)) (answers.Spoken (record { number = number; length = size })) (record t { pool = pool })) view
     (λ w holds.
     let packet : Packet = seen_by_watcher t.rules t.room w watcher in
     let v : World = record w { said = w.said ++ packet ∷ [] } in
@@ -138,7 +138,7 @@ seen_happens t self watcher number size bytes pool watches view numbered grown s
     let long : size ≡ length (spelling packet) = sym (length-take-le size bytes fits) ∙ ap (λ (xs : List ℕ). length xs) spelled in
     let last : number ≡ length v.said - 1 = omega (arith, numbered, count, length-append w.said (packet ∷ [])) in
     let can : CanDo t.rules t.room w (Do (Seen watcher)) (Spoken packet) v =
-        (record { happening = with_outcome Works; may = watches; is = refl }, stands_is_memory) in
+    (record { happening = with_outcome Works; may = watches; is = refl }, stands_is_memory) in
     record {
       told = Spoken packet;
       world = v;
@@ -210,15 +210,15 @@ pub heard_five : (t self : TableValue) (number watcher : ℕ) (bytes : List ℕ)
     → (w : World) → Holds self w → HasHappened self w (Do (Hear number watcher)) (answers.Watched answer) (record t { five = new.rows })
 heard_five t self number watcher bytes old new answer watches is view at reads watch rows told after =
     let same : hear (watch_in t watcher) (read bytes) ≡ hear old (read bytes) =
-        ap (λ v. hear v (read bytes)) (sym (watch_of_five t watcher old is watch rows)) in
+    ap (λ v. hear v (read bytes)) (sym (watch_of_five t watcher old is watch rows)) in
     let answered : (hear (watch_in t watcher) (read bytes)).answer ≡ answer = ap (λ (x : watching.Watched). x.answer) same ∙ sym told in
     let kept : (hear (watch_in t watcher) (read bytes)).watch.rows ≡ new.rows =
-        ap (λ (x : watching.Watched). x.watch.rows) same ∙ ap (λ (v : WatchValue). v.rows) (sym after) in
+    ap (λ (x : watching.Watched). x.watch.rows) same ∙ ap (λ (v : WatchValue). v.rows) (sym after) in
     subst (λ (u : TableValue). (w : World) → Holds self w → HasHappened self w (Do (Hear number watcher)) (answers.Watched answer) u)
     (five_now t watcher (hear (watch_in t watcher) (read bytes)).watch.rows is ∙ (λ i. record t { five = kept i }))
     (subst (λ (x : Result Taken NotTaken). (w : World) → Holds self w
-        → HasHappened self w (Do (Hear number watcher)) (answers.Watched x)
-        (with_watch t watcher (hear (watch_in t watcher) (read bytes)).watch.rows)) answered
+    → HasHappened self w (Do (Hear number watcher)) (answers.Watched x)
+    (with_watch t watcher (hear (watch_in t watcher) (read bytes)).watch.rows)) answered
     (heard_happens t self number watcher bytes watches view at reads))
 
 pub heard_six : (t self : TableValue) (number watcher : ℕ) (bytes : List ℕ) (old new : WatchValue) (answer : Result Taken NotTaken)
@@ -228,13 +228,13 @@ pub heard_six : (t self : TableValue) (number watcher : ℕ) (bytes : List ℕ) 
     → (w : World) → Holds self w → HasHappened self w (Do (Hear number watcher)) (answers.Watched answer) (record t { six = new.rows })
 heard_six t self number watcher bytes old new answer watches is view at reads watch rows told after =
     let same : hear (watch_in t watcher) (read bytes) ≡ hear old (read bytes) =
-        ap (λ v. hear v (read bytes)) (sym (watch_of_six t watcher old is watch rows)) in
+    ap (λ v. hear v (read bytes)) (sym (watch_of_six t watcher old is watch rows)) in
     let answered : (hear (watch_in t watcher) (read bytes)).answer ≡ answer = ap (λ (x : watching.Watched). x.answer) same ∙ sym told in
     let kept : (hear (watch_in t watcher) (read bytes)).watch.rows ≡ new.rows =
-        ap (λ (x : watching.Watched). x.watch.rows) same ∙ ap (λ (v : WatchValue). v.rows) (sym after) in
+    ap (λ (x : watching.Watched). x.watch.rows) same ∙ ap (λ (v : WatchValue). v.rows) (sym after) in
     subst (λ (u : TableValue). (w : World) → Holds self w → HasHappened self w (Do (Hear number watcher)) (answers.Watched answer) u)
     (six_now t watcher (hear (watch_in t watcher) (read bytes)).watch.rows is ∙ (λ i. record t { six = kept i }))
     (subst (λ (x : Result Taken NotTaken). (w : World) → Holds self w
-        → HasHappened self w (Do (Hear number watcher)) (answers.Watched x)
-        (with_watch t watcher (hear (watch_in t watcher) (read bytes)).watch.rows)) answered
+    → HasHappened self w (Do (Hear number watcher)) (answers.Watched x)
+    (with_watch t watcher (hear (watch_in t watcher) (read bytes)).watch.rows)) answered
     (heard_happens t self number watcher bytes watches view at reads))

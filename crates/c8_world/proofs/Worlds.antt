@@ -1,12 +1,12 @@
 -- A world is sound at its start, and each event keeps it sound.
 use Rattle.c8_spectator.specs.Growth.{ShowsRowsOf}
-use Rattle.std.proofs.Common.{◌≡◌, ◌≢◌, ℕ, zero, suc, ◌-◌, ◌<◌, ◌^◌, ◌⊎◌, inl, inr, ⊎_elim, List, [], ◌∷◌, ◌++◌, length, Bool, true, false,
-  cond, Option, Some, None, Ok, Err, refl, sym, ap, subst, ◌∙◌, arith, slice_set, slice_index_or, replicate}
+use Rattle.std.proofs.Common.{◌≡◌, ◌≢◌, ℕ, zero, suc, ◌-◌, ◌<◌, ◌^◌, ◌⊎◌, inl, inr, ⊎_elim, List, [], ◌∷◌, ◌++◌, length, Bool, true, false}
+use Rattle.std.proofs.Common.{cond, Option, Some, None, Ok, Err, refl, sym, ap, subst, ◌∙◌, arith, slice_set, slice_index_or, replicate}
 use Rattle.std.specs.Prelude.{◌==◌, nat_le, if◌then◌else◌, option_to_list}
 use Rattle.std.specs.List.{slice_get}
 use Rattle.std.proofs.lemmas.Bool.{cases_eq, cases_lt, leb-true, both_ways, and_parts}
-use Rattle.std.proofs.lemmas.List.{append-nil, length-set, length-replicate, get_or-set_same, get_or-set_other, get_or-replicate,
-  get_or_past, set-set}
+use Rattle.std.proofs.lemmas.List.{append-nil, length-set, length-replicate, get_or-set_same, get_or-set_other, get_or-replicate}
+use Rattle.std.proofs.lemmas.List.{get_or_past, set-set}
 use Rattle.c8_game.specs.Rules.{Rules, AreInRange}
 use Rattle.c8_disk.specs.declared.error.DiskError.{DiskError}
 use Rattle.c8_wire.specs.Packet.{Packet, Message, ShowMessage}
@@ -20,11 +20,11 @@ use Rattle.c8_round.specs.Round.{report_of, no_reports}
 use Rattle.c8_record.specs.Allowed.{IsAllowed, IsJournal}
 use Rattle.c8_record.specs.checked.JournalLaws.{journal_none, journal_grows}
 use Rattle.c8_peer.specs.State as states
-use Rattle.c8_peer.specs.State.{Memory, Mode, Down, Away, State, Call, Reply, Opened, Ticked, Delivered, Said, Left, Decided, Outcome,
-  fresh_memory, Checked}
+use Rattle.c8_peer.specs.State.{Memory, Mode, Down, Away, State, Call, Reply, Opened, Ticked, Delivered, Said, Left, Decided, Outcome}
+use Rattle.c8_peer.specs.State.{fresh_memory, Checked}
 use Rattle.c8_peer.specs.Steps.{outcome, DiskOutcome, Works, Refuses, refused_by_disk, Stepped, done, at_mode, step}
-use Rattle.c8_peer.specs.Opening.{last_epoch, Opening, NoPlayer, Stands, NotWritten, NoMemory, NotRead, Unfit, Spent, found, opening_record,
-  away, opened, MayBecome}
+use Rattle.c8_peer.specs.Opening.{last_epoch, Opening, NoPlayer, Stands, NotWritten, NoMemory, NotRead, Unfit, Spent, found, opening_record}
+use Rattle.c8_peer.specs.Opening.{away, opened, MayBecome}
 use Rattle.c8_peer.specs.Lawful.{IsMemory, IsCall}
 use Rattle.c8_peer.specs.Truth.{IsTrue, IsTrueMessage}
 use Rattle.c8_peer.specs.TrueChecks.{HasTrueChecks}
@@ -32,10 +32,10 @@ use Rattle.c8_peer.specs.checked.TrueCheckLaws.{none_true}
 use Rattle.c8_peer.specs.Told.{told_of}
 use Rattle.c8_peer.specs.checked.TruthLaws.{truth_stays}
 use Rattle.c8_world.specs.checked.Below.{ArePeersLawful}
-use Rattle.c8_world.specs.World.{World, never_opened, start, is_player, peer_of, journal_of, with_peer, Act, Open, Tick, Say, Give, Leave,
-  Decide, Event, Do, Stop, player_of, Happening, Answer, After, said_by, stepped, call_at_mode, call_at, open_at_mode, give_to, acted,
-  crashed, after, MayAct, act_inside, CanHappen, Chain, Check, known_by, rows_of, with_rows, hear_at, seen_by_watcher, Show, Hear, Seen,
-  Fresh, watch_of}
+use Rattle.c8_world.specs.World.{World, never_opened, start, is_player, peer_of, journal_of, with_peer, Act, Open, Tick, Say, Give, Leave}
+use Rattle.c8_world.specs.World.{Decide, Event, Do, Stop, player_of, Happening, Answer, After, said_by, stepped, call_at_mode, call_at}
+use Rattle.c8_world.specs.World.{open_at_mode, give_to, acted, crashed, after, MayAct, act_inside, CanHappen, Chain, Check, known_by}
+use Rattle.c8_world.specs.World.{rows_of, with_rows, hear_at, seen_by_watcher, Show, Hear, Seen, Fresh, watch_of}
 use Rattle.c8_world.specs.Agreement.{IsPlayer, IsAmong}
 use Rattle.c8_world.proofs.Journals.{AreSound, MayAdd, Fits, Grown, HasMore, player_one, more_grown, frozen_grown, sound_more, fits_later}
 use Rattle.c8_world.proofs.Records.{fits_head, fits_epoch}
@@ -95,8 +95,14 @@ among_more said new packet among = (among.0, begins_get said (said ++ new) among
 named_more : (said new : List Packet) (p : ℕ) (m : Memory) → AreNamed said p m.links → AreNamed (said ++ new) p m.links
 named_more said new p m named q is =
     let n = named q is in
-    record { packet = n.packet; among = among_more said new n.packet n.among; from = n.from; to = n.to; sender_epoch = n.sender_epoch;
-        addressee_epoch = n.addressee_epoch }
+    record {
+      packet = n.packet;
+      among = among_more said new n.packet n.among;
+      from = n.from;
+      to = n.to;
+      sender_epoch = n.sender_epoch;
+      addressee_epoch = n.addressee_epoch;
+    }
 
 awake_later : (rules : Rules) (room : ℕ) (J J' : ℕ → List Record) (said new : List Packet) (p : ℕ) (m : Memory) → Grown rules J J'
     → IsMemory rules room p (J' p) m → IsAwake rules room J said p m → IsAwake rules room J' (said ++ new) p m
@@ -113,9 +119,9 @@ still_known rules room J J' range sound grown =
     let one = player_one rules range in
     let begins : Begins (J 1) (J' 1) = grown 1 one in
     let valid : IsJournal rules 1 room (J 1 ++ begins.rest) =
-        subst (λ (journal : List Record). IsJournal rules 1 room journal) begins.is (sound.valid 1 one) in
+    subst (λ (journal : List Record). IsJournal rules 1 room journal) begins.is (sound.valid 1 one) in
     subst (λ (journal : List Record). IsStillKnown (known_of rules 1 (J 1)) (known_of rules 1 journal)) (sym begins.is)
-        (journal_grows rules 1 room (J 1) begins.rest range one.from_one one.in_game valid)
+    (journal_grows rules 1 room (J 1) begins.rest range one.from_one one.in_game valid)
 
 told_later : (rules : Rules) (room : ℕ) (J J' : ℕ → List Record) (packet : Packet) (heard : Option ℕ) → AreInRange rules
     → AreSound rules room J' → Grown rules J J' → IsTold rules J packet heard → IsTold rules J' packet heard
@@ -123,9 +129,11 @@ told_later rules room J J' packet None range sound grown is =
     let q : ℕ = packet.head.from in
     let begins : Begins (J q) (J' q) = grown q is.0 in
     let valid : IsJournal rules q room (J q ++ begins.rest) =
-        subst (λ (journal : List Record). IsJournal rules q room journal) begins.is (sound.valid q is.0) in
-    (is.0, subst (λ (journal : List Record). IsTrue rules q journal packet) (sym begins.is)
-        (truth_stays rules q room (J q) begins.rest packet range is.0.from_one is.0.in_game valid is.1))
+    subst (λ (journal : List Record). IsJournal rules q room journal) begins.is (sound.valid q is.0) in (
+      is.0,
+      subst (λ (journal : List Record). IsTrue rules q journal packet) (sym begins.is)
+          (truth_stays rules q room (J q) begins.rest packet range is.0.from_one is.0.in_game valid is.1),
+    )
 told_later rules room J J' packet (Some rows) range sound grown is =
     omega (arith, is, confirmed_rises (known_of rules 1 (J 1)) (known_of rules 1 (J' 1)) (still_known rules room J J' range sound grown))
 
@@ -133,7 +141,7 @@ rows_later : (rules : Rules) (room : ℕ) (J J' : ℕ → List Record) (rows : L
     → Grown rules J J' → Begins rows (confirmed_rows (known_of rules 1 (J 1))) → Begins rows (confirmed_rows (known_of rules 1 (J' 1)))
 rows_later rules room J J' rows range sound grown begins =
     begins_more rows (confirmed_rows (known_of rules 1 (J 1))) (confirmed_rows (known_of rules 1 (J' 1))) begins
-        (rows_stay (known_of rules 1 (J 1)) (known_of rules 1 (J' 1)) (still_known rules room J J' range sound grown))
+    (rows_stay (known_of rules 1 (J 1)) (known_of rules 1 (J' 1)) (still_known rules room J J' range sound grown))
 
 said_later : (rules : Rules) (room : ℕ) (J J' : ℕ → List Record) (packet : Packet) → AreInRange rules → AreSound rules room J'
     → Grown rules J J' → IsSaid rules J packet → IsSaid rules J' packet
@@ -318,13 +326,16 @@ call_owes laws rules room w p call range sound plays up is_call worldly =
         allowed = laws.keeps_allowed rules p room (J p) m call r range from to valid awake.lawful is_call e;
         checks = laws.keeps_true rules p room (J p) m call r range from to valid awake.lawful is_call (sound.journals.checks p plays) e;
       });
-      awake = record { lawful = laws.memory_kept rules p room (J p) m call range from to valid awake.lawful is_call; chair = good.chair;
-          links = good.links };
+      awake = record {
+        lawful = laws.memory_kept rules p room (J p) m call range from to valid awake.lawful is_call;
+        chair = good.chair;
+        links = good.links;
+      };
       grows = λ r e. laws.memory_grows rules p room (J p) m call r range from to valid awake.lawful is_call e;
       says = λ packet among.
           let e = said_is (outcome rules (told_of rules p (J p)) (known_of rules p (J p)) m call).reply packet among in
           let is_true = laws.said_true rules p room (J p) m call packet range from to valid awake.lawful is_call
-              (λ carries. sound.journals.checks p plays) e in
+          (λ carries. sound.journals.checks p plays) e in
           let whose : p ≡ packet.head.from = sym is_true.from in
           record {
             told = told_by_player rules J packet p plays whose is_true;
@@ -379,10 +390,10 @@ mode_sound : (laws : ArePeersLawful) (rules : Rules) (room : ℕ) (w : World) (p
 mode_sound laws rules room w p call on_disk states.Open range sound plays up is_call worldly =
     let o : Outcome = outcome rules (told_of rules p (journal_of w p)) (known_of rules p (journal_of w p)) (peer_of w p).memory call in
     let at : step rules p (peer_of w p) call on_disk ≡ done (peer_of w p) call o o.keeps on_disk =
-        ap (λ (mode : Mode). at_mode (peer_of w p) call o mode on_disk) up in
+    ap (λ (mode : Mode). at_mode (peer_of w p) call o mode on_disk) up in
     subst (λ (t : Stepped). Reaches rules room w (stepped w p t).world) (sym at)
     (done_sound rules room w p call o o.keeps on_disk range sound plays up
-        (call_owes laws rules room w p call range sound plays up is_call worldly) refl)
+    (call_owes laws rules room w p call range sound plays up is_call worldly) refl)
 mode_sound laws rules room w p call on_disk Down range sound plays up is_call worldly = stays_as rules room w sound
 mode_sound laws rules room w p call on_disk Away range sound plays up is_call worldly = stays_as rules room w sound
 
@@ -426,7 +437,7 @@ found_sound rules room w p true None range sound plays e =
     (record { pending = λ r is. absurd cc; awake = λ mode. absurd (mode refl) }) (λ packet among. absurd (no_item packet among))
 found_sound rules room w p true (Some r) range sound plays e =
     placed_more rules room w p (away (peer_of w p) (journal_of w p ++ r ∷ []) None) [] r range sound plays refl
-        ((sound.peers p plays).pending r e).1 refl
+    ((sound.peers p plays).pending r e).1 refl
     (λ journals grown mode. absurd (mode refl)) (λ packet among. absurd (no_item packet among))
 
 -- it sends nothing
@@ -443,7 +454,7 @@ crashed_sound : (rules : Rules) (room : ℕ) (w : World) (p : ℕ) (leaves : Boo
     → Reaches rules room w (crashed rules w p leaves)
 crashed_sound rules room w p leaves range sound =
     world_if (Reaches rules room w) (is_player rules p) _ _ (λ is. crash_sound rules room w p leaves range sound (plays_if rules p is))
-        (stays_as rules room w sound)
+    (stays_as rules room w sound)
 
 -- one event after another
 pub reaches_more : (rules : Rules) (room : ℕ) (w u v : World) → Reaches rules room w u → Reaches rules room u v → Reaches rules room w v
@@ -470,16 +481,16 @@ no_report L s n told =
           elim (cases_lt (s - 1) 4) [
             | inl inside ↦
                 let none : report_of no_reports L s ≡ None =
-                    ap (λ (xs : List (Option ℕ)). slice_index_or xs (s - 1) None) row ∙ get_or-replicate 4 (s - 1) None None inside in
+                ap (λ (xs : List (Option ℕ)). slice_index_or xs (s - 1) None) row ∙ get_or-replicate 4 (s - 1) None None inside in
                 cc (none, told)
             | inr past ↦
                 let none : report_of no_reports L s ≡ None =
-                    ap (λ (xs : List (Option ℕ)). slice_index_or xs (s - 1) None) row ∙ get_or_past empty (s - 1) None (omega (arith, past)) in
+                ap (λ (xs : List (Option ℕ)). slice_index_or xs (s - 1) None) row ∙ get_or_past empty (s - 1) None (omega (arith, past)) in
                 cc (none, told)
           ]
       | inr past ↦
           let none : report_of no_reports L s ≡ None =
-              ap (λ (xs : List (Option ℕ)). slice_index_or xs (s - 1) None) (get_or_past table (L - 1) [] (omega (arith, past))) in
+          ap (λ (xs : List (Option ℕ)). slice_index_or xs (s - 1) None) (get_or_past table (L - 1) [] (omega (arith, past))) in
           cc (none, told)
     ]
 
@@ -528,21 +539,24 @@ opened_sound laws rules room w p s journal Stands range few sound plays is settl
     let t : State = record { journal = journal ++ r ∷ []; pending = None; mode = states.Open; memory = fresh_memory rules room p n } in
     let allowed = may_open laws rules room w p journal range few sound plays is may.0 may.1 in
     placed_more rules room w p t [] r range sound plays (ap (λ (j : List Record). j ++ r ∷ []) (sym is))
-        (fits_opening rules room p (journal_of w) journal sound.journals plays allowed) refl
+    (fits_opening rules room p (journal_of w) journal sound.journals plays allowed) refl
     (λ journals grown mode.
     let here : journal_of (placed w p t []) p ≡ journal ++ r ∷ [] = journal_here rules w p t [] sound.nodes plays in
     fresh_awake rules room p (journal_of (placed w p t [])) (w.said ++ []) n
     (subst (λ (j : List Record). IsMemory rules room p j (fresh_memory rules room p n)) (sym here)
-        (laws.opening_memory rules p room journal range from to may.0 may.1)))
+    (laws.opening_memory rules p room journal range from to may.0 may.1)))
     (λ packet among. absurd (no_item packet among))
 opened_sound laws rules room w p s journal (NotWritten why) range few sound plays is settled gone may memory read =
     let r : Record = opening_record rules room p journal in
     let allowed = may_open laws rules room w p journal range few sound plays is may.0 may.1 in
     placed_same rules room w p (away s journal (Some r)) [] range sound plays (sym is)
     (record {
-      pending = λ t e. (λ mode. absurd cc, let same : r ≡ t = cc in
-          subst (λ (x : Record). Fits rules room (journal_of w) p x) same
-          (fits_opening rules room p (journal_of w) journal sound.journals plays allowed));
+      pending = λ t e. (
+        λ mode. absurd cc,
+        let same : r ≡ t = cc in
+            subst (λ (x : Record). Fits rules room (journal_of w) p x) same
+            (fits_opening rules room p (journal_of w) journal sound.journals plays allowed),
+      );
       awake = λ mode. absurd (mode refl);
     })
     (λ packet among. absurd (no_item packet among))
@@ -552,10 +566,10 @@ opened_sound laws rules room w p s journal NoMemory range few sound plays is set
 opened_sound laws rules room w p s journal (NotRead why) range few sound plays is settled gone may memory read = absurd (read why refl)
 opened_sound laws rules room w p s journal (Unfit error) range few sound plays is settled gone may memory read =
     placed_same rules room w p (away s journal None) [] range sound plays (sym is)
-        (record { pending = λ t e. absurd cc; awake = λ mode. absurd (mode refl) }) (λ packet among. absurd (no_item packet among))
+    (record { pending = λ t e. absurd cc; awake = λ mode. absurd (mode refl) }) (λ packet among. absurd (no_item packet among))
 opened_sound laws rules room w p s journal Spent range few sound plays is settled gone may memory read =
     placed_same rules room w p (away s journal None) [] range sound plays (sym is)
-        (record { pending = λ t e. absurd cc; awake = λ mode. absurd (mode refl) }) (λ packet among. absurd (no_item packet among))
+    (record { pending = λ t e. absurd cc; awake = λ mode. absurd (mode refl) }) (λ packet among. absurd (no_item packet among))
 
 -- an opening that read nothing
 unread_sound : (rules : Rules) (room : ℕ) (w : World) (p : ℕ) → AreInRange rules → IsSound rules room w → IsPlayer rules p
@@ -563,7 +577,7 @@ unread_sound : (rules : Rules) (room : ℕ) (w : World) (p : ℕ) → AreInRange
 unread_sound rules room w p range sound plays =
     placed_same rules room w p (away (peer_of w p) (journal_of w p) (peer_of w p).pending) [] range sound plays refl
     (record { pending = λ r e. (λ mode. absurd cc, ((sound.peers p plays).pending r e).1); awake = λ mode. absurd (mode refl) })
-        (λ packet among. absurd (no_item packet among))
+    (λ packet among. absurd (no_item packet among))
 
 -- an opening that settles what it found, in two steps: the peer gets the found journal, then it is opened
 settle_open : (laws : ArePeersLawful) (rules : Rules) (room : ℕ) (w : World) (p : ℕ) (finds : Bool) (outcome : Opening) → AreInRange rules
@@ -579,7 +593,7 @@ settle_open laws rules room w p finds outcome range few sound plays may memory r
     let here : peer_of u p ≡ t = peer_here rules w p t [] sound.nodes plays in
     let step : Stepped = opened rules room p s journal outcome in
     let two = opened_sound laws rules room u p s journal outcome range few one.sound plays (ap (λ (x : State). x.journal) here)
-        (ap (λ (x : State). x.pending) here) (ap (λ (x : State). x.mode) here) may memory read in
+    (ap (λ (x : State). x.pending) here) (ap (λ (x : State). x.mode) here) may memory read in
     subst (λ (v : World). Reaches rules room w v) (placed_twice w p t step.state (said_by step.reply))
     (reaches_more rules room w u (stepped u p step).world one two)
 
@@ -626,7 +640,7 @@ rows_with : (P : List Row → Type 0) (w : World) (watcher other : ℕ) (rows : 
     → P (rows_of (with_rows w watcher rows) other)
 rows_with P w watcher other rows new old =
     rows_if P (other == 5) _ _ (rows_if P (watcher == 5) _ _ new (old 5))
-        (rows_if P (other == 6) _ _ (rows_if P (watcher == 6) _ _ new (old 6)) (old 7))
+    (rows_if P (other == 6) _ _ (rows_if P (watcher == 6) _ _ new (old 6)) (old 7))
 
 -- no datagram is sent and no peer changes, but one watcher has other rows, the beginning of the confirmed ones
 watched_sound : (rules : Rules) (room : ℕ) (w : World) (watcher : ℕ) (rows : List Row) → IsSound rules room w
@@ -649,7 +663,7 @@ shown_stands rules J packet m is told =
     let q : ℕ = packet.head.from in
     let by = subst (λ (heard : Option ℕ). IsTold rules J packet heard) (ap seen_in is) told in
     let shown : IsTrueMessage rules q packet.head.to (J q) (packets.Show m) =
-        subst (λ (message : Message). IsTrueMessage rules q packet.head.to (J q) message) is by.1.message in
+    subst (λ (message : Message). IsTrueMessage rules q packet.head.to (J q) message) is by.1.message in
     subst (λ (p : ℕ). StandsIn m.start m.rows (confirmed_rows (known_of rules p (J p)))) shown.0 shown.1
 
 heard_sound : (rules : Rules) (room : ℕ) (w : World) (watcher number : ℕ) (o : Option Packet) → IsSound rules room w
@@ -657,9 +671,9 @@ heard_sound : (rules : Rules) (room : ℕ) (w : World) (watcher number : ℕ) (o
 heard_sound rules room w watcher number None sound e = stays_as rules room w sound
 heard_sound rules room w watcher number (Some packet) sound e =
     let shown : ShowsRowsOf (confirmed_rows (known_by rules w 1)) packet =
-        record { stand = λ m is. shown_stands rules (journal_of w) packet m is (sound.said packet (number, e)).told } in
+    record { stand = λ m is. shown_stands rules (journal_of w) packet m is (sound.said packet (number, e)).told } in
     watched_sound rules room w watcher _ sound
-        (truth_heard (confirmed_rows (known_by rules w 1)) (watch_of rules room w watcher) packet (sound.watched watcher) shown)
+    (truth_heard (confirmed_rows (known_by rules w 1)) (watch_of rules room w watcher) packet (sound.watched watcher) shown)
 
 only_said : (rules : Rules) (J : ℕ → List Record) (packet one : Packet) → IsSaid rules J packet → IsAmong (packet ∷ []) one → IsSaid rules J one
 only_said rules J packet one is (zero, e) = let same : packet ≡ one = cc in subst (λ (x : Packet). IsSaid rules J x) same is
@@ -710,7 +724,7 @@ pub acted_sound : (laws : ArePeersLawful) (rules : Rules) (room : ℕ) (w : Worl
 unfolding acted
 acted_sound laws rules room w (Open p) h range few sound may =
     if_player (λ (a : After). Reaches rules room w a.world) (is_player rules p) _ _
-        (λ is. mode_opens laws rules room w p h (peer_of w p).mode range few sound (plays_if rules p is) (may is)) (stays_as rules room w sound)
+    (λ is. mode_opens laws rules room w p h (peer_of w p).mode range few sound (plays_if rules p is) (may is)) (stays_as rules room w sound)
 acted_sound laws rules room w (Tick p keys) h range few sound may = call_sound laws rules room w p (states.Tick keys) h.on_disk range sound may tt
 acted_sound laws rules room w (Say p to what) h range few sound may = call_sound laws rules room w p (states.Say to what) h.on_disk range sound tt tt
 acted_sound laws rules room w (Give number p) h range few sound may =
@@ -758,7 +772,7 @@ peer_at_start rules p =
     elim (cases_lt (p - 1) rules.players) [
       | inl within ↦ get_or-replicate rules.players (p - 1) never_opened never_opened within
       | inr past ↦ get_or_past (replicate rules.players never_opened) (p - 1) never_opened
-      (omega (arith, past, length-replicate rules.players never_opened))
+          (omega (arith, past, length-replicate rules.players never_opened))
     ]
 
 journal_at_start : (rules : Rules) (p : ℕ) → journal_of (start rules) p ≡ []

@@ -67,7 +67,7 @@ pub record AreStandings (t : TableValue) (w : World) (standings : List Standing)
 abbrev pub AgreesWith : List Standing → ℕ → ℕ → Type 0
 AgreesWith standings i j =
     HasStayedAt standings i → HasStayedAt standings j → (one other : Standing) → slice_get standings i ≡ Some one
-        → slice_get standings j ≡ Some other → AreSameRows (known_at one) (known_at other)
+    → slice_get standings j ≡ Some other → AreSameRows (known_at one) (known_at other)
 
 abbrev pub AgreesWithAll : List Standing → ℕ → Type 0
 AgreesWithAll standings i = (j : ℕ) → j < length standings → AgreesWith standings i j

@@ -12,8 +12,8 @@ use Rattle.c8_spectator.specs.declared.error.WatchError.TheVariants as watches
 use Rattle.c8_refusals.specs.declared.error.Refused.TheVariants.{BadAck, Desync, Known}
 use Rattle.c8_peer.specs.TrueChecks.{HasTrueChecks}
 use Rattle.c8_world.specs.World.{World, journal_of, Open, Give, Hear, Do, Answer, Watched, CanHappen}
-use Rattle.c8_world.specs.Agreement.{IsPlayer, IsUndropped, Agree, AreEntered, IsBounded, AreReports, HasFrozen, IsAmong, IsTrueSaid,
-  HasTrueRows, AreLinked, refused_for, IsFit}
+use Rattle.c8_world.specs.Agreement.{IsPlayer, IsUndropped, Agree, AreEntered, IsBounded, AreReports, HasFrozen, IsAmong, IsTrueSaid}
+use Rattle.c8_world.specs.Agreement.{HasTrueRows, AreLinked, refused_for, IsFit}
 
 -- What holds for two moments.
 --

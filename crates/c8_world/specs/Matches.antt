@@ -22,8 +22,8 @@ use Rattle.c8_peer.specs.declared.heard.Heard.TheVariants.{Nothing, Kept, Out}
 use Rattle.c8_peer.specs.State.{Saying, Hello, Welcome, Data, Freeze, Frozen, Cut, Opened, Ticked, Delivered, Said, Left, Decided}
 use Rattle.c8_peer.specs.Steps.{DiskOutcome, Works, Refuses}
 use Rattle.c8_peer.specs.Opening.{Stands}
-use Rattle.c8_world.specs.World.{World, never_opened, start, journal_of, known_by, with_peer, Open, Tick, Say, Give, Leave, Decide, Event,
-  Do, Stop, Happening, Answer, Told, Stopped, CanHappen, Chain}
+use Rattle.c8_world.specs.World.{World, never_opened, start, journal_of, known_by, with_peer, Open, Tick, Say, Give, Leave, Decide, Event}
+use Rattle.c8_world.specs.World.{Do, Stop, Happening, Answer, Told, Stopped, CanHappen, Chain}
 use Rattle.c8_world.specs.Agreement.{AgreeUpTo, refused_for, not_opened_for}
 
 -- ---- lines
@@ -79,8 +79,15 @@ saying_of (packets.Seen ack) = Hello
 -- the datagram of a player in an epoch to another player, whose known epoch is given
 abbrev pub datagram : Rules → ℕ → ℕ → ℕ → ℕ → Message → Packet
 datagram rules from epoch to known message = record {
-  head = record { kind = kind_of message; version = rules.wire; session = session_of rules 0; from = from; to = to; sender_epoch = epoch;
-      addressee_epoch = known };
+  head = record {
+    kind = kind_of message;
+    version = rules.wire;
+    session = session_of rules 0;
+    from = from;
+    to = to;
+    sender_epoch = epoch;
+    addressee_epoch = known;
+  };
   message = message;
 }
 

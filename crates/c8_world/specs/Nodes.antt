@@ -42,7 +42,7 @@ abbrev pub IsCalled : Rules → ℕ → ℕ → State → Call → Option Reply 
 IsCalled rules room p s call None node = (s.mode ≢ Open) × IsNode rules room p node s
 IsCalled rules room p s call (Some reply) node =
     (s.mode ≡ Open) × ((step rules p s call (disk_outcome_of reply)).reply ≡ reply)
-        × IsNode rules room p node (step rules p s call (disk_outcome_of reply)).state
+    × IsNode rules room p node (step rules p s call (disk_outcome_of reply)).state
 
 abbrev pub counts_of : Rules → ℕ → State → Counts
 counts_of rules p s = record { now = ticks s.journal; confirmed = confirmed (known_of rules p s.journal) }

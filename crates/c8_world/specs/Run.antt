@@ -21,7 +21,7 @@ RunsBy P rules room w [] (answer ∷ answers) v = ⊥
 RunsBy P rules room w (event ∷ events) [] v = ⊥
 RunsBy P rules room w (event ∷ events) (answer ∷ answers) v =
     (told : Answer) × (u : World) × (can : CanHappen rules room w (event_of event) told u) × P can.happening
-        × (answer ≡ reported rules (player_of (act_inside (event_of event))) u told)
+    × (answer ≡ reported rules (player_of (act_inside (event_of event))) u told)
     × RunsBy P rules room u events answers v
 
 -- the same without a property

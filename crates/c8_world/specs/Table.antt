@@ -1,6 +1,6 @@
 -- What the nodes and the pool of a world hold, and what an event does to them.
-use Rattle.std.specs.Prelude.{◌≡◌, ◌≢◌, ◌⊎◌, ℕ, ◌-◌, ◌<◌, ◌^◌, ◌==◌, if◌then◌else◌, List, [], length, Bool, map, All, slice_index_or, true,
-  Option, Some, None, is_some, Ok, Err}
+use Rattle.std.specs.Prelude.{◌≡◌, ◌≢◌, ◌⊎◌, ℕ, ◌-◌, ◌<◌, ◌^◌, ◌==◌, if◌then◌else◌, List, [], length, Bool, map, All, slice_index_or, true}
+use Rattle.std.specs.Prelude.{Option, Some, None, is_some, Ok, Err}
 use Rattle.c8_game.specs.Rules.{Rules}
 use Rattle.c8_game.specs.declared.row.Row.{Row}
 use Rattle.c8_wire.specs.Spelling.{spelling}
@@ -12,8 +12,9 @@ use Rattle.c8_world.specs.declared.answer.Answer as codes
 use Rattle.c8_world.specs.declared.answer.Answer.TheVariants as answers
 use Rattle.c8_world.specs.declared.node.Node.{Node}
 use Rattle.c8_world.specs.declared.node.Node.TheVariants as nodes
-use Rattle.c8_world.specs.World.{World, never_opened, peer_of, with_peer, Act, Open, Tick, Say, Give, Leave, Decide, Check, Show, Hear,
-  Seen, Fresh, player_of, Event, Do, Happening, Answer, Told, IsUp, IsDown, NoSuch, Stopped, Watched, Spoken, Anew, crashed, CanHappen, IsReached}
+use Rattle.c8_world.specs.World.{World, never_opened, peer_of, with_peer, Act, Open, Tick, Say, Give, Leave, Decide, Check, Show, Hear}
+use Rattle.c8_world.specs.World.{Seen, Fresh, player_of, Event, Do, Happening, Answer, Told, IsUp, IsDown, NoSuch, Stopped, Watched, Spoken}
+use Rattle.c8_world.specs.World.{Anew, crashed, CanHappen, IsReached}
 use Rattle.c8_world.specs.World.{act_inside}
 use Rattle.c8_world.specs.Agreement.{IsPlayer}
 use Rattle.c8_world.specs.Nodes.{IsNode, IsOpenedNode, counts_of}
@@ -148,7 +149,7 @@ pub record HasHappened (old : TableValue) (w : World) (event : Event) (answer : 
 abbrev pub IsLeftBy : Act → World → World → Type 0
 IsLeftBy act w v =
     (v ≡ w) ⊎ ((p : ℕ) × (act ≡ Open p) × ((peer_of w p).mode ≡ Down)
-        × (v ≡ with_peer w p (away (peer_of w p) (peer_of w p).journal (peer_of w p).pending)))
+    × (v ≡ with_peer w p (away (peer_of w p) (peer_of w p).journal (peer_of w p).pending)))
 
 -- only openings and sending take memory
 abbrev pub TakesMemory : Act → Type 0

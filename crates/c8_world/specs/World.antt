@@ -1,6 +1,6 @@
 -- All peers of one match, everything that they ever sent, and what one event does to them.
-use Rattle.std.specs.Prelude.{◌≡◌, ℕ, ◌^◌, ◌-◌, ◌<◌, ◌==◌, ◌&&◌, List, [], ◌∷◌, ◌++◌, replicate, slice_index_or, slice_set, nat_le, Bool,
-  true, false, Option, Some, None, Result, Ok, Err, if◌then◌else◌}
+use Rattle.std.specs.Prelude.{◌≡◌, ℕ, ◌^◌, ◌-◌, ◌<◌, ◌==◌, ◌&&◌, List, [], ◌∷◌, ◌++◌, replicate, slice_index_or, slice_set, nat_le, Bool}
+use Rattle.std.specs.Prelude.{true, false, Option, Some, None, Result, Ok, Err, if◌then◌else◌}
 use Rattle.std.specs.List.{slice_get}
 use Rattle.c8_game.specs.Rules.{Rules}
 use Rattle.c8_game.specs.declared.row.Row.{Row}
@@ -38,8 +38,17 @@ never_opened = record {
   pending = None;
   mode = Away;
   memory = record {
-    links = record { me = 0; players = 0; version = versions.One; session = 0; epoch = 0; one = no_link; two = no_link; three = no_link;
-        four = no_link };
+    links = record {
+      me = 0;
+      players = 0;
+      version = versions.One;
+      session = 0;
+      epoch = 0;
+      one = no_link;
+      two = no_link;
+      three = no_link;
+      four = no_link;
+    };
     acks = first_window 0;
     chair = no_reports;
     stayer = no_haves;
@@ -180,7 +189,7 @@ open_at_mode rules room w p h Away = stepped w p (opened rules room p (peer_of w
 abbrev pub open_at : Rules → ℕ → World → ℕ → Happening → After
 open_at rules room w p h =
     if is_player rules p then open_at_mode rules room w p h (peer_of w p).mode else
-        record { answer = Told (Opened (Err opens.WrongPlayer)); world = w }
+    record { answer = Told (Opened (Err opens.WrongPlayer)); world = w }
 
 abbrev pub give_to : Rules → World → ℕ → DiskOutcome → Option Packet → After
 give_to rules w p on_disk None = record { answer = NoSuch; world = w }
@@ -207,8 +216,10 @@ acted rules room w (Decide leaver) h = call_at rules w 1 (calls.Decide leaver) h
 acted rules room w (Check p) h = call_at rules w p calls.Checkpoint h.on_disk
 acted rules room w (Show watcher) h = call_at rules w 1 (calls.Show watcher) h.on_disk
 acted rules room w (Hear number watcher) h = hear_at rules room w watcher (slice_get w.said number)
-acted rules room w (Seen watcher) h = record { answer = Spoken (seen_by_watcher rules room w watcher);
-    world = record w { said = w.said ++ seen_by_watcher rules room w watcher ∷ [] } }
+acted rules room w (Seen watcher) h = record {
+  answer = Spoken (seen_by_watcher rules room w watcher);
+  world = record w { said = w.said ++ seen_by_watcher rules room w watcher ∷ [] };
+}
 acted rules room w (Fresh watcher) h = record { answer = Anew; world = with_rows w watcher [] }
 
 -- a crash makes a peer away, with the journal that a read of its disk finds

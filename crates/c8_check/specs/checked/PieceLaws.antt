@@ -1,12 +1,12 @@
 -- Checked, not believed: the pieces of a checkpoint, and the whole of them.
-use Rattle.std.proofs.Common.{◌≡◌, inl, inr, ℕ, zero, suc, ◌+◌, ◌-◌, ◌*◌, ◌%◌, ◌^◌, ◌<◌, ◌≤◌, List, [], ◌∷◌, ◌++◌, length, map, take, drop,
-  true, Option, Some, None, refl, sym, ap, ◌∙◌, arith, length-append}
+use Rattle.std.proofs.Common.{◌≡◌, inl, inr, ℕ, zero, suc, ◌+◌, ◌-◌, ◌*◌, ◌%◌, ◌^◌, ◌<◌, ◌≤◌, List, [], ◌∷◌, ◌++◌, length, map, take, drop}
+use Rattle.std.proofs.Common.{true, Option, Some, None, refl, sym, ap, ◌∙◌, arith, length-append}
 use Rattle.std.specs.Prelude.{replicate, slice_index, IfSome}
 use Rattle.std.specs.List.{slice_get, flat_map, range_with_len}
 use Rattle.std.specs.Int.{to_be_bytes, w16, w64}
 use Rattle.std.proofs.lemmas.Bool.{cases_lt, cases_eq, le-leb, lt-leb, eq-eqb, ne_eqb}
-use Rattle.std.proofs.lemmas.List.{length-take-le, length-drop, length-replicate, take-take, drop-take, take-append-le, drop-append-le,
-  take-append-drop, take_all, get_or-take, get_or-drop}
+use Rattle.std.proofs.lemmas.List.{length-take-le, length-drop, length-replicate, take-take, drop-take, take-append-le, drop-append-le}
+use Rattle.std.proofs.lemmas.List.{take-append-drop, take_all, get_or-take, get_or-drop}
 use Rattle.std.proofs.Math.Seq.{drop-append_seam}
 use Rattle.sha2.specs.Sha256.{sha256}
 use Rattle.c8_machine.specs.declared.machine.Stop.{Stop}
@@ -22,8 +22,8 @@ use Rattle.c8_digest.proofs.LengthLemmas.{state_long}
 use Rattle.c8_digest.proofs.ReadLemmas.{state_again}
 use Rattle.c8_digest.proofs.MarkBytesLemmas.{read_again, zeros_again}
 use Rattle.c8_wire.specs.Packet.{AreBytes}
-use Rattle.c8_check.specs.Checks.{save_bytes, save_length, all_pieces, before_piece, piece_length, piece_in, digest_of, Pieces, ChecksValue,
-  origin_in, ends_well, has_shape, MayCheck}
+use Rattle.c8_check.specs.Checks.{save_bytes, save_length, all_pieces, before_piece, piece_length, piece_in, digest_of, Pieces, ChecksValue}
+use Rattle.c8_check.specs.Checks.{origin_in, ends_well, has_shape, MayCheck}
 
 -- ---- where the pieces are
 
@@ -33,7 +33,7 @@ unfolding before_piece piece_length
 piece_ends piece within = elim (cases_lt piece 34) [
   | inl early ↦
       rw (le-leb piece 34 (omega (arith, early)))
-          (rw (le-leb (piece + 1) 34 (omega (arith, early))) (rw (ne_eqb piece 34 (λ same. omega (arith, early, same))) (omega arith)))
+      (rw (le-leb (piece + 1) 34 (omega (arith, early))) (rw (ne_eqb piece 34 (λ same. omega (arith, early, same))) (omega arith)))
   | inr late ↦ elim (cases_eq piece 34) [
     | inl last ↦ rw last refl
     | inr marks ↦ let is : piece ≡ 35 = omega (arith, within, late, marks) in rw is refl
@@ -118,7 +118,7 @@ eight_low : (n : ℕ) → AreLow (to_be_bytes w64 n)
 eight_low n =
     more_low (omega arith)
     (more_low (omega arith) (more_low (omega arith)
-        (more_low (omega arith) (more_low (omega arith) (more_low (omega arith) (more_low (omega arith) (more_low (omega arith) none_low)))))))
+    (more_low (omega arith) (more_low (omega arith) (more_low (omega arith) (more_low (omega arith) (more_low (omega arith) none_low)))))))
 
 memory_low : (f : ℕ → ℕ) (from n : ℕ) → ((at : ℕ) → f at < 2 ^ 8) → AreLow (map f (range_with_len from n))
 memory_low f from zero low = none_low
@@ -208,8 +208,8 @@ saved from is =
     let size = state_long from.machine is.machine_is in
     let front_long : length front ≡ 4420 = omega (arith, length-append machine one, size) in
     let ends : drop 4419 (front ++ marks) ≡ one ++ marks =
-        drop-append-le 4419 front marks (omega (arith, front_long)) ∙ ap (λ (n : ℕ). drop n front ++ marks) (sym size)
-        ∙ ap (λ (rest : List ℕ). rest ++ marks) (drop-append_seam machine one) in
+    drop-append-le 4419 front marks (omega (arith, front_long)) ∙ ap (λ (n : ℕ). drop n front ++ marks) (sym size)
+    ∙ ap (λ (rest : List ℕ). rest ++ marks) (drop-append_seam machine one) in
     record {
       long = omega (arith, length-append front marks, front_long, (marks_room from.frames from.marks is.marks_are).long);
       machine = take-append-le 4419 front marks (omega (arith, front_long)) ∙ take-append-le 4419 machine one (omega (arith, size))
@@ -252,7 +252,7 @@ last_ends : (from : Origin) → IsOrigin from → slice_index (piece_in 34 (save
 last_ends from is =
     let bytes : List ℕ = save_bytes from in
     ap (λ (n : ℕ). slice_index (take n (drop (before_piece 34) bytes)) 67) length_last
-        ∙ ap (λ (n : ℕ). slice_index (take 68 (drop n bytes)) 67) before_last
+    ∙ ap (λ (n : ℕ). slice_index (take 68 (drop n bytes)) 67) before_last
     ∙ get_or-take 68 (drop 4352 bytes) 67 0 (omega arith) ∙ get_or-drop 4352 bytes 67 0 ∙ (saved from is).zero_byte
 
 marks_piece : (from : Origin) → IsOrigin from → piece_in 35 (save_bytes from) ≡ marks_bytes from.marks
@@ -292,10 +292,10 @@ whole_origin from p is same all so_far =
     let whole = whole_bytes from p is all so_far in
     let save = saved from is in
     let machine : state_in (take 4419 p.bytes) ≡ from.machine =
-        ap state_in (ap (take 4419) whole ∙ save.machine) ∙ state_again from.machine is.machine_is in
+    ap state_in (ap (take 4419) whole ∙ save.machine) ∙ state_again from.machine is.machine_is in
     let marks : marks_in p.frames (drop 4420 p.bytes) ≡ from.marks =
     ap (λ (n : ℕ). marks_in n (drop 4420 p.bytes)) same ∙ ap (marks_in from.frames) (ap (drop 4420) whole ∙ save.marks)
-        ∙ read_again from.frames from.marks is.marks_are in
+    ∙ read_again from.frames from.marks is.marks_are in
     λ i. Some (record { frames = same i; machine = machine i; marks = marks i })
 
 -- and their digest is allowed

@@ -50,7 +50,7 @@ marks_read frames bytes long low =
       each = λ k m there.
           let within : k < marks_after frames = omega (arith, many, slice_get_within (map one (range_with_len 0 (marks_after frames))) k m there) in
           let is : one k ≡ m = sym (get_or-map-range_with_len one 0 (marks_after frames) k k m within (omega arith))
-              ∙ get_or_from_slice_get (map one (range_with_len 0 (marks_after frames))) k m m there in
+          ∙ get_or_from_slice_get (map one (range_with_len 0 (marks_after frames))) k m m there in
           subst (IsMarkAt (32 * (forgotten_after frames + k))) is (record {
             frame_is = refl;
             long = omega (arith, length-take 8 (drop (8 * k) bytes), length-drop (8 * k) bytes, long, within);

@@ -30,7 +30,7 @@ pub memory_first : (s : State) → state_bytes s ≡ map s.memory (range_with_le
 unfolding state_bytes
 memory_first s =
     all_after (map s.memory (range_with_len 0 memory_size)) s.registers (to_be_bytes w16 s.address) (to_be_bytes w16 s.counter)
-        (length s.stack ∷ []) (flat_map (to_be_bytes w16) (places s.stack)) (screen_bytes s.screen) (rest_bytes s)
+    (length s.stack ∷ []) (flat_map (to_be_bytes w16) (places s.stack)) (screen_bytes s.screen) (rest_bytes s)
 
 pub holds_prop : (hasher : Sha256) (message : List ℕ) → IsProp (Holds256 hasher message)
 unfolding Holds

@@ -57,8 +57,11 @@ module _ {D : Type 0} (g : Ghosts D) where
   pub asks_read : (old new : D) (at count : ℕ) (told answer : Answer) → told ≡ answer → g.does old (Reading at count told) new
       → Asks g (Reads 1) answer old new
   asks_read old new at count told answer same does =
-      record { calls = Reading at count told ∷ []; led = (new, does, refl);
-      is = subst (λ (a : Answer). Reads 1 (Reading at count told ∷ []) a) same (one_read at count told) }
+      record {
+        calls = Reading at count told ∷ [];
+        led = (new, does, refl);
+        is = subst (λ (a : Answer). Reads 1 (Reading at count told ∷ []) a) same (one_read at count told);
+      }
 
   pub asks_reads : (old mid new : D) (some more : ℕ) (answer : Answer) → Asks g (Reads some) (Ok tt) old mid
       → Asks g (Reads more) answer mid new → Asks g (Reads (some + more)) answer old new

@@ -1,14 +1,15 @@
 -- Checked, not believed: the images are exactly those that `AtOnce.antt` gives.
-use Rattle.std.proofs.Common.{◌≡◌, inl, inr, ◌≤◌, ◌<◌, ℕ, suc, ◌+◌, ◌-◌, min, max, nat_le, nat_lt, ◌&&◌, ◌||◌, Bool, true, false, List, [],
-  ◌∷◌, ◌++◌, length, take, drop, get_or, slice_index, refl, sym, ◌∙◌, ap, subst, arith, take-append-drop, length-take, length-take-le, length-drop}
-use Rattle.std.proofs.lemmas.Bool.{cases_Bool, cases_lt, cond-true, cond-false, leb-true, ltb-true, ltb-false, or_parts, and_from,
-  and_parts, le-leb, lt-ltb, true≢false}
+use Rattle.std.proofs.Common.{◌≡◌, inl, inr, ◌≤◌, ◌<◌, ℕ, suc, ◌+◌, ◌-◌, min, max, nat_le, nat_lt, ◌&&◌, ◌||◌, Bool, true, false, List, []}
+use Rattle.std.proofs.Common.{◌∷◌, ◌++◌, length, take, drop, get_or, slice_index, refl, sym, ◌∙◌, ap, subst, arith, take-append-drop}
+use Rattle.std.proofs.Common.{length-take, length-take-le, length-drop}
+use Rattle.std.proofs.lemmas.Bool.{cases_Bool, cases_lt, cond-true, cond-false, leb-true, ltb-true, ltb-false, or_parts, and_from}
+use Rattle.std.proofs.lemmas.Bool.{and_parts, le-leb, lt-ltb, true≢false}
 use Rattle.std.proofs.lemmas.List.{get_or-take, get_or-drop, get_or_append_left, ext_get_or}
 use Rattle.c8_disk.specs.Disk.{overwritten, Torn}
 use Rattle.c8_disk.specs.Past.{content, Leaves, IsImage, synced, synced_count, are_lawful}
 use Rattle.c8_disk.specs.AtOnce.{is_in_range, is_touched, IsBetweenSyncs}
-use Rattle.c8_disk.specs.checked.PastLaws.{reads, content-append, split_leaves, join_leaves, lawful_front, lawful_back, none_synced,
-  none_behind, image_within}
+use Rattle.c8_disk.specs.checked.PastLaws.{reads, content-append, split_leaves, join_leaves, lawful_front, lawful_back, none_synced}
+use Rattle.c8_disk.specs.checked.PastLaws.{none_behind, image_within}
 use Rattle.c8_disk.specs.checked.TornLaws.{overwritten_is, length-overwritten, torn_wider, untouched}
 use Rattle.c8_disk.specs.declared.call.Call.{Call}
 use Rattle.c8_disk.specs.declared.call.Call.TheVariants.{Write, Sync}
@@ -24,7 +25,7 @@ outside at count old new i torn out = elim (cases_lt i at) [
         let here : i ≡ at + count + (i - (at + count)) = omega arith in
         let there : at + count + (i - (at + count)) ≡ i = sym here in
         ap (λ (j : ℕ). get_or new j 0) here ∙ sym (get_or-drop (at + count) new k 0) ∙ ap (λ (l : List ℕ). get_or l k 0) torn.after
-            ∙ get_or-drop (at + count) old k 0
+        ∙ get_or-drop (at + count) old k 0
         ∙ ap (λ (j : ℕ). get_or old j 0) there
   ]
 ]
@@ -50,18 +51,20 @@ agrees : (base bytes : List ℕ) (touched : ℕ → Bool) (images : List ℕ →
     → ((l : List ℕ) → images l → Agrees base touched l) → Leaves images bytes calls image
     → Agrees base (λ i. touched i || is_touched calls i) image
 agrees base bytes touched images [] image none so left =
-    let here = so image left in record { no_shorter = here.no_shorter;
-        same = λ i lt untouched. here.same i lt (or_parts (touched i) false untouched).0 }
+    let here = so image left in record {
+      no_shorter = here.no_shorter;
+      same = λ i lt untouched. here.same i lt (or_parts (touched i) false untouched).0;
+    }
 agrees base bytes touched images (Write at count written ∷ calls) image none so left =
     let rest = agrees base (overwritten bytes at (take count written)) (λ i. touched i || is_in_range at count i) _ calls image none
-        (λ l torn. one_write base touched at count torn.0 l (so torn.0 torn.1) torn.2) left in
+    (λ l torn. one_write base touched at count torn.0 l (so torn.0 torn.1) torn.2) left in
     record {
       no_shorter = rest.no_shorter;
       same = λ i lt untouched.
           let outer = or_parts (touched i) (is_in_range at count i || is_touched calls i) untouched in
           let inner = or_parts (is_in_range at count i) (is_touched calls i) outer.1 in
           rest.same i lt (both_false (touched i || is_in_range at count i) (is_touched calls i)
-              (both_false (touched i) (is_in_range at count i) outer.0 inner.0) inner.1);
+          (both_false (touched i) (is_in_range at count i) outer.0 inner.0) inner.1);
     }
 agrees base bytes touched images (Sync ∷ calls) image none so left = absurd none
 
@@ -74,7 +77,7 @@ after_sync images bytes (Write at count written ∷ calls) image some left = eli
       let is = cond-true (nat_lt 0 (synced_count calls)) (suc (synced_count calls)) 0 more in
       let rest = subst (λ (k : ℕ). Leaves images bytes (take k (Write at count written ∷ calls)) image) is left in
       subst (λ (k : ℕ). image ≡ content bytes (take k (Write at count written ∷ calls))) (sym is)
-          (after_sync _ (overwritten bytes at (take count written)) calls image (ltb-true _ _ more) rest)
+      (after_sync _ (overwritten bytes at (take count written)) calls image (ltb-true _ _ more) rest)
   | inr nothing ↦ absurd (let is = cond-false (nat_lt 0 (synced_count calls)) (suc (synced_count calls)) 0 nothing in omega (arith, is, some))
 ]
 after_sync images bytes (Sync ∷ calls) image some left = elim (cases_Bool (nat_lt 0 (synced_count calls))) [
@@ -104,9 +107,11 @@ between first calls image lawful left =
     let parts : front ++ back ≡ calls = take-append-drop (synced_count calls) calls in
     let split = split_leaves (λ l. l ≡ first) first front back image (subst (λ (l : List Call). IsImage first l image) (sym parts) left) in
     let here = agrees (synced first calls) (content first front) (λ i. false) (Leaves (λ l. l ≡ first) first front) back image
-        (none_behind calls) (λ l old.
-    let is = at_sync first calls l old in record { no_shorter = omega (arith, ap length is);
-        same = λ i lt none. ap (λ (b : List ℕ). slice_index b i) is }) split in
+    (none_behind calls) (λ l old.
+    let is = at_sync first calls l old in record {
+      no_shorter = omega (arith, ap length is);
+      same = λ i lt none. ap (λ (b : List ℕ). slice_index b i) is;
+    }) split in
     record { no_shorter = here.no_shorter; no_longer = image_within first calls image lawful left; same = here.same }
 
 -- The other direction: from what was last synced, each write is torn so that its range becomes the image's.
@@ -150,7 +155,7 @@ image_torn image bytes new base touched at count begins grown within so =
     let next = overwritten base at there in
     let made = overwritten_is base at there within in
     let size : length there ≡ min count (length image - at) =
-        length-take count (drop at image) ∙ ap (λ (n : ℕ). min count n) (length-drop at image) in
+    length-take count (drop at image) ∙ ap (λ (n : ℕ). min count n) (length-drop at image) in
     let few : length there ≤ count = omega (arith, size) in
     let torn = torn_wider at (length there) count base next few made.torn in
     let long : length next ≡ min (length image) (length new) = omega (arith, made.size, size, so.size, grown, begins, within) in
@@ -202,7 +207,7 @@ torn_to_image images bytes (Write at count written ∷ calls) image base none la
     let begins = leb-true at (length bytes) places.0 in
     let size : length (take count written) ≡ count = length-take-le count written (leb-true _ _ places.1) in
     let grown : length new ≡ max (length bytes) (at + count) =
-        length-overwritten bytes at (take count written) begins ∙ ap (λ (n : ℕ). max (length bytes) (at + n)) size in
+    length-overwritten bytes at (take count written) begins ∙ ap (λ (n : ℕ). max (length bytes) (at + n)) size in
     let torn = one_torn image bytes new base (is_touched calls) at count begins grown so in
     torn_to_image _ new calls image torn.next none parts.1 within (base, here, torn.torn) torn.is
 torn_to_image images bytes (Sync ∷ calls) image base none lawful within here so = absurd none
@@ -219,6 +224,6 @@ each_between first calls image lawful so =
     let grown : content base back ≡ content first calls = sym (content-append first front back) ∙ ap (content first) parts in
     let within : length image ≤ length (content base back) = omega (arith, so.no_longer, ap length grown) in
     let left = torn_to_image (Leaves (λ l. l ≡ first) first front) base back image base (none_behind calls)
-        (lawful_back first front back whole) within here
+    (lawful_back first front back whole) within here
     (record { size = omega (arith, so.no_shorter); same = so.same }) in
     subst (λ (l : List Call). IsImage first l image) parts (join_leaves (λ l. l ≡ first) first front back image left)

@@ -1,6 +1,6 @@
 -- Checked, not believed: the laws of the trait, for a disk that keeps what it held at first and each call.
-use Rattle.std.proofs.Common.{◌≡◌, inl, inr, ◌≤◌, nat_le, nat_lt, ◌&&◌, ℕ, suc, true, List, [], ◌∷◌, ◌++◌, length, take, drop, refl, sym,
-  ◌∙◌, ap, subst, arith, length-take-le}
+use Rattle.std.proofs.Common.{◌≡◌, inl, inr, ◌≤◌, nat_le, nat_lt, ◌&&◌, ℕ, suc, true, List, [], ◌∷◌, ◌++◌, length, take, drop, refl, sym}
+use Rattle.std.proofs.Common.{◌∙◌, ap, subst, arith, length-take-le}
 use Rattle.std.proofs.lemmas.Bool.{cases_Bool, and_parts, and_from, leb-true, ltb-false, cond-true, cond-false}
 use Rattle.std.proofs.lemmas.List.{take_all}
 use Rattle.c8_disk.specs.Disk.{overwritten, Torn}
@@ -15,12 +15,12 @@ pub reads : (images : List ℕ → Type 0) (bytes : List ℕ) (calls : List Call
 reads images bytes [] lawful here = here
 reads images bytes (Write at count written ∷ calls) lawful here =
     let parts = and_parts (nat_le at (length bytes) && nat_le count (length written))
-        (are_lawful (overwritten bytes at (take count written)) calls) lawful in
+    (are_lawful (overwritten bytes at (take count written)) calls) lawful in
     let places = and_parts (nat_le at (length bytes)) (nat_le count (length written)) parts.0 in
     let size : length (take count written) ≡ count = length-take-le count written (leb-true _ _ places.1) in
     let torn = overwritten_is_torn bytes at (take count written) (leb-true _ _ places.0) in
     reads _ (overwritten bytes at (take count written)) calls parts.1
-        (bytes, here, subst (λ (n : ℕ). Torn at n bytes (overwritten bytes at (take count written))) size torn)
+    (bytes, here, subst (λ (n : ℕ). Torn at n bytes (overwritten bytes at (take count written))) size torn)
 reads images bytes (Sync ∷ calls) lawful here = reads _ bytes calls lawful refl
 
 pub reads_image : (first : List ℕ) (calls : List Call) (bytes : List ℕ) → are_lawful first calls ≡ true → bytes ≡ content first calls
@@ -59,7 +59,7 @@ pub lawful_back : (bytes : List ℕ) (xs ys : List Call) → are_lawful bytes (x
 lawful_back bytes [] ys lawful = lawful
 lawful_back bytes (Write at count written ∷ xs) ys lawful =
     let parts = and_parts (nat_le at (length bytes) && nat_le count (length written))
-        (are_lawful (overwritten bytes at (take count written)) (xs ++ ys)) lawful in
+    (are_lawful (overwritten bytes at (take count written)) (xs ++ ys)) lawful in
     lawful_back (overwritten bytes at (take count written)) xs ys parts.1
 lawful_back bytes (Sync ∷ xs) ys lawful = lawful_back bytes xs ys lawful
 
@@ -67,7 +67,7 @@ pub lawful_front : (bytes : List ℕ) (xs ys : List Call) → are_lawful bytes (
 lawful_front bytes [] ys lawful = refl
 lawful_front bytes (Write at count written ∷ xs) ys lawful =
     let parts = and_parts (nat_le at (length bytes) && nat_le count (length written))
-        (are_lawful (overwritten bytes at (take count written)) (xs ++ ys)) lawful in
+    (are_lawful (overwritten bytes at (take count written)) (xs ++ ys)) lawful in
     and_from _ _ parts.0 (lawful_front (overwritten bytes at (take count written)) xs ys parts.1)
 lawful_front bytes (Sync ∷ xs) ys lawful = lawful_front bytes xs ys lawful
 
@@ -81,7 +81,7 @@ none_from_count : (calls : List Call) → synced_count calls ≡ 0 → none_sync
 none_from_count [] none = tt
 none_from_count (Write at count written ∷ calls) none = elim (cases_Bool (nat_lt 0 (synced_count calls))) [
   | inl some ↦ absurd (let is : suc (synced_count calls) ≡ 0 =
-  sym (cond-true (nat_lt 0 (synced_count calls)) (suc (synced_count calls)) 0 some) ∙ none in omega arith)
+      sym (cond-true (nat_lt 0 (synced_count calls)) (suc (synced_count calls)) 0 some) ∙ none in omega arith)
   | inr nothing ↦ none_from_count calls (let le : synced_count calls ≤ 0 = ltb-false _ _ nothing in omega arith)
 ]
 none_from_count (Sync ∷ calls) none = absurd (omega arith)
@@ -105,12 +105,12 @@ leaves_within : (images : List ℕ → Type 0) (bytes : List ℕ) (calls : List 
 leaves_within images bytes [] image lawful within left = within image left
 leaves_within images bytes (Write at count written ∷ calls) image lawful within left =
     let parts = and_parts (nat_le at (length bytes) && nat_le count (length written))
-        (are_lawful (overwritten bytes at (take count written)) calls) lawful in
+    (are_lawful (overwritten bytes at (take count written)) calls) lawful in
     let places = and_parts (nat_le at (length bytes)) (nat_le count (length written)) parts.0 in
     let size : length (take count written) ≡ count = length-take-le count written (leb-true _ _ places.1) in
     let grown = length-overwritten bytes at (take count written) (leb-true _ _ places.0) in
     leaves_within _ (overwritten bytes at (take count written)) calls image parts.1
-        (λ l torn. let less = within torn.0 torn.1 in let longest = torn.2.no_longer in omega (arith, less, longest, grown, size)) left
+    (λ l torn. let less = within torn.0 torn.1 in let longest = torn.2.no_longer in omega (arith, less, longest, grown, size)) left
 leaves_within images bytes (Sync ∷ calls) image lawful within left =
     leaves_within _ bytes calls image lawful (λ l is. let same = ap length is in omega (arith, same)) left
 

@@ -1,6 +1,6 @@
 -- Checked, not believed: what a write leaves, whole or torn.
-use Rattle.std.proofs.Common.{◌≡◌, ◌≤◌, ℕ, ◌+◌, ◌-◌, max, List, ◌++◌, length, take, drop, refl, sym, ◌∙◌, ap, arith, append_assoc,
-  length-append, length-take-le, length-drop}
+use Rattle.std.proofs.Common.{◌≡◌, ◌≤◌, ℕ, ◌+◌, ◌-◌, max, List, ◌++◌, length, take, drop, refl, sym, ◌∙◌, ap, arith, append_assoc}
+use Rattle.std.proofs.Common.{length-append, length-take-le, length-drop}
 use Rattle.std.proofs.lemmas.List.{take_at, drop_at, drop-drop}
 use Rattle.c8_disk.specs.Disk.{overwritten, Torn, IsOverwritten}
 
@@ -36,8 +36,12 @@ module _ (old : List ℕ) (at : ℕ) (bytes : List ℕ) (within : at ≤ length 
 
   -- a whole write counts as a torn one
   pub overwritten_is_torn : Torn at (length bytes) old (overwritten old at bytes)
-  overwritten_is_torn = record { before = overwritten_front; after = overwritten_back; no_shorter = omega (arith, length-overwritten);
-      no_longer = omega (arith, length-overwritten) }
+  overwritten_is_torn = record {
+    before = overwritten_front;
+    after = overwritten_back;
+    no_shorter = omega (arith, length-overwritten);
+    no_longer = omega (arith, length-overwritten);
+  }
 
   pub overwritten_is : IsOverwritten at bytes old (overwritten old at bytes)
   overwritten_is = record { before = overwritten_front; here = overwritten_rest; size = length-overwritten; torn = overwritten_is_torn }

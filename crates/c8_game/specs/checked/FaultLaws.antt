@@ -1,6 +1,6 @@
 -- Checked, not believed: how the first fault is found line by line, and that there is at most one.
-use Rattle.std.proofs.Common.{◌≡◌, ℕ, zero, suc, ◌<◌, ◌≤◌, ◌⊎◌, List, [], ◌∷◌, ◌++◌, length, Option, Some, None, refl, sym, ap, ◌∙◌, inl,
-  inr, append_assoc, length-append, arith}
+use Rattle.std.proofs.Common.{◌≡◌, ℕ, zero, suc, ◌<◌, ◌≤◌, ◌⊎◌, List, [], ◌∷◌, ◌++◌, length, Option, Some, None, refl, sym, ap, ◌∙◌, inl}
+use Rattle.std.proofs.Common.{inr, append_assoc, length-append, arith}
 use Rattle.std.specs.List.{slice_get}
 use Rattle.std.proofs.lemmas.Bool.{cases_lt}
 use Rattle.std.proofs.lemmas.List.{append-nil, take-append-le}
@@ -75,12 +75,12 @@ module _ {E : Type 0} (judge : List (List ℕ) → List ℕ → Option E) where
   one_first text_lines one other first second =
       elim (cases_lt first.place second.place) [
         | inl before ↦ let none : fault_at judge text_lines first.place ≡ None = second.least first.place before in
-        let some : fault_at judge text_lines first.place ≡ Some one = first.here in absurd (cc)
+            let some : fault_at judge text_lines first.place ≡ Some one = first.here in absurd (cc)
         | inr after ↦ elim (cases_lt second.place first.place) [
           | inl before ↦ let none : fault_at judge text_lines second.place ≡ None = first.least second.place before in
-          let some : fault_at judge text_lines second.place ≡ Some other = second.here in absurd (cc)
+              let some : fault_at judge text_lines second.place ≡ Some other = second.here in absurd (cc)
           | inr here ↦ let same : first.place ≡ second.place = omega arith in
-          let some : Some one ≡ Some other = sym first.here ∙ ap (fault_at judge text_lines) same ∙ second.here in cc
+              let some : Some one ≡ Some other = sym first.here ∙ ap (fault_at judge text_lines) same ∙ second.here in cc
         ]
       ]
 
@@ -91,7 +91,7 @@ module _ {E : Type 0} (judge : List (List ℕ) → List ℕ → Option E) where
   found_after before (line ∷ after) faultless =
       elim (none_or_some (judge before line)) [
         | inl fine ↦ rw (← append_assoc before (line ∷ []) after)
-        (found_after (before ++ line ∷ []) after (faultless_more before line faultless fine))
+            (found_after (before ++ line ∷ []) after (faultless_more before line faultless fine))
         | inr bad ↦ inr (bad.0, first_found before line after bad.0 faultless bad.1)
       ]
 

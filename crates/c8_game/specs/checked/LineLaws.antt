@@ -13,5 +13,9 @@ of_parts (part ∷ next ∷ more) = omega (arith, of_parts (next ∷ more))
 
 -- at most one more than it has bytes
 pub few_lines : (text : List ℕ) → length (lines text) ≤ length text + 1
-few_lines text = omega (arith, of_parts (slice_split (λ b. b == 10) text), length-slice_split (λ b. b == 10) text,
-    count_by-le-length (λ b. b == 10) text)
+few_lines text = omega (
+  arith,
+  of_parts (slice_split (λ b. b == 10) text),
+  length-slice_split (λ b. b == 10) text,
+  count_by-le-length (λ b. b == 10) text,
+)

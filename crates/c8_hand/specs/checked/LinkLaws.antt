@@ -1,6 +1,6 @@
 -- Checked, not believed: what is admitted, and what an admitted datagram changes.
-use Rattle.std.proofs.Common.{◌≡◌, ◌≢◌, ℕ, zero, suc, ◌<◌, ◌≤◌, ◌⊎◌, Bool, true, false, cond, Option, Some, None, refl, sym, ap, subst, ◌∙◌,
-  inl, inr, arith}
+use Rattle.std.proofs.Common.{◌≡◌, ◌≢◌, ℕ, zero, suc, ◌<◌, ◌≤◌, ◌⊎◌, Bool, true, false, cond, Option, Some, None, refl, sym, ap, subst, ◌∙◌}
+use Rattle.std.proofs.Common.{inl, inr, arith}
 use Rattle.std.specs.Prelude.{◌==◌, not, if◌then◌else◌}
 use Rattle.std.proofs.lemmas.Bool.{cases_lt, cases_eq, eqb-true, ne_eqb, both_ways, lt-ltb, le-ltb}
 use Rattle.std.proofs.lemmas.Bool.Decides.{nat_tests}
@@ -8,8 +8,9 @@ use Rattle.c8_wire.specs.declared.kinds.DatagramKind.{DatagramKind}
 use Rattle.c8_wire.specs.declared.kinds.DatagramKind.TheVariants as kinds
 use Rattle.c8_wire.specs.Packet.{HeadValue}
 use Rattle.c8_hand.specs.declared.error.HandError.TheVariants as errors
-use Rattle.c8_hand.specs.Links.{LinkValue, LinksValue, no_link, link_to, with_link, is_mine, refusal, refusal_of_seen, refusal_as,
-  admission, refusal_by_kind, refusal_of_welcome, refusal_of_others, link_after, heard, IsForMe, NamesBoth, IsWelcomeOf, OpensByWelcome}
+use Rattle.c8_hand.specs.Links.{LinkValue, LinksValue, no_link, link_to, with_link, is_mine, refusal, refusal_of_seen, refusal_as}
+use Rattle.c8_hand.specs.Links.{admission, refusal_by_kind, refusal_of_welcome, refusal_of_others, link_after, heard, IsForMe, NamesBoth}
+use Rattle.c8_hand.specs.Links.{IsWelcomeOf, OpensByWelcome}
 
 -- ---- one link changes
 
@@ -32,8 +33,12 @@ own_link l (suc (suc (suc (suc (suc n))))) player to same = absurd (omega arith)
 -- there is no link to a fifth player
 pub link_past : (l : LinksValue) (player : ℕ) → 4 < player → link_to l player ≡ no_link
 link_past l player past =
-    rw (ne_eqb player 1 (λ e. omega arith), ne_eqb player 2 (λ e. omega arith), ne_eqb player 3 (λ e. omega arith),
-        ne_eqb player 4 (λ e. omega arith)) refl
+    rw (
+      ne_eqb player 1 (λ e. omega arith),
+      ne_eqb player 2 (λ e. omega arith),
+      ne_eqb player 3 (λ e. omega arith),
+      ne_eqb player 4 (λ e. omega arith),
+    ) refl
 
 unless : (player place : ℕ) (link old : LinkValue) → (place ≡ player → ⊥) → (if player == place then link else old) ≡ old
 unless player place link old other = rw (ne_eqb player place (λ e. other (sym e))) refl
@@ -126,9 +131,10 @@ linked_by_kind kinds.Seen link own theirs mine none hello welcome = absurd cc
 -- no SHOW and no SEEN is admitted as a player's
 among_players : (kind : DatagramKind) (link : LinkValue) (own theirs mine : ℕ) → refusal_by_kind kind link own theirs mine ≡ None
     → (kind ≢ kinds.Show) × (kind ≢ kinds.Seen)
-among_players kind link own theirs mine none =
-    (λ is. let never = ap (λ (k : DatagramKind). refusal_by_kind k link own theirs mine) (sym is) ∙ none in absurd cc,
-        λ is. let never = ap (λ (k : DatagramKind). refusal_by_kind k link own theirs mine) (sym is) ∙ none in absurd cc)
+among_players kind link own theirs mine none = (
+  λ is. let never = ap (λ (k : DatagramKind). refusal_by_kind k link own theirs mine) (sym is) ∙ none in absurd cc,
+  λ is. let never = ap (λ (k : DatagramKind). refusal_by_kind k link own theirs mine) (sym is) ∙ none in absurd cc,
+)
 
 pub admitted_players : (l : LinksValue) (head : HeadValue) → refusal l head ≡ None → (head.kind ≢ kinds.Show) × (head.kind ≢ kinds.Seen)
 admitted_players l head none = among_players head.kind (link_to l head.from) l.epoch head.sender_epoch head.addressee_epoch
@@ -266,7 +272,7 @@ player_opens l head none player was =
             let here : (link_to (heard l head) head.from).is_open ≡ true = ap (λ (p : ℕ). (link_to (heard l head) p).is_open) (sym same) ∙ was in
             let from = (is_for_me l head none).from_one in
             subst (λ (p : ℕ). (link_to (heard l head) p ≡ link_to l p) ⊎ IsWelcomeOf (heard l head) p head) (sym same)
-                (sender_opens l head none from to here)
+            (sender_opens l head none from to here)
       ]
       | inr other ↦ inl (other_link l head player other)
     ]
@@ -300,8 +306,11 @@ player_rises : (l : LinksValue) (head : HeadValue) (player : ℕ) → refusal l 
 player_rises l head player none =
     elim (cases_eq player head.from) [
       | inl same ↦ elim (cases_lt 4 head.from) [
-        | inl past ↦ omega (arith, ap (λ (link : LinkValue). link.known) (link_past (heard l head) player (omega arith)),
-        ap (λ (link : LinkValue). link.known) (link_past l player (omega arith)))
+        | inl past ↦ omega (
+          arith,
+          ap (λ (link : LinkValue). link.known) (link_past (heard l head) player (omega arith)),
+          ap (λ (link : LinkValue). link.known) (link_past l player (omega arith)),
+        )
         | inr to ↦
             let new = ap (λ (link : LinkValue). link.known) (sender_link l head (is_for_me l head none).from_one to) in
             let rises = not_below head.kind (link_to l head.from) l.epoch head.sender_epoch head.addressee_epoch (admitted l head none).by_kind in

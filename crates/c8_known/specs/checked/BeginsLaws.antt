@@ -1,6 +1,6 @@
 -- Checked, not believed: lists that are the beginning of others.
-use Rattle.std.proofs.Common.{◌≡◌, ℕ, zero, suc, ◌-◌, ◌≤◌, List, [], ◌∷◌, ◌++◌, length, take, drop, false, Some, refl, sym, ap, subst, ◌∙◌,
-  append_assoc, arith}
+use Rattle.std.proofs.Common.{◌≡◌, ℕ, zero, suc, ◌-◌, ◌≤◌, List, [], ◌∷◌, ◌++◌, length, take, drop, false, Some, refl, sym, ap, subst, ◌∙◌}
+use Rattle.std.proofs.Common.{append_assoc, arith}
 use Rattle.std.specs.List.{slice_get}
 use Rattle.std.proofs.lemmas.Bool.{eq-eqb}
 use Rattle.std.proofs.lemmas.List.{append-nil, length-append}
@@ -11,8 +11,10 @@ pub begins_same : {X : Type 0} (xs : List X) → Begins xs xs
 begins_same xs = record { rest = []; is = sym (append-nil xs) }
 
 pub begins_more : {X : Type 0} (xs ys zs : List X) → Begins xs ys → Begins ys zs → Begins xs zs
-begins_more {X = X} xs ys zs one two = record { rest = one.rest ++ two.rest;
-    is = two.is ∙ ap (λ (early : List X). early ++ two.rest) one.is ∙ append_assoc xs one.rest two.rest }
+begins_more {X = X} xs ys zs one two = record {
+  rest = one.rest ++ two.rest;
+  is = two.is ∙ ap (λ (early : List X). early ++ two.rest) one.is ∙ append_assoc xs one.rest two.rest;
+}
 
 pub begins_append : {X : Type 0} (xs ys : List X) → Begins xs (xs ++ ys)
 begins_append xs ys = record { rest = ys; is = refl }
@@ -37,7 +39,7 @@ begins_drop zero xs ys begins = begins
 begins_drop {X = X} (suc n) [] ys begins = begins_none (drop (suc n) ys)
 begins_drop {X = X} (suc n) (x ∷ xs) ys begins =
     subst (λ (zs : List X). Begins (drop n xs) (drop (suc n) zs)) (sym begins.is)
-        (begins_drop n xs (xs ++ begins.rest) (begins_append xs begins.rest))
+    (begins_drop n xs (xs ++ begins.rest) (begins_append xs begins.rest))
 
 pub begins_length : {X : Type 0} (xs ys : List X) → Begins xs ys → length xs ≤ length ys
 begins_length {X = X} xs ys begins = omega (arith, ap (λ (zs : List X). length zs) begins.is, length-append xs begins.rest)
@@ -82,8 +84,11 @@ goes_on (x ∷ held) rest (w ∷ words) zero from stands =
 goes_on (x ∷ held) rest words (suc start) from stands =
     let more = goes_on held rest words start (omega (arith, from)) stands in
     let same : suc (length held) - suc start ≡ length held - start = omega arith in
-    record { rest = more.rest; is = ap (λ (n : ℕ). x ∷ (held ++ rest)) same ∙ ap (λ (ys : List ℕ). x ∷ ys) more.is
-        ∙ ap (λ (n : ℕ). x ∷ (held ++ drop n words) ++ more.rest) (sym same) }
+    record {
+      rest = more.rest;
+      is = ap (λ (n : ℕ). x ∷ (held ++ rest)) same ∙ ap (λ (ys : List ℕ). x ∷ ys) more.is
+          ∙ ap (λ (n : ℕ). x ∷ (held ++ drop n words) ++ more.rest) (sym same);
+    }
 
 pub begins_fresh : (held words own : List ℕ) (start : ℕ) → Begins held own → start ≤ length held → Begins words (drop start own)
     → Begins (held ++ drop (length held - start) words) own

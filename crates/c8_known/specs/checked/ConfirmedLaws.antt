@@ -1,7 +1,7 @@
 -- Checked, not believed: the number of confirmed frames is the greatest of its kind; what is settled and confirmed
 -- stays.
-use Rattle.std.proofs.Common.{◌≡◌, ℕ, zero, suc, ◌+◌, ◌-◌, ◌<◌, ◌≤◌, ◌⊎◌, List, [], ◌∷◌, ◌++◌, length, map, true, Option, Some, None, refl,
-  sym, ap, subst, ◌∙◌, inl, inr, arith, slice_index_or}
+use Rattle.std.proofs.Common.{◌≡◌, ℕ, zero, suc, ◌+◌, ◌-◌, ◌<◌, ◌≤◌, ◌⊎◌, List, [], ◌∷◌, ◌++◌, length, map, true, Option, Some, None, refl}
+use Rattle.std.proofs.Common.{sym, ap, subst, ◌∙◌, inl, inr, arith, slice_index_or}
 use Rattle.std.specs.List.{slice_get, range_with_len, AllPass}
 use Rattle.std.proofs.lemmas.Bool.{cases_lt}
 use Rattle.std.proofs.lemmas.List.{map-append, get_or_past}
@@ -12,8 +12,8 @@ use Rattle.c8_game.specs.declared.row.Row.{Row}
 use Rattle.c8_wire.specs.Greatest.{greatest}
 use Rattle.c8_wire.specs.checked.GreatestLaws.{greatest_le, greatest_passes, greatest_is}
 use Rattle.c8_known.specs.Known.{PlayerValue, KnownValue, nobody, player_in, Plays}
-use Rattle.c8_known.specs.Confirmed.{unless_held, input_of, has_value, is_settled_of, is_settled, are_settled_below, confirmed,
-  AreSettledBelow, IsConfirmed, or_empty, row, confirmed_rows, best_input, best_row}
+use Rattle.c8_known.specs.Confirmed.{unless_held, input_of, has_value, is_settled_of, is_settled, are_settled_below, confirmed}
+use Rattle.c8_known.specs.Confirmed.{AreSettledBelow, IsConfirmed, or_empty, row, confirmed_rows, best_input, best_row}
 use Rattle.c8_known.specs.Growth.{Begins, IsStillKnownOf, IsStillKnown}
 
 -- ---- settled below a number
@@ -31,7 +31,7 @@ settled_below k n all frame q below plays =
     let frames : AllPass (is_settled k) (range_with_len 0 n) = AllPass-from_list_all (is_settled k) (range_with_len 0 n) all in
     let at : slice_index_or (range_with_len 0 n) frame 0 ≡ 0 + frame = get_or-range_with_len 0 n frame 0 below in
     let here : is_settled k frame ≡ true = subst (λ (f : ℕ). is_settled k f ≡ true) (at ∙ omega arith)
-        (frames frame 0 (omega (arith, below, length-range_with_len 0 n))) in
+    (frames frame 0 (omega (arith, below, length-range_with_len 0 n))) in
     AllPass-from_list_all (λ (p : PlayerValue). is_settled_of p frame) k.players here (q - 1) nobody (omega (arith, from, to))
 
 pub below_settled : (k : KnownValue) (n : ℕ) → AreSettledBelow k n → are_settled_below k n ≡ true
@@ -43,7 +43,7 @@ below_settled k n settled =
     let place_is : place + 1 - 1 ≡ place = omega arith in
     let plays : Plays k (place + 1) = record { from_one = omega arith; in_game = omega (arith, inside) } in
     let of_player : is_settled_of (slice_index_or k.players place nobody) frame ≡ true =
-        subst (λ (i : ℕ). is_settled_of (slice_index_or k.players i nobody) frame ≡ true) place_is (settled frame (place + 1) below plays) in
+    subst (λ (i : ℕ). is_settled_of (slice_index_or k.players i nobody) frame ≡ true) place_is (settled frame (place + 1) below plays) in
     subst (λ (p : PlayerValue). is_settled_of p frame ≡ true) (one_element k.players place nobody e inside) of_player)))
 
 pub confirmed_is : (k : KnownValue) → IsConfirmed k (confirmed k)
@@ -127,10 +127,10 @@ set_stays : (old new : KnownValue) → IsStillKnown old new → (frame q : ℕ) 
 set_stays old new still frame q below from =
     elim (cases_lt (length old.players) q) [
       | inl past ↦ ap (λ (p : PlayerValue). or_empty (input_of p frame))
-      (nobody_past new q (omega (arith, past, still.players)) ∙ sym (nobody_past old q past))
+          (nobody_past new q (omega (arith, past, still.players)) ∙ sym (nobody_past old q past))
       | inr plays ↦
           let had = some_value (input_of (player_in old q) frame)
-              ((confirmed_is old).settled frame q below (record { from_one = from; in_game = plays })) in
+          ((confirmed_is old).settled frame q below (record { from_one = from; in_game = plays })) in
           let has = input_stays (player_in old q) (player_in new q) (still.each q) frame had.0 had.1 in
           ap or_empty (has ∙ sym had.1)
     ]
@@ -138,8 +138,10 @@ set_stays old new still frame q below from =
 pub same_row : (a b : ℕ → ℕ) → a 1 ≡ b 1 → a 2 ≡ b 2 → a 3 ≡ b 3 → a 4 ≡ b 4
     → ◌≡◌ {A = Row} (record { sets = map (λ q. record { 0 = a q }) (1 ∷ 2 ∷ 3 ∷ 4 ∷ []) })
     (record { sets = map (λ q. record { 0 = b q }) (1 ∷ 2 ∷ 3 ∷ 4 ∷ []) })
-same_row a b one two three four = λ i. record { sets =
-    (record { 0 = one i }) ∷ (record { 0 = two i }) ∷ (record { 0 = three i }) ∷ (record { 0 = four i }) ∷ [] }
+same_row a b one two three four = λ i. record {
+  sets =
+      (record { 0 = one i }) ∷ (record { 0 = two i }) ∷ (record { 0 = three i }) ∷ (record { 0 = four i }) ∷ [];
+}
 
 pub row_stays : (old new : KnownValue) → IsStillKnown old new → (frame : ℕ) → frame < confirmed old → row new frame ≡ row old frame
 row_stays old new still frame below =
@@ -184,7 +186,7 @@ set_best k frame q below from =
       | inl past ↦ rw (nobody_past k q past) refl
       | inr plays ↦
           let had = some_value (input_of (player_in k q) frame)
-              ((confirmed_is k).settled frame q below (record { from_one = from; in_game = plays })) in
+          ((confirmed_is k).settled frame q below (record { from_one = from; in_game = plays })) in
           best_settled (player_in k q) frame had.0 had.1
     ]
 

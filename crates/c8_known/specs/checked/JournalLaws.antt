@@ -80,5 +80,5 @@ unfolding cut_of
 cut_next q K journal r is =
     old_or_new (flat_map (cuts_of q) journal) (cuts_of q r) K
     (sym (ap (λ (cuts : List ℕ). slice_get cuts 0)
-        (flat_map-append (cuts_of q) journal (r ∷ [])
-        ∙ ap (λ (more : List ℕ). flat_map (cuts_of q) journal ++ more) (append-nil (cuts_of q r)))) ∙ is)
+    (flat_map-append (cuts_of q) journal (r ∷ [])
+    ∙ ap (λ (more : List ℕ). flat_map (cuts_of q) journal ++ more) (append-nil (cuts_of q r)))) ∙ is)

@@ -1,11 +1,11 @@
 -- Checked, not believed: each record keeps the invariant and what is known.
-use Rattle.std.proofs.Common.{◌≡◌, ◌≢◌, ℕ, zero, suc, ◌+◌, ◌-◌, ◌<◌, ◌≤◌, ◌||◌, List, [], ◌∷◌, ◌++◌, length, Bool, true, false, Option,
-  Some, None, refl, sym, ap, ◌∙◌, inl, inr, length-append, arith, slice_set, slice_index_or}
+use Rattle.std.proofs.Common.{◌≡◌, ◌≢◌, ℕ, zero, suc, ◌+◌, ◌-◌, ◌<◌, ◌≤◌, ◌||◌, List, [], ◌∷◌, ◌++◌, length, Bool, true, false, Option}
+use Rattle.std.proofs.Common.{Some, None, refl, sym, ap, ◌∙◌, inl, inr, length-append, arith, slice_set, slice_index_or}
 use Rattle.std.proofs.lemmas.Bool.{cases_eq}
 use Rattle.std.proofs.lemmas.List.{append-nil, length-set, get_or-set_same, get_or-set_other}
 use Rattle.c8_known.specs.Journal.{Own, Got, Freeze, Leave, Cut}
-use Rattle.c8_known.specs.Known.{PlayerValue, KnownValue, nobody, player_in, count_in, is_frozen_in, with_words, cut_at, with_cut,
-  with_record, Plays, EndsAtCut, IsKnown}
+use Rattle.c8_known.specs.Known.{PlayerValue, KnownValue, nobody, player_in, count_in, is_frozen_in, with_words, cut_at, with_cut}
+use Rattle.c8_known.specs.Known.{with_record, Plays, EndsAtCut, IsKnown}
 use Rattle.c8_known.specs.Growth.{IsStillKnownOf, IsStillKnown}
 use Rattle.c8_known.specs.checked.BeginsLaws.{begins_more}
 
@@ -124,7 +124,7 @@ own_known k start word known room =
 pub own_still : (k : KnownValue) (start word : ℕ) → IsKnown k → IsStillKnown k (with_record k (Own k.me start word))
 own_still k start word known =
     still_changed k (k.ticks + 1) k.me (with_words (player_in k k.me) (word ∷ [])) known.me (omega arith)
-        (still_longer (player_in k k.me) (word ∷ []) known.own_uncut)
+    (still_longer (player_in k k.me) (word ∷ []) known.own_uncut)
 
 pub got_known : (k : KnownValue) (q start : ℕ) (words : List ℕ) → IsKnown k → Plays k q → q ≢ k.me → (player_in k q).cut ≡ None
     → count_in k q + length words ≤ k.limit → IsKnown (with_record k (Got q start words))
@@ -225,7 +225,7 @@ cut_in_two k q K start later words plays =
     let twice = set_twice k.players (q - 1) longer (with_cut longer K) in
     ap (λ (players : List PlayerValue). record k { players = players })
     (sym twice ∙ ap (λ (new : PlayerValue). slice_set (slice_set k.players (q - 1) longer) (q - 1) (with_cut new K))
-        (sym (ap (λ (x : PlayerValue). with_words x []) there ∙ no_more)))
+    (sym (ap (λ (x : PlayerValue). with_words x []) there ∙ no_more)))
 
 -- ---- what is still known
 

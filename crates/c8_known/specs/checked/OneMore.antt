@@ -1,6 +1,6 @@
 -- Checked, not believed: what is known by a journal with one more record.
-use Rattle.std.proofs.Common.{◌≡◌, ◌≢◌, ℕ, zero, suc, ◌+◌, ◌-◌, ◌<◌, ◌≤◌, ◌||◌, List, [], ◌∷◌, ◌++◌, map, Bool, true, false, Option, refl,
-  sym, ap, ◌∙◌, arith, slice_set}
+use Rattle.std.proofs.Common.{◌≡◌, ◌≢◌, ℕ, zero, suc, ◌+◌, ◌-◌, ◌<◌, ◌≤◌, ◌||◌, List, [], ◌∷◌, ◌++◌, map, Bool, true, false, Option, refl}
+use Rattle.std.proofs.Common.{sym, ap, ◌∙◌, arith, slice_set}
 use Rattle.std.specs.Prelude.{◌==◌}
 use Rattle.std.specs.List.{range_with_len, slice_get, flat_map}
 use Rattle.std.proofs.Math.Bool.{or-false}
@@ -11,11 +11,11 @@ use Rattle.std.proofs.lemmas.List.Sums.{sum_by-append}
 use Rattle.std.proofs.lemmas.List.FromFn.{get_or-map-range_with_len}
 use Rattle.c8_game.specs.Rules.{Rules}
 use Rattle.c8_known.specs.Journal as journals
-use Rattle.c8_known.specs.Journal.{Record, Head, Epoch, Own, Got, Freeze, Leave, Cut, State, Check, words_of, is_own, freezes, lets_go,
-  cuts_of, player_of}
+use Rattle.c8_known.specs.Journal.{Record, Head, Epoch, Own, Got, Freeze, Leave, Cut, State, Check, words_of, is_own, freezes, lets_go}
+use Rattle.c8_known.specs.Journal.{cuts_of, player_of}
 use Rattle.c8_known.specs.checked.JournalLaws.{held_next, freeze_next, leave_next}
-use Rattle.c8_known.specs.Known.{PlayerValue, KnownValue, nobody, player_in, said_of, known_of, with_words, cut_at, with_cut, with_record,
-  NamesPlayer}
+use Rattle.c8_known.specs.Known.{PlayerValue, KnownValue, nobody, player_in, said_of, known_of, with_words, cut_at, with_cut, with_record}
+use Rattle.c8_known.specs.Known.{NamesPlayer}
 
 -- ---- one player's part
 
@@ -120,7 +120,7 @@ unfolding known_of
 player_known rules me q journal from to =
     let at : q - 1 + 1 ≡ q = omega (arith, from) in
     get_or-map-range_with_len (λ place. said_of rules (place + 1) journal) 0 rules.players (q - 1) (q - 1) nobody (omega (arith, from, to))
-        (omega arith)
+    (omega arith)
     ∙ ap (λ (player : ℕ). said_of rules player journal) at
 
 same_known : (k : KnownValue) {ticks₁ ticks₂ : ℕ} {players₁ players₂ : List PlayerValue} → ticks₁ ≡ ticks₂ → players₁ ≡ players₂
@@ -136,7 +136,7 @@ table_more rules me journal r named =
     let to : q ≤ rules.players = named.in_game in
     let at : 0 + (q - 1) + 1 ≡ q = omega (arith, from) in
     one_place (λ place. said_of rules (place + 1) journal) (λ place. said_of rules (place + 1) (journal ++ r ∷ [])) 0 rules.players (q - 1)
-        (omega (arith, from, to))
+    (omega (arith, from, to))
     (λ i other. said_more rules (i + 1) journal r ∙ after_other (said_of rules (i + 1) journal) (i + 1) r (λ e. other (omega (arith, e))))
     ∙ ap (λ (p : PlayerValue). slice_set (table rules journal) (q - 1) p)
     (ap (λ (player : ℕ). said_of rules player (journal ++ r ∷ [])) at ∙ said_more rules q journal r
@@ -167,38 +167,38 @@ pub one_more : (rules : Rules) (me : ℕ) (journal : List Record) (r : Record) �
 unfolding known_of
 one_more rules me journal (Head player form id room) named =
     let r : Record = Head player form id room in
-        same_known (known_of rules me journal) (no_tick journal r refl) (table_same rules journal r (λ p q. after_none p q r refl refl refl refl))
+    same_known (known_of rules me journal) (no_tick journal r refl) (table_same rules journal r (λ p q. after_none p q r refl refl refl refl))
 one_more rules me journal (Epoch player number form) named =
     let r : Record = Epoch player number form in
-        same_known (known_of rules me journal) (no_tick journal r refl) (table_same rules journal r (λ p q. after_none p q r refl refl refl refl))
+    same_known (known_of rules me journal) (no_tick journal r refl) (table_same rules journal r (λ p q. after_none p q r refl refl refl refl))
 one_more rules me journal (State player frames piece bytes) named =
     let r : Record = State player frames piece bytes in
-        same_known (known_of rules me journal) (no_tick journal r refl) (table_same rules journal r (λ p q. after_none p q r refl refl refl refl))
+    same_known (known_of rules me journal) (no_tick journal r refl) (table_same rules journal r (λ p q. after_none p q r refl refl refl refl))
 one_more rules me journal (Check player frames digest) named =
     let r : Record = Check player frames digest in
-        same_known (known_of rules me journal) (no_tick journal r refl) (table_same rules journal r (λ p q. after_none p q r refl refl refl refl))
+    same_known (known_of rules me journal) (no_tick journal r refl) (table_same rules journal r (λ p q. after_none p q r refl refl refl refl))
 one_more rules me journal (Own player start word) named =
     let r : Record = Own player start word in
     same_known (known_of rules me journal) (one_tick journal r refl)
     (table_more rules me journal r named ∙ ap (λ (p : PlayerValue). slice_set (table rules journal) (player - 1) p)
-        (after_own (player_in (known_of rules me journal) player) player start word))
+    (after_own (player_in (known_of rules me journal) player) player start word))
 one_more rules me journal (Got player start words) named =
     let r : Record = Got player start words in
     same_known (known_of rules me journal) (no_tick journal r refl)
     (table_more rules me journal r named ∙ ap (λ (p : PlayerValue). slice_set (table rules journal) (player - 1) p)
-        (after_got (player_in (known_of rules me journal) player) player start words))
+    (after_got (player_in (known_of rules me journal) player) player start words))
 one_more rules me journal (Freeze player) named =
     let r : Record = Freeze player in
     same_known (known_of rules me journal) (no_tick journal r refl)
     (table_more rules me journal r named ∙ ap (λ (p : PlayerValue). slice_set (table rules journal) (player - 1) p)
-        (after_freeze (player_in (known_of rules me journal) player) player))
+    (after_freeze (player_in (known_of rules me journal) player) player))
 one_more rules me journal (Leave player) named =
     let r : Record = Leave player in
     same_known (known_of rules me journal) (no_tick journal r refl)
     (table_more rules me journal r named ∙ ap (λ (p : PlayerValue). slice_set (table rules journal) (player - 1) p)
-        (after_leave (player_in (known_of rules me journal) player) player))
+    (after_leave (player_in (known_of rules me journal) player) player))
 one_more rules me journal (Cut player K start words) named =
     let r : Record = Cut player K start words in
     same_known (known_of rules me journal) (no_tick journal r refl)
     (table_more rules me journal r named ∙ ap (λ (p : PlayerValue). slice_set (table rules journal) (player - 1) p)
-        (after_cut (player_in (known_of rules me journal) player) player K start words))
+    (after_cut (player_in (known_of rules me journal) player) player K start words))

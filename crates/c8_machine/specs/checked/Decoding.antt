@@ -2,10 +2,11 @@
 use Rattle.std.specs.Prelude.{◌≡◌, ℕ, ◌/◌, ◌%◌, ◌==◌, ◌&&◌, Option, Some, None, if◌then◌else◌}
 use Rattle.c8_machine.specs.declared.operation.Operation.{Operation}
 use Rattle.c8_machine.specs.declared.operation.Operation.TheVariants as operation
-use Rattle.c8_machine.specs.Instructions.{Instruction, Clear, Return, Jump, Call, SkipIfValue, SkipUnlessValue, SkipIfSame, SetValue,
-  AddValue, Set, Or, And, ExclusiveOr, Add, Subtract, ShiftRight, SubtractFrom, ShiftLeft, SkipUnlessSame, SetAddress, JumpFrom, Random,
-  Draw, SkipIfDown, SkipIfUp, ReadTimer, AwaitKey, SetTimer, SetTone, AddAddress, PointAtDigit, StoreDigits, StoreRegisters, LoadRegisters,
-  IsInstructionOf}
+use Rattle.c8_machine.specs.Instructions.{Instruction, Clear, Return, Jump, Call, SkipIfValue, SkipUnlessValue, SkipIfSame, SetValue}
+use Rattle.c8_machine.specs.Instructions.{AddValue, Set, Or, And, ExclusiveOr, Add, Subtract, ShiftRight, SubtractFrom, ShiftLeft}
+use Rattle.c8_machine.specs.Instructions.{SkipUnlessSame, SetAddress, JumpFrom, Random, Draw, SkipIfDown, SkipIfUp, ReadTimer, AwaitKey}
+use Rattle.c8_machine.specs.Instructions.{SetTimer, SetTone, AddAddress, PointAtDigit, StoreDigits, StoreRegisters, LoadRegisters}
+use Rattle.c8_machine.specs.Instructions.{IsInstructionOf}
 
 -- of a code whose first digit is 0
 unfoldable pub system_instruction : ℕ → Option Instruction

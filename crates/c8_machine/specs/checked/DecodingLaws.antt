@@ -1,12 +1,13 @@
 -- Checked, not believed: each code has one instruction, and `instruction_of` finds it.
 use Rattle.std.proofs.Common.{◌≡◌, ℕ, ◌+◌, ◌*◌, ◌/◌, ◌%◌, ◌&&◌, cond, nat_eq, Option, Some, None, refl, sym, inl, inr, arith}
 use Rattle.std.proofs.lemmas.Bool.{cases_Bool, and_parts, cond-true, cond-false, eqb-true}
-use Rattle.c8_machine.specs.Instructions.{Instruction, Clear, Return, Jump, Call, SkipIfValue, SkipUnlessValue, SkipIfSame, SetValue,
-  AddValue, Set, Or, And, ExclusiveOr, Add, Subtract, ShiftRight, SubtractFrom, ShiftLeft, SkipUnlessSame, SetAddress, JumpFrom, Random,
-  Draw, SkipIfDown, SkipIfUp, ReadTimer, AwaitKey, SetTimer, SetTone, AddAddress, PointAtDigit, StoreDigits, StoreRegisters, LoadRegisters,
-  code_of, digits, with_byte, with_address, IsInRange, IsDigit, IsByte, IsAddress, IsInstructionOf}
-use Rattle.c8_machine.specs.checked.Decoding.{instruction_of, instruction_by, system_instruction, arithmetic_instruction, key_instruction,
-  register_instruction}
+use Rattle.c8_machine.specs.Instructions.{Instruction, Clear, Return, Jump, Call, SkipIfValue, SkipUnlessValue, SkipIfSame, SetValue}
+use Rattle.c8_machine.specs.Instructions.{AddValue, Set, Or, And, ExclusiveOr, Add, Subtract, ShiftRight, SubtractFrom, ShiftLeft}
+use Rattle.c8_machine.specs.Instructions.{SkipUnlessSame, SetAddress, JumpFrom, Random, Draw, SkipIfDown, SkipIfUp, ReadTimer, AwaitKey}
+use Rattle.c8_machine.specs.Instructions.{SetTimer, SetTone, AddAddress, PointAtDigit, StoreDigits, StoreRegisters, LoadRegisters, code_of}
+use Rattle.c8_machine.specs.Instructions.{digits, with_byte, with_address, IsInRange, IsDigit, IsByte, IsAddress, IsInstructionOf}
+use Rattle.c8_machine.specs.checked.Decoding.{instruction_of, instruction_by, system_instruction, arithmetic_instruction, key_instruction}
+use Rattle.c8_machine.specs.checked.Decoding.{register_instruction}
 
 -- ---- the instruction of a code is found
 

@@ -1,6 +1,6 @@
 -- Checked, not believed: runs and their pairs.
-use Rattle.std.proofs.Common.{inl, inr, ◌≡◌, ◌≢◌, ℕ, zero, suc, ◌+◌, ◌*◌, ◌/◌, ◌%◌, ◌^◌, ◌<◌, ◌==◌, ◌&&◌, List, [], ◌∷◌, ◌++◌, length,
-  get_or, drop, replicate, true, false, Option, Some, None, refl, sym, ap, ◌∙◌, arith, length-append}
+use Rattle.std.proofs.Common.{inl, inr, ◌≡◌, ◌≢◌, ℕ, zero, suc, ◌+◌, ◌*◌, ◌/◌, ◌%◌, ◌^◌, ◌<◌, ◌==◌, ◌&&◌, List, [], ◌∷◌, ◌++◌, length}
+use Rattle.std.proofs.Common.{get_or, drop, replicate, true, false, Option, Some, None, refl, sym, ap, ◌∙◌, arith, length-append}
 use Rattle.std.specs.Prelude.{not}
 use Rattle.std.proofs.lemmas.Bool.{cases_eq, eq-eqb, eqb-true, ne_eqb, and_parts, not-true}
 use Rattle.std.proofs.lemmas.List.{length-replicate}
@@ -48,7 +48,7 @@ front_new : (keys : ℕ) (pairs : List Pair) → well_after (Some keys) pairs �
 front_new keys [] well = refl
 front_new keys (p ∷ pairs) well =
     let apart = not-true (keys == p.keys) (and_parts (not (keys == p.keys)) (well_after (Some p.keys) pairs)
-        (and_parts (not (p.times == 0)) (not (keys == p.keys) && well_after (Some p.keys) pairs) well).1).0 in
+    (and_parts (not (p.times == 0)) (not (keys == p.keys) && well_after (Some p.keys) pairs) well).1).0 in
     rw apart refl
 
 stretch : (keys k : ℕ) (words : List ℕ) → well_after (Some keys) (pairs_of words) ≡ true
@@ -58,7 +58,7 @@ stretch keys zero words well = front_new keys (pairs_of words) well
 stretch keys (suc k) words well =
     let more : suc k + 1 ≡ suc (suc k) = omega arith in
     ap (in_front keys) (stretch keys k words well) ∙ in_same keys (record { times = suc k; keys = keys }) (pairs_of words) refl
-        ∙ ap (λ (n : ℕ). record { times = n; keys = keys } ∷ pairs_of words) more
+    ∙ ap (λ (n : ℕ). record { times = n; keys = keys } ∷ pairs_of words) more
 
 some_times : (n : ℕ) → not (n == 0) ≡ true → (k : ℕ) × (n ≡ suc k)
 some_times zero e = absurd cc
@@ -155,7 +155,7 @@ read_back (p ∷ pairs) small =
     let whole : big_number 2 (big_bytes 2 p.keys) ≡ p.keys = big_number-reads_back 2 p.keys [] small.0 in
     let keys : get_or (big_bytes 2 p.keys) 0 0 * 256 + get_or (big_bytes 2 p.keys) 1 0 ≡ p.keys = omega (arith, whole) in
     ap (λ (k : ℕ). record { times = p.times; keys = k } ∷ pairs_at (pairs_bytes pairs)) keys
-        ∙ ap (λ (ps : List Pair). p ∷ ps) (read_back pairs small.1)
+    ∙ ap (λ (ps : List Pair). p ∷ ps) (read_back pairs small.1)
 
 -- the spelling of a run has its pairs
 pub pairs_at-spelling : (words : List ℕ) → ((i : ℕ) → get_or words i 0 < 2 ^ 16) → pairs_at (spelling words) ≡ pairs_of words
@@ -186,8 +186,12 @@ front_begins : (word : ℕ) (pairs : List Pair) → Begins word (in_front word p
 front_begins word [] = record { first = record { times = 1; keys = word }; rest = []; is = refl; keys = refl }
 front_begins word (p ∷ pairs) =
     elim (cases_eq word p.keys) [
-      | inl same ↦ record { first = record { times = p.times + 1; keys = p.keys }; rest = pairs; is = rw (eq-eqb word p.keys same) refl;
-      keys = sym same }
+      | inl same ↦ record {
+        first = record { times = p.times + 1; keys = p.keys };
+        rest = pairs;
+        is = rw (eq-eqb word p.keys same) refl;
+        keys = sym same;
+      }
       | inr apart ↦ record { first = record { times = 1; keys = word }; rest = p ∷ pairs; is = rw (ne_eqb word p.keys apart) refl; keys = refl }
     ]
 
@@ -218,12 +222,12 @@ more_pairs word (next ∷ words) =
     let begins = begins_with next words in
     let rest : suc (pairs_after (Some next) words) ≡ suc (length begins.rest) = more_pairs next words ∙ opened next words ∙ ap length begins.is in
     let same_length : length (in_front word (pairs_of (next ∷ words))) ≡ length (in_front word (begins.first ∷ begins.rest)) =
-        ap (λ (ps : List Pair). length (in_front word ps)) begins.is in
+    ap (λ (ps : List Pair). length (in_front word ps)) begins.is in
     elim (cases_eq word next) [
       | inl same ↦ rw (eq-eqb word next same) (omega
-      (arith, rest, same_length, ap length (in_same word begins.first begins.rest (same ∙ sym begins.keys))))
+          (arith, rest, same_length, ap length (in_same word begins.first begins.rest (same ∙ sym begins.keys))))
       | inr apart ↦ rw (ne_eqb word next apart)
-      (omega (arith, rest, same_length, ap length (in_apart word begins.first begins.rest (λ e. apart (e ∙ begins.keys)))))
+          (omega (arith, rest, same_length, ap length (in_apart word begins.first begins.rest (λ e. apart (e ∙ begins.keys)))))
     ]
 
 pub count_pairs : (words : List ℕ) → pairs_after None words ≡ length (pairs_of words)
@@ -288,7 +292,7 @@ sets_of (times ∷ high ∷ low ∷ rest) fits i =
 pub spelling_is_run : (words : List ℕ) → ((i : ℕ) → get_or words i 0 < 2 ^ 16) → are_run (pairs_at (spelling words)) (length words) ≡ true
 spelling_is_run words small =
     ap (λ (pairs : List Pair). are_run pairs (length words)) (pairs_at-spelling words small)
-        ∙ rw (well_of words, eq-eqb (count_in (pairs_of words)) (length words) (count_of words)) refl
+    ∙ rw (well_of words, eq-eqb (count_in (pairs_of words)) (length words) (count_of words)) refl
 
 -- Bytes of a run of `count` inputs: they are the spelling of its inputs, and there are `count` of them.
 pub record IsSpelled (bytes : List ℕ) (count : ℕ) : Type 0 where

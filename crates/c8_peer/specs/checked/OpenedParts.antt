@@ -65,4 +65,4 @@ module _ {D : Type 0} (g : Ghosts D) (disk : D) (rules : Rules) (room me : ℕ) 
   abbrev pub BeginningLeaves : List ℕ → Type 0
   BeginningLeaves image =
       (kept image ≡ bodies_found g disk) ⊎ (MayBegin rules room me (bodies_found g disk)
-          × (kept image ≡ bodies_found g disk ++ opening_body rules room me (bodies_found g disk) ∷ []))
+      × (kept image ≡ bodies_found g disk ++ opening_body rules room me (bodies_found g disk) ∷ []))

@@ -14,8 +14,8 @@ use Rattle.c8_known.specs.Known.{KnownValue, known_of}
 use Rattle.c8_known.specs.Confirmed.{confirmed, rows_below}
 use Rattle.c8_known.specs.Growth.{IsStillKnown}
 use Rattle.c8_known.specs.checked.ConfirmedLaws.{confirmed_rises, map_same}
-use Rattle.c8_check.specs.Checks.{Pieces, ChecksValue, no_checks, with_check, checks_of, opened_at, opened_since, or_first, begun_at,
-  save_bytes, before_piece}
+use Rattle.c8_check.specs.Checks.{Pieces, ChecksValue, no_checks, with_check, checks_of, opened_at, opened_since, or_first, begun_at}
+use Rattle.c8_check.specs.Checks.{save_bytes, before_piece}
 use Rattle.c8_check.specs.checked.CheckLaws.{opened_more}
 use Rattle.c8_roll.specs.Roll.{mark_after, marks_up_to, IsOnTheWay}
 use Rattle.c8_roll.specs.checked.RollLaws.{first_on_the_way}
@@ -37,7 +37,7 @@ marks_stay : (rules : Rules) (early late : KnownValue) (n : ℕ) → IsStillKnow
 marks_stay rules early late n still within =
     ap kept (map_same (λ i. mark_after rules late (32 * i)) (λ i. mark_after rules early (32 * i)) 0 (n / 32 + 1)
     (λ i below. ap (λ (rows : List Row). record { frame = 32 * i; mark = mark_of (serial rules rows) })
-        (rows_same early late (32 * i) still (omega (arith, below, within)))))
+    (rows_same early late (32 * i) still (omega (arith, below, within)))))
 
 way_stays : (rules : Rules) (early late : KnownValue) (from : Origin) → IsStillKnown early late → IsOnTheWay rules early from
     → IsOnTheWay rules late from
@@ -54,8 +54,11 @@ pieces_stay : (rules : Rules) (early late : KnownValue) (p : Pieces) → IsStill
 pieces_stay rules early late p still are =
     let within = are.confirmed_is in
     let same : serial_at rules late p.frames ≡ serial_at rules early p.frames =
-    λ i. record { frames = p.frames; machine = serial_stays rules early late p.frames still within i;
-        marks = marks_stay rules early late p.frames still within i } in
+    λ i. record {
+      frames = p.frames;
+      machine = serial_stays rules early late p.frames still within i;
+      marks = marks_stay rules early late p.frames still within i;
+    } in
     record {
       confirmed_is = omega (arith, within, confirmed_rises early late still);
       bytes_are = are.bytes_are ∙ ap (λ (from : Origin). take (before_piece p.count) (save_bytes from)) (sym same);
@@ -166,8 +169,11 @@ record IsOpeningOf (rules : Rules) (journal : List Record) (new : Record) : Type
 opens : (rules : Rules) (room me : ℕ) (journal : List Record) → IsOpeningOf rules journal (opening_record rules room me journal)
 opens rules room me [] =
     let new : Record = Head me second_form (id_of rules) room in
-    record { begins = ap (or_first rules) (opened_more [] new); last = ap (λ (c : ChecksValue). c.last) (checks_more [] new);
-        none = ap (λ (c : ChecksValue). c.under_way) (checks_more [] new) }
+    record {
+      begins = ap (or_first rules) (opened_more [] new);
+      last = ap (λ (c : ChecksValue). c.last) (checks_more [] new);
+      none = ap (λ (c : ChecksValue). c.under_way) (checks_more [] new);
+    }
 opens rules room me (r ∷ rest) =
     let new : Record = Epoch me (epoch (r ∷ rest) + 1) second_form in
     record {
@@ -190,10 +196,10 @@ opening_true rules me room journal range from to is may are =
     let early : KnownValue = known_of rules me journal in
     let late : KnownValue = known_of rules me (journal ++ new ∷ []) in
     let still : IsStillKnown early late = journal_grows rules me room journal (new ∷ []) range from to
-        (journal_more rules me room journal new is may) in
+    (journal_more rules me room journal new is may) in
     let opening = opens rules room me journal in
     let ways : (at : Origin) → (checks_of journal).last ≡ Some at → IsOnTheWay rules late at =
-        λ at e. way_stays rules early late at still (are at e) in
+    λ at e. way_stays rules early late at still (are at e) in
     record {
       begun = subst (IsOnTheWay rules late) (sym opening.begins) (first_or_last rules late (checks_of journal).last ways);
       last = λ at e. ways at (sym opening.last ∙ e);

@@ -79,13 +79,17 @@ message_stays rules me to journal rest (packets.Frozen f) still is =
       stands_longer f.start f.words (held rules f.leaver journal) (held rules f.leaver (journal ++ rest))
           (held_begins rules f.leaver journal rest) is.2,
     )
-message_stays rules me to journal rest (packets.Cut c) still is =
-    (is.0, cut_stays c.leaver c.length journal rest is.1,
-        stands_longer c.start c.words (held rules c.leaver journal) (held rules c.leaver (journal ++ rest))
-        (held_begins rules c.leaver journal rest) is.2)
-message_stays rules me to journal rest (packets.Show m) still is =
-    (is.0, stands_longer m.start m.rows (confirmed_rows (known_of rules me journal)) (confirmed_rows (known_of rules me (journal ++ rest)))
-        (rows_stay (known_of rules me journal) (known_of rules me (journal ++ rest)) still) is.1)
+message_stays rules me to journal rest (packets.Cut c) still is = (
+  is.0,
+  cut_stays c.leaver c.length journal rest is.1,
+  stands_longer c.start c.words (held rules c.leaver journal) (held rules c.leaver (journal ++ rest))
+      (held_begins rules c.leaver journal rest) is.2,
+)
+message_stays rules me to journal rest (packets.Show m) still is = (
+  is.0,
+  stands_longer m.start m.rows (confirmed_rows (known_of rules me journal)) (confirmed_rows (known_of rules me (journal ++ rest)))
+      (rows_stay (known_of rules me journal) (known_of rules me (journal ++ rest)) still) is.1,
+)
 message_stays rules me to journal rest (packets.Seen ack) still is = is
 
 pub truth_stays : (rules : Rules) (me room : ℕ) (journal rest : List Record) (p : Packet) → AreInRange rules → 1 ≤ me → me ≤ rules.players

@@ -1,6 +1,6 @@
 -- Checked, not believed: the spelling of a record reads back, and so do lists of bodies and records.
-use Rattle.std.proofs.Common.{◌≡◌, ℕ, zero, suc, ◌*◌, ◌-◌, ◌/◌, ◌%◌, ◌^◌, ◌<◌, ◌≤◌, List, [], ◌∷◌, ◌++◌, length, map, take, drop, ⊎_elim,
-  refl, sym, ap, subst, ◌∙◌, arith}
+use Rattle.std.proofs.Common.{◌≡◌, ℕ, zero, suc, ◌*◌, ◌-◌, ◌/◌, ◌%◌, ◌^◌, ◌<◌, ◌≤◌, List, [], ◌∷◌, ◌++◌, length, map, take, drop, ⊎_elim}
+use Rattle.std.proofs.Common.{refl, sym, ap, subst, ◌∙◌, arith}
 use Rattle.std.specs.Prelude.{slice_index, replicate}
 use Rattle.std.specs.List.{All}
 use Rattle.std.proofs.Math.Seq.{take-append_seam, drop-append_seam}
@@ -16,8 +16,8 @@ use Rattle.c8_record.specs.declared.record.Record.{Record as Lent}
 use Rattle.c8_record.specs.declared.record.Record.TheVariants as lents
 use Rattle.c8_wire.specs.Lent.{words}
 use Rattle.c8_record.specs.Lent.{value_of, IsComplete}
-use Rattle.c8_record.specs.Body.{IsForm, records_of, run_room, Fields, fields_of, field_bytes, body_of, HasSpelling, Spells, run_at,
-  bytes_at, record_of}
+use Rattle.c8_record.specs.Body.{IsForm, records_of, run_room, Fields, fields_of, field_bytes, body_of, HasSpelling, Spells, run_at}
+use Rattle.c8_record.specs.Body.{bytes_at, record_of}
 use Rattle.c8_record.specs.checked.CheckLaws.{words_low}
 
 -- ---- fields
@@ -67,7 +67,7 @@ room_is player form id room long low =
     let rest : List ℕ = zeros_of (id ++ big_bytes 8 room) in
     let there : drop 32 ((id ++ big_bytes 8 room) ++ rest) ≡ big_bytes 8 room ++ rest =
     ap (λ (n : ℕ). drop n ((id ++ big_bytes 8 room) ++ rest)) (sym long) ∙ ap (drop (length id)) (append_assoc id (big_bytes 8 room) rest)
-        ∙ drop-append_seam id (big_bytes 8 room ++ rest) in
+    ∙ drop-append_seam id (big_bytes 8 room ++ rest) in
     ap (big_number 8) there ∙ big_number-reads_back 8 room rest (omega (arith, low))
 
 id_is : (id more : List ℕ) (rest : List ℕ) → length id ≡ 32 → take 32 ((id ++ more) ++ rest) ≡ id
@@ -169,8 +169,14 @@ small_form form is = ⊎_elim (λ (first : form ≡ 0). omega (arith, first)) (�
 pub head_spells : (bytes : List ℕ) (player form : ℕ) (id : List ℕ) (room : ℕ) → bytes ≡ body_of (Head player form id room)
     → 1 ≤ player → player ≤ 4 → IsForm form → length id ≡ 32 → AreBytes id → room < 2 ^ 64 → Spells bytes (Head player form id room)
 head_spells bytes player form id room is from to of long fits low = record {
-  has = record { from_one = from; to_four = to; number = omega arith; start = small_form form of;
-      short = omega (arith, long, length-append id (big_bytes 8 room)); parts = (of, long, fits, low) };
+  has = record {
+    from_one = from;
+    to_four = to;
+    number = omega arith;
+    start = small_form form of;
+    short = omega (arith, long, length-append id (big_bytes 8 room));
+    parts = (of, long, fits, low);
+  };
   is = is;
 }
 
@@ -192,8 +198,14 @@ own_spells bytes player start word is from to low fits = record {
 pub got_spells : (bytes : List ℕ) (player start : ℕ) (words : List ℕ) → bytes ≡ body_of (Got player start words)
     → 1 ≤ player → player ≤ 4 → start < 2 ^ 32 → AreWords words → length words ≤ 64 → 1 ≤ length words → Spells bytes (Got player start words)
 got_spells bytes player start words is from to low sets few some = record {
-  has = record { from_one = from; to_four = to; number = omega arith; start = low; short = omega (arith, few, length-spelled_words words);
-      parts = (some, sets) };
+  has = record {
+    from_one = from;
+    to_four = to;
+    number = omega arith;
+    start = low;
+    short = omega (arith, few, length-spelled_words words);
+    parts = (some, sets);
+  };
   is = is;
 }
 
@@ -208,16 +220,28 @@ pub state_spells : (bytes : List ℕ) (player frames piece : ℕ) (words : List 
     → 1 ≤ player → player ≤ 4 → frames < 2 ^ 32 → piece < 2 ^ 32 → AreWords words → length words ≤ 64
     → Spells bytes (State player frames piece (words_bytes words))
 state_spells bytes player frames piece words is from to low place sets few = record {
-  has = record { from_one = from; to_four = to; number = low; start = place; short = omega (arith, few, length-spelled_words words);
-      parts = (omega (arith, length-spelled_words words), words_low words) };
+  has = record {
+    from_one = from;
+    to_four = to;
+    number = low;
+    start = place;
+    short = omega (arith, few, length-spelled_words words);
+    parts = (omega (arith, length-spelled_words words), words_low words);
+  };
   is = is;
 }
 
 pub check_spells : (bytes : List ℕ) (player frames : ℕ) (words : List ℕ) → bytes ≡ body_of (Check player frames (words_bytes words))
     → 1 ≤ player → player ≤ 4 → frames < 2 ^ 32 → AreWords words → length words ≡ 4 → Spells bytes (Check player frames (words_bytes words))
 check_spells bytes player frames words is from to low sets four = record {
-  has = record { from_one = from; to_four = to; number = low; start = omega arith; short = omega (arith, four, length-spelled_words words);
-      parts = (omega (arith, four, length-spelled_words words), words_low words) };
+  has = record {
+    from_one = from;
+    to_four = to;
+    number = low;
+    start = omega arith;
+    short = omega (arith, four, length-spelled_words words);
+    parts = (omega (arith, four, length-spelled_words words), words_low words);
+  };
   is = is;
 }
 

@@ -1,7 +1,7 @@
 -- Checked, not believed: the checkpoints of a journal are in order, and so is the beginning of a
 -- machine.
-use Rattle.std.proofs.Common.{◌≡◌, inl, inr, ℕ, zero, suc, ◌+◌, ◌<◌, ◌≤◌, ◌^◌, List, [], ◌∷◌, ◌++◌, length, drop, true, Option, Some, None,
-  refl, sym, ap, subst, ◌∙◌, append_assoc, arith}
+use Rattle.std.proofs.Common.{◌≡◌, inl, inr, ℕ, zero, suc, ◌+◌, ◌<◌, ◌≤◌, ◌^◌, List, [], ◌∷◌, ◌++◌, length, drop, true, Option, Some, None}
+use Rattle.std.proofs.Common.{refl, sym, ap, subst, ◌∙◌, append_assoc, arith}
 use Rattle.std.proofs.lemmas.Bool.{cases_lt, cases_eq, and_parts, eqb-true, ltb-true, le-leb, ne_eqb}
 use Rattle.std.proofs.lemmas.List.{append-nil, length-append, length-drop}
 use Rattle.byteorder.specs.Endian.{big_bytes}
@@ -17,8 +17,8 @@ use Rattle.c8_known.specs.Journal.{Record, Head, Epoch, Own, Got, Freeze, Leave,
 use Rattle.c8_known.specs.Known.{KnownValue, with_record, known_of}
 use Rattle.c8_known.specs.Confirmed.{confirmed}
 use Rattle.c8_known.specs.checked.ConfirmedLaws.{confirmed_rises}
-use Rattle.c8_check.specs.Checks.{Pieces, ChecksValue, no_checks, with_check, checks_of, frames_of, origin_in, bytes_so_far, before_piece,
-  piece_length, is_next_after, may_take, MayCheck, opened_at, opened_since, or_first, begun_at}
+use Rattle.c8_check.specs.Checks.{Pieces, ChecksValue, no_checks, with_check, checks_of, frames_of, origin_in, bytes_so_far, before_piece}
+use Rattle.c8_check.specs.Checks.{piece_length, is_next_after, may_take, MayCheck, opened_at, opened_since, or_first, begun_at}
 use Rattle.c8_check.specs.checked.CheckLaws.{opened_more}
 use Rattle.c8_record.specs.Allowed.{Past, past_of, IsAllowedAfter, IsJournal, IsInOrder, ArePieces, AreInOrder}
 use Rattle.c8_record.specs.checked.JournalLaws.{next_allowed, known_more, checks_more, journal_begins, journal_grows}
@@ -50,8 +50,11 @@ words_low (word ∷ words) = bytes_low (big_bytes 2 word) (words_bytes words) (w
 piece_ends : (piece : ℕ) → piece < 36 → before_piece (piece + 1) ≡ before_piece piece + piece_length piece
 unfolding before_piece piece_length
 piece_ends piece below = elim (cases_lt piece 34) [
-  | inl low ↦ rw (le-leb piece 34 (omega (arith, low)), le-leb (piece + 1) 34 (omega (arith, low)),
-  ne_eqb piece 34 (λ same. omega (arith, low, same))) (omega arith)
+  | inl low ↦ rw (
+    le-leb piece 34 (omega (arith, low)),
+    le-leb (piece + 1) 34 (omega (arith, low)),
+    ne_eqb piece 34 (λ same. omega (arith, low, same)),
+  ) (omega arith)
   | inr high ↦ elim (cases_eq piece 34) [
     | inl last ↦ rw last refl
     | inr marks ↦ let is : piece ≡ 35 = omega (arith, high, marks, below) in rw is refl
@@ -111,13 +114,13 @@ whole_in_order c k frames digest are may =
     let long : length p.bytes ≡ 4548 = pieces.long ∙ ap before_piece may.all in
     let again = ap state_in (sym may.spelled) ∙ state_again may.machine may.machine_is in
     let marks = marks_read p.frames (drop 4420 p.bytes) (omega (arith, length-drop 4420 p.bytes, long))
-        (drop_low p.bytes 4420 (2 ^ 8) pieces.bytes) in
+    (drop_low p.bytes 4420 (2 ^ 8) pieces.bytes) in
     let here : origin_in c.under_way ≡ origin_in (Some p) = ap origin_in may.under_way in
     λ from is.
     let same : origin_in (Some p) ≡ Some from = sym here ∙ is in
     let this = some_same _ from same in
     subst (λ (o : Origin). (o.frames ≤ confirmed k) × IsOrigin o) this
-        (pieces.confirmed_is, record { machine_is = subst IsState (sym again) may.machine_is; marks_are = marks })
+    (pieces.confirmed_is, record { machine_is = subst IsState (sym again) may.machine_is; marks_are = marks })
 
 -- ---- one record more
 
@@ -184,10 +187,10 @@ one_more rules me room journal r range from to all may are =
     record {
       checks = subst (AreInOrder (checks_of (journal ++ r ∷ []))) (sym known)
           (subst (λ (c : ChecksValue). AreInOrder c (with_record early r)) (sym (checks_more journal r))
-              (one_in_order rules room (past_of rules me journal) r may are.checks rises));
+          (one_in_order rules room (past_of rules me journal) r may are.checks rises));
       begun = subst (λ (o : Option Origin). IsInOrder o (known_of rules me (journal ++ r ∷ []))) (sym (opened_more journal r))
           (begun_by_one (checks_of journal) (opened_since no_checks None journal) early (known_of rules me (journal ++ r ∷ [])) r are.checks
-              are.begun risen);
+          are.begun risen);
     }
 
 good_from : (rules : Rules) (me room : ℕ) (more journal : List Record) → AreInRange rules → 1 ≤ me → me ≤ rules.players
@@ -198,7 +201,7 @@ good_from rules me room (r ∷ more) journal range from to is are =
     let all = subst (λ (all : List Record). IsJournal rules me room all) (sym split) is in
     let may = next_allowed rules me room journal r more is in
     subst (IsGood rules me) split (good_from rules me room more (journal ++ r ∷ []) range from to all
-        (one_more rules me room journal r range from to (journal_begins rules me room (journal ++ r ∷ []) more all) may are))
+    (one_more rules me room journal r range from to (journal_begins rules me room (journal ++ r ∷ []) more all) may are))
 
 none_good : (rules : Rules) (me : ℕ) → IsGood rules me []
 unfolding checks_of opened_since

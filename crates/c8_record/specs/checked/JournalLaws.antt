@@ -1,6 +1,6 @@
 -- Checked, not believed: journals, one record after another.
-use Rattle.std.proofs.Common.{◌≡◌, ◌⊎◌, inl, inr, ⊎_elim, ℕ, zero, suc, ◌-◌, ◌<◌, ◌≤◌, List, [], ◌∷◌, ◌++◌, length, take, Bool, true, false,
-  ◌||◌, Some, refl, sym, ap, subst, ◌∙◌, append_assoc, arith}
+use Rattle.std.proofs.Common.{◌≡◌, ◌⊎◌, inl, inr, ⊎_elim, ℕ, zero, suc, ◌-◌, ◌<◌, ◌≤◌, List, [], ◌∷◌, ◌++◌, length, take, Bool, true, false}
+use Rattle.std.proofs.Common.{◌||◌, Some, refl, sym, ap, subst, ◌∙◌, append_assoc, arith}
 use Rattle.std.specs.Prelude.{slice_index}
 use Rattle.std.specs.List.{slice_get, flat_map}
 use Rattle.std.proofs.Math.Seq.{take-append_seam}
@@ -16,8 +16,8 @@ use Rattle.c8_known.specs.Known.{KnownValue, player_in, count_in, is_frozen_in, 
 use Rattle.c8_known.specs.Growth.{IsStillKnown}
 use Rattle.c8_known.specs.checked.OneMore.{one_more}
 use Rattle.c8_known.specs.checked.StartLaws.{players_known, known_at_start}
-use Rattle.c8_known.specs.checked.KnownLaws.{own_known, own_still, got_known, got_still, freeze_known, freeze_still, leave_known,
-  leave_still, cut_known, cut_still, still_same, still_more}
+use Rattle.c8_known.specs.checked.KnownLaws.{own_known, own_still, got_known, got_still, freeze_known, freeze_still, leave_known}
+use Rattle.c8_known.specs.checked.KnownLaws.{leave_still, cut_known, cut_still, still_same, still_more}
 use Rattle.c8_check.specs.Checks.{no_checks, with_check, checks_of}
 use Rattle.c8_record.specs.Allowed.{Past, past_of, MayOwn, MayCut, IsAllowedAfter, IsAllowed, IsJournal}
 use Rattle.c8_record.specs.checked.Taken.{epoch_after}
@@ -51,25 +51,25 @@ pub journal_more : (rules : Rules) (me room : ℕ) (journal : List Record) (r : 
 journal_more rules me room journal r is may n s e =
     ⊎_elim
     (λ below. subst (λ (before : List Record). IsAllowed rules me room before s)
-        (sym (take-append-le n journal (r ∷ []) (omega (arith, below.0)))) (is n s below.1))
+    (sym (take-append-le n journal (r ∷ []) (omega (arith, below.0)))) (is n s below.1))
     (λ here. let front : take n (journal ++ r ∷ []) ≡ journal =
-        ap (λ (m : ℕ). take m (journal ++ r ∷ [])) here.0 ∙ take-append_seam journal (r ∷ []) in
+    ap (λ (m : ℕ). take m (journal ++ r ∷ [])) here.0 ∙ take-append_seam journal (r ∷ []) in
     subst (λ (before : List Record). IsAllowed rules me room before s) (sym front)
-        (subst (λ (one : Record). IsAllowed rules me room journal one) (sym here.1) may))
+    (subst (λ (one : Record). IsAllowed rules me room journal one) (sym here.1) may))
     (place_more journal r n s e)
 
 pub journal_begins : (rules : Rules) (me room : ℕ) (journal more : List Record) → IsJournal rules me room (journal ++ more)
     → IsJournal rules me room journal
 journal_begins rules me room journal more is n r e =
     subst (λ (before : List Record). IsAllowed rules me room before r)
-        (take-append-le n journal more (omega (arith, slice_get_within journal n r e))) (is n r (place_before journal more n r e))
+    (take-append-le n journal more (omega (arith, slice_get_within journal n r e))) (is n r (place_before journal more n r e))
 
 -- the record after a prefix of a journal is allowed there
 pub next_allowed : (rules : Rules) (me room : ℕ) (journal : List Record) (r : Record) (more : List Record)
     → IsJournal rules me room (journal ++ r ∷ more) → IsAllowed rules me room journal r
 next_allowed rules me room journal r more is =
     subst (λ (before : List Record). IsAllowed rules me room before r) (take-append_seam journal (r ∷ more))
-        (is (length journal) r (place_here journal r more))
+    (is (length journal) r (place_here journal r more))
 
 -- ---- epochs
 
@@ -147,14 +147,14 @@ sound_more rules room past (Head player form id named) known of may = known
 sound_more rules room past (Epoch player number form) known of may = known
 sound_more rules room past (Own player start word) known of may =
     subst (λ (q : ℕ). IsKnown (with_record past.known (Own q start word))) (sym may.may.own)
-        (own_known past.known start word known (own_room rules past.known player start known of may.may))
+    (own_known past.known start word known (own_room rules past.known player start known of may.may))
 sound_more rules room past (Got player start words) known of may =
     got_known past.known player start words known may.plays may.may.other may.may.uncut (omega (arith, may.may.next, may.may.within))
 sound_more rules room past (Freeze player) known of may = freeze_known past.known player known may.plays
 sound_more rules room past (Leave player) known of may = leave_known past.known player known may.plays
 sound_more rules room past (Cut player cut start words) known of may =
     cut_known past.known player cut start words known may.plays may.may.other (leaves past.known player cut start words may.may)
-        may.may.once (omega (arith, may.may.next, may.may.ends)) may.may.within
+    may.may.once (omega (arith, may.may.next, may.may.ends)) may.may.within
 sound_more rules room past (State player frames piece bytes) known of may = known
 sound_more rules room past (Check player frames digest) known of may = known
 
@@ -201,12 +201,12 @@ grown_from : (rules : Rules) (me room : ℕ) (more journal : List Record) → Is
     → IsKnown (known_of rules me journal) → HasGrown rules me journal (journal ++ more)
 grown_from rules me room [] journal is known =
     subst (λ (late : List Record). HasGrown rules me journal late) (sym (append-nil journal))
-        (record { known = known; still = still_same (known_of rules me journal) })
+    (record { known = known; still = still_same (known_of rules me journal) })
 grown_from rules me room (r ∷ more) journal is known =
     let split : (journal ++ r ∷ []) ++ more ≡ journal ++ r ∷ more = append_assoc journal (r ∷ []) more in
     let one = one_grown rules me room journal r known (next_allowed rules me room journal r more is) in
     let rest = grown_from rules me room more (journal ++ r ∷ [])
-        (subst (λ (late : List Record). IsJournal rules me room late) (sym split) is) one.known in
+    (subst (λ (late : List Record). IsJournal rules me room late) (sym split) is) one.known in
     let all : HasGrown rules me journal ((journal ++ r ∷ []) ++ more) = record {
       known = rest.known;
       still = still_more (known_of rules me journal) (known_of rules me (journal ++ r ∷ []))

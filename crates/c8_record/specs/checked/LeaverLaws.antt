@@ -39,11 +39,11 @@ orderly_with rules room past (Check player frames digest) orderly may = orderly
 orderly_with rules room past (Own player start word) orderly may =
     let k : KnownValue = past.known in
     orderly_changed k (k.ticks + 1) player (with_words (player_in k player) (word ∷ [])) orderly may.plays
-        (longer k.me player (player_in k player) (word ∷ []) (orderly player may.plays.from_one))
+    (longer k.me player (player_in k player) (word ∷ []) (orderly player may.plays.from_one))
 orderly_with rules room past (Got player start words) orderly may =
     let k : KnownValue = past.known in
     orderly_changed k k.ticks player (with_words (player_in k player) words) orderly may.plays
-        (longer k.me player (player_in k player) words (orderly player may.plays.from_one))
+    (longer k.me player (player_in k player) words (orderly player may.plays.from_one))
 orderly_with rules room past (Freeze player) orderly may =
     let k : KnownValue = past.known in
     let o = orderly player may.plays.from_one in
@@ -85,7 +85,7 @@ orderly_from rules me room (r ∷ more) journal is orderly =
     let split : (journal ++ r ∷ []) ++ more ≡ journal ++ r ∷ more = append_assoc journal (r ∷ []) more in
     let may = next_allowed rules me room journal r more is in
     let one : IsOrderly (known_of rules me (journal ++ r ∷ [])) =
-        subst IsOrderly (sym (known_more rules me room journal r may)) (orderly_with rules room (past_of rules me journal) r orderly may) in
+    subst IsOrderly (sym (known_more rules me room journal r may)) (orderly_with rules room (past_of rules me journal) r orderly may) in
     subst (λ (all : List Record). IsOrderly (known_of rules me all)) split
     (orderly_from rules me room more (journal ++ r ∷ []) (subst (λ (all : List Record). IsJournal rules me room all) (sym split) is) one)
 

@@ -1,6 +1,6 @@
 -- Checked, not believed: the bodies of a journal spell its records and are never refused.
-use Rattle.std.proofs.Common.{◌≡◌, ◌<◌, inl, inr, ⊎_elim, ℕ, zero, suc, List, [], ◌∷◌, map, take, slice_index_or, Some, refl, sym, ap,
-  subst, ◌∙◌, arith}
+use Rattle.std.proofs.Common.{◌≡◌, ◌<◌, inl, inr, ⊎_elim, ℕ, zero, suc, List, [], ◌∷◌, map, take, slice_index_or, Some, refl, sym, ap}
+use Rattle.std.proofs.Common.{subst, ◌∙◌, arith}
 use Rattle.std.proofs.lemmas.Bool.{cases_lt}
 use Rattle.std.specs.List.{slice_get, All}
 use Rattle.std.specs.Option.{option_map}
@@ -41,7 +41,7 @@ body_allowed : (rules : Rules) (me room : ℕ) (bodies : List (List ℕ)) (n : �
 body_allowed rules me room bodies n body are here =
     let place : slice_get (records_of bodies) n ≡ Some (record_of body) = slice_get-map record_of bodies n ∙ ap (option_map record_of) here in
     subst (λ (before : List Record). IsAllowed rules me room before (record_of body)) (take-map record_of n bodies)
-        (are.journal n (record_of body) place)
+    (are.journal n (record_of body) place)
 
 head_allowed : (rules : Rules) (me room : ℕ) (bodies : List (List ℕ)) (body : List ℕ) (player form : ℕ) (id : List ℕ) (named : ℕ)
     → AreJournalBodies rules me room bodies
@@ -49,7 +49,7 @@ head_allowed : (rules : Rules) (me room : ℕ) (bodies : List (List ℕ)) (body 
     → IsAllowed rules me room (records_of (take 0 bodies)) (Head player form id named)
 head_allowed rules me room bodies body player form id named are first spells =
     subst (λ (r : Record). IsAllowed rules me room (records_of (take 0 bodies)) r) (reads_back body (Head player form id named) spells)
-        (body_allowed rules me room bodies 0 body are first)
+    (body_allowed rules me room bodies 0 body are first)
 
 pub not_refused : (rules : Rules) (me room : ℕ) (bodies : List (List ℕ)) (error : ReplayError) → AreJournalBodies rules me room bodies
     → IsRefusal rules me room bodies error → ⊥
@@ -86,10 +86,10 @@ no_earlier rules me room bodies n m before one other =
     let there = in_front bodies m n body before here in
     let spelled : Spells body (record_of body) =
     subst (λ (b : List ℕ). Spells b (record_of b)) (get_or_from_slice_get (take m bodies) n body [] there)
-        (other.before.spelled n [] (slice_get_within (take m bodies) n body there)) in
+    (other.before.spelled n [] (slice_get_within (take m bodies) n body there)) in
     let may : IsAllowed rules me room (records_of (take n bodies)) (record_of body) =
     subst (λ (early : List (List ℕ)). IsAllowed rules me room (records_of early) (record_of body))
-        (take-take n m bodies (omega (arith, before))) (body_allowed rules me room (take m bodies) n body other.before there) in
+    (take-take n m bodies (omega (arith, before))) (body_allowed rules me room (take m bodies) n body other.before there) in
     one.bad body (record_of body) here spelled may
 
 one_first_bad : (rules : Rules) (me room : ℕ) (bodies : List (List ℕ)) (n m : ℕ) → IsFirstBad rules me room bodies n
@@ -113,8 +113,8 @@ one_head : (bodies : List (List ℕ)) (p q : ℕ) (id other : List ℕ) (room na
 one_head bodies p q id other room named (body, form, first, spells) (again, another, second, spelled) =
     let same : again ≡ body = cc in
     let head : Head p form id room ≡ Head q another other named =
-        one_record body (Head p form id room) (Head q another other named) spells
-        (subst (λ (b : List ℕ). Spells b (Head q another other named)) same spelled) in
+    one_record body (Head p form id room) (Head q another other named) spells
+    (subst (λ (b : List ℕ). Spells b (Head q another other named)) same spelled) in
     record { player = cc; game = cc; match = cc }
 
 -- a HEAD at the beginning of all is at the beginning of the first n, unless n is 0

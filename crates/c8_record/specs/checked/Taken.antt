@@ -61,7 +61,7 @@ IsUnfitBody rules room past body WrongGame = (past.count ≡ 0) × (r : Record) 
 IsUnfitBody rules room past body WrongPlayer = (past.count ≡ 0) × (r : Record) × Spells body r × IsOfOtherPlayer rules past.known.me room r
 IsUnfitBody rules room past body (BadRecord n) =
     (n ≡ past.count) × ((r : Record) → Spells body r → past.count ≡ 0 → IsHead r → ⊥)
-        × ((r : Record) → Spells body r → IsAllowedAfter rules room past r → ⊥)
+    × ((r : Record) → Spells body r → IsAllowedAfter rules room past r → ⊥)
 IsUnfitBody rules room past body (Disk why) = ⊥
 
 -- if the record says something about checkpoints, it is allowed after these

@@ -1,10 +1,10 @@
 -- Checked, not believed: the parts of a roll, its newest mark, and from where it may be run.
-use Rattle.std.proofs.Common.{◌≡◌, ℕ, zero, suc, ◌+◌, ◌-◌, ◌*◌, ◌/◌, ◌≤◌, ◌<◌, List, ◌++◌, length, map, take, drop, Some, inl, inr, refl,
-  sym, ap, subst, ◌∙◌, arith}
+use Rattle.std.proofs.Common.{◌≡◌, ℕ, zero, suc, ◌+◌, ◌-◌, ◌*◌, ◌/◌, ◌≤◌, ◌<◌, List, ◌++◌, length, map, take, drop, Some, inl, inr, refl}
+use Rattle.std.proofs.Common.{sym, ap, subst, ◌∙◌, arith}
 use Rattle.std.specs.Prelude.{fold, min}
 use Rattle.std.specs.List.{slice_get, range_with_len}
-use Rattle.std.proofs.lemmas.List.{length-drop, length-append, length-take-le, get_or-take, get_or-drop, drop-append-le, drop-drop,
-  take-append-drop, map-append, same_lists}
+use Rattle.std.proofs.lemmas.List.{length-drop, length-append, length-take-le, get_or-take, get_or-drop, drop-append-le, drop-drop}
+use Rattle.std.proofs.lemmas.List.{take-append-drop, map-append, same_lists}
 use Rattle.std.proofs.lemmas.List.FromFn.{length-map-range_with_len, get_or-map-range_with_len}
 use Rattle.std.proofs.lemmas.List.Sums.{fold-append}
 use Rattle.std.proofs.lemmas.Bool.{cases_lt}
@@ -30,8 +30,10 @@ use Rattle.c8_roll.specs.Roll.{mark_since, marks_since, mark_after, marks_up_to,
 pub map_same_between : (g f : ℕ → FrameMark) (a n : ℕ) → ((i : ℕ) → a ≤ i → i < a + n → g i ≡ f i)
     → map g (range_with_len a n) ≡ map f (range_with_len a n)
 map_same_between g f a zero same = refl
-map_same_between g f a (suc n) same = rw (same a (omega arith) (omega arith),
-    map_same_between g f (a + 1) n (λ i low to. same i (omega (arith, low)) (omega (arith, to)))) refl
+map_same_between g f a (suc n) same = rw (
+  same a (omega arith) (omega arith),
+  map_same_between g f (a + 1) n (λ i low to. same i (omega (arith, low)) (omega (arith, to))),
+) refl
 
 -- the last of the marks at the first multiples is among the last sixteen
 newest_kept : (f : ℕ → FrameMark) (n : ℕ) → newest_of (kept (map f (range_with_len 0 (n + 1)))) ≡ Some (f n)
@@ -129,7 +131,7 @@ best_is_serial rules k from way =
     let sure = way.confirmed_is in
     run_is_serial rules from (best_rows k) (rows_below k from.frames) way.machine
     (rows_front (best_row k) k.ticks from.frames (omega (arith, most, sure))
-        ∙ map_same (best_row k) (row k) 0 from.frames (λ i to. best_of_confirmed k i (omega (arith, to, sure))))
+    ∙ map_same (best_row k) (row k) 0 from.frames (λ i to. best_of_confirmed k i (omega (arith, to, sure))))
 
 joined_ranges : (a n : ℕ) → range_with_len 0 a ++ range_with_len a n ≡ range_with_len 0 (a + n)
 joined_ranges a n = let from : a ≡ 0 + a = omega arith in ap (λ (b : ℕ). range_with_len 0 a ++ range_with_len b n) from ∙ sym (range_more 0 a n)
@@ -144,7 +146,7 @@ marks_on_the_way rules k from n way within =
     let all : first + count ≡ n / 32 + 1 = omega (arith, within) in
     let later : map g (range_with_len first count) ≡ map f (range_with_len first count) =
     map_same_between g f first count (λ i low to. ap (λ (s : State). record { frame = 32 * i; mark = mark_of s })
-        (confirmed_is_serial rules k from (32 * i) way (omega (arith, low)))) in
+    (confirmed_is_serial rules k from (32 * i) way (omega (arith, low)))) in
     ap (λ (marks : List FrameMark). kept (marks ++ map g (range_with_len first count))) way.marks
     ∙ kept_more (map f (range_with_len 0 first)) (map g (range_with_len first count))
     ∙ ap (λ (marks : List FrameMark). kept (map f (range_with_len 0 first) ++ marks)) later
@@ -188,19 +190,19 @@ since_kept rules from k n starts are =
             | inl low ↦
                 let was = are.each (gone + i) m (sym (slice_get-append_left from.marks later (gone + i) low) ∙ here) in
                 let same : 32 * (forgotten_after from.frames + (gone + i)) ≡ 32 * (forgotten_after n + i) =
-                    omega (arith, old, more, all, starts, low) in
+                omega (arith, old, more, all, starts, low) in
                 subst (λ (frame : ℕ). IsMarkAt frame m) same was
             | inr high ↦
                 let place : ℕ = gone + i - length from.marks in
                 let there_later : slice_get later place ≡ Some m =
-                    sym (slice_get-append_right from.marks later (gone + i) place (omega (arith, high))) ∙ here in
+                sym (slice_get-append_right from.marks later (gone + i) place (omega (arith, high))) ∙ here in
                 let below : place < count = omega (arith, more, slice_get_within later place m there_later) in
                 let is : g (first + place) ≡ m = sym (get_or-map-range_with_len g first count place (first + place) m below refl)
-                    ∙ get_or_from_slice_get later place m m there_later in
+                ∙ get_or_from_slice_get later place m m there_later in
                 let same : 32 * (first + place) ≡ 32 * (forgotten_after n + i) = omega (arith, old, more, all, starts, high, within) in
                 subst (λ (frame : ℕ). IsMarkAt frame m) same
-                    (subst (IsMarkAt (32 * (first + place))) is
-                    (mark_is_one (32 * (first + place)) (run_since rules from (rows_below k (32 * (first + place))))))
+                (subst (IsMarkAt (32 * (first + place))) is
+                (mark_is_one (32 * (first + place)) (run_since rules from (rows_below k (32 * (first + place))))))
           ];
     }
 

@@ -1,7 +1,7 @@
 -- Checked, not believed: what a watcher takes, and that its rows begin a list if all rows shown to it
 -- are of that list.
-use Rattle.std.proofs.Common.{◌≡◌, ◌≢◌, ℕ, ◌+◌, ◌-◌, ◌<◌, ◌≤◌, ◌||◌, List, [], ◌∷◌, ◌++◌, length, drop, Bool, true, false, not, cond,
-  Option, Some, None, Result, Ok, Err, refl, sym, ap, subst, ◌∙◌, append_assoc, inl, inr, arith}
+use Rattle.std.proofs.Common.{◌≡◌, ◌≢◌, ℕ, ◌+◌, ◌-◌, ◌<◌, ◌≤◌, ◌||◌, List, [], ◌∷◌, ◌++◌, length, drop, Bool, true, false, not, cond}
+use Rattle.std.proofs.Common.{Option, Some, None, Result, Ok, Err, refl, sym, ap, subst, ◌∙◌, append_assoc, inl, inr, arith}
 use Rattle.std.specs.Prelude.{◌==◌, nat_lt}
 use Rattle.std.proofs.Math.Seq.{drop-append_seam}
 use Rattle.std.proofs.lemmas.Bool.{cases_Bool, eq-eqb, eqb-true, le-ltb, ltb-false, not-false}
@@ -18,8 +18,8 @@ use Rattle.c8_spectator.specs.declared.error.WatchError.TheVariants as errors
 use Rattle.c8_spectator.specs.declared.error.NotTaken.TheVariants as refusals
 use Rattle.c8_spectator.specs.declared.taken.Taken.{Taken}
 use Rattle.c8_spectator.specs.declared.taken.Taken.TheVariants as answers
-use Rattle.c8_spectator.specs.Watching.{WatchValue, Watched, is_of_other_match, are_of_game, are_same, differ, refusal_of_rows,
-  refusal_of_message, refusal, fresh_rows, rows_in, with_rows, taken_of, unless_refused, hear}
+use Rattle.c8_spectator.specs.Watching.{WatchValue, Watched, is_of_other_match, are_of_game, are_same, differ, refusal_of_rows}
+use Rattle.c8_spectator.specs.Watching.{refusal_of_message, refusal, fresh_rows, rows_in, with_rows, taken_of, unless_refused, hear}
 use Rattle.c8_spectator.specs.Growth.{IsStillWatched, IsTaken, ShowsRowsOf}
 
 -- ---- no row is taken back
@@ -135,7 +135,7 @@ reach_of w m after = omega (arith, after, length-append w.rows (fresh_rows w m),
 pub taken_reaches : (w : WatchValue) (p : Packet) (is : IsTaken w p) → is.shown.start + length is.shown.rows ≤ length (hear w (Ok p)).watch.rows
 taken_reaches w p is =
     subst (λ (watched : Watched). is.shown.start + length is.shown.rows ≤ length watched.watch.rows) (sym (taken_heard w p is))
-        (reach_of w is.shown is.after)
+    (reach_of w is.shown is.after)
 
 -- ---- only new rows change what a watcher has
 
@@ -180,7 +180,7 @@ within_by w p (Some error) refused few = few
 within_by w p None none few =
     let is = unrefused w p none in
     subst (λ (message : Message). length (w.rows ++ rows_in w message) ≤ w.rules.frames) (sym is.message)
-        (within_taken w is.shown few is.within is.after)
+    (within_taken w is.shown few is.within is.after)
 
 pub within_heard : (w : WatchValue) (told : Result Packet WireError) → length w.rows ≤ w.rules.frames
     → length (hear w told).watch.rows ≤ (hear w told).watch.rules.frames
@@ -200,7 +200,7 @@ begins_fresh {X = X} held part list start after begins stands =
     let whole : start + new ≡ length held = omega (arith, after) in
     let rest : drop new (drop start list) ≡ begins.rest =
     drop-drop new start list ∙ ap (λ (n : ℕ). drop n list) whole ∙ ap (λ (all : List X). drop (length held) all) begins.is
-        ∙ drop-append_seam held begins.rest in
+    ∙ drop-append_seam held begins.rest in
     record {
       rest = more.rest;
       is = begins.is ∙ ap (λ (later : List X). held ++ later) (sym rest ∙ more.is) ∙ sym (append_assoc held (drop new part) more.rest);
@@ -234,8 +234,12 @@ truth_shown truth w p m is begins stands = truth_heard truth w p begins (shows_o
 
 same_as_itself : (row : Row) → are_same row row ≡ true
 same_as_itself row =
-    rw (eq-eqb (set_at row 0) (set_at row 0) refl, eq-eqb (set_at row 1) (set_at row 1) refl, eq-eqb (set_at row 2) (set_at row 2) refl,
-        eq-eqb (set_at row 3) (set_at row 3) refl)
+    rw (
+      eq-eqb (set_at row 0) (set_at row 0) refl,
+      eq-eqb (set_at row 1) (set_at row 1) refl,
+      eq-eqb (set_at row 2) (set_at row 2) refl,
+      eq-eqb (set_at row 3) (set_at row 3) refl,
+    )
     refl
 
 same_front : (rows others more rest : List Row) → rows ++ more ≡ others ++ rest → differ rows others ≡ false
@@ -246,7 +250,7 @@ same_front (row ∷ rows) (other ∷ others) more rest e =
     let head : row ≡ other = cc in
     let tail : rows ++ more ≡ others ++ rest = cc in
     ap (λ (test : Bool). not test || differ rows others) (ap (λ (second : Row). are_same row second) (sym head) ∙ same_as_itself row)
-        ∙ same_front rows others more rest tail
+    ∙ same_front rows others more rest tail
 
 pub begin_one : (rows others truth : List Row) → Begins rows truth → Begins others truth → differ rows others ≡ false
 begin_one rows others truth one two = same_front rows others one.rest two.rest (sym one.is ∙ two.is)

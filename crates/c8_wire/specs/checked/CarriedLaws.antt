@@ -70,7 +70,7 @@ carried_words words =
       | inl short ↦
           let same = fits_words words (length words) (omega arith) (omega (arith, short)) (λ below. refl) in
           ap (λ (n : ℕ). take n words) (sym same) ∙ take_all (length words) words (omega arith)
-              ∙ sym (take_all longest_run words (omega (arith, short)))
+          ∙ sym (take_all longest_run words (omega (arith, short)))
       | inr long ↦
           let same = fits_words words longest_run long (omega arith) (λ below. absurd (omega (arith, below))) in
           ap (λ (n : ℕ). take n words) (sym same)

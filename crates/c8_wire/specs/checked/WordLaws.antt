@@ -1,6 +1,6 @@
 -- Checked, not believed: the key sets of a run, by the bytes that spell them.
-use Rattle.std.proofs.Common.{◌≡◌, ℕ, zero, suc, ◌+◌, ◌*◌, ◌/◌, ◌%◌, ◌^◌, ◌<◌, List, [], ◌∷◌, ◌++◌, length, get_or, drop, Some, refl, sym,
-  ap, ◌∙◌, arith}
+use Rattle.std.proofs.Common.{◌≡◌, ℕ, zero, suc, ◌+◌, ◌*◌, ◌/◌, ◌%◌, ◌^◌, ◌<◌, List, [], ◌∷◌, ◌++◌, length, get_or, drop, Some, refl, sym}
+use Rattle.std.proofs.Common.{ap, ◌∙◌, arith}
 use Rattle.std.specs.Prelude.{slice_get}
 use Rattle.std.specs.List.{flat_map}
 use Rattle.byteorder.specs.Endian.{big_bytes, big_number}
@@ -45,7 +45,7 @@ spelled_words [] even fits = refl
 spelled_words (high ∷ []) even fits = absurd (omega arith)
 spelled_words (high ∷ low ∷ rest) even fits =
     let back : big_bytes 2 (high * 256 + low) ≡ high ∷ low ∷ [] =
-        ap (big_bytes 2) (omega arith) ∙ big_bytes-big_number 2 (high ∷ low ∷ rest) (omega arith) fits in
+    ap (big_bytes 2) (omega arith) ∙ big_bytes-big_number 2 (high ∷ low ∷ rest) (omega arith) fits in
     let others = spelled_words rest (omega arith) (λ i. fits (suc (suc i))) in
     ap (λ (front : List ℕ). front ++ flat_map (big_bytes 2) (words_of rest)) back ∙ ap (λ (tail : List ℕ). high ∷ low ∷ tail) others
 

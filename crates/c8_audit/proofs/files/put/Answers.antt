@@ -10,6 +10,6 @@ returns c =
     let journals = c.args.journals.now in
     let free : named_at (slice_get journals c.place.result) ≡ None =
     ap (λ n. named_at (slice_get journals n)) c.place.ensures.value ∙ sym c.named_of.ensures
-        ∙ none_is c.named_of.result (sym c.is_some.ensures ∙ c.if-is_some.false) in
+    ∙ none_is c.named_of.result (sym c.is_some.ensures ∙ c.if-is_some.false) in
     let put = put_free journals c.place.result c.args.journal (c.place.ensures.next ∙ c.requires) (omega (arith, c.place.ensures.below)) free in
     record { seen = put.seen; named = put.named }

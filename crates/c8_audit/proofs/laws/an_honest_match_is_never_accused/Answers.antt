@@ -11,6 +11,7 @@ pub returns-clause-agree : goal.returns-clause-agree
 returns-clause-agree c = honest_agreed c.worlds_are_lawful.ensures
 
 pub returns-clause-journals : goal.returns-clause-journals
-returns-clause-journals c = λ rules room e range few honest p r is.
-    (first_journal c.worlds_are_lawful.ensures rules room e range few honest p r is,
-        later_journal c.worlds_are_lawful.ensures rules room e range few honest p r is)
+returns-clause-journals c = λ rules room e range few honest p r is. (
+  first_journal c.worlds_are_lawful.ensures rules room e range few honest p r is,
+  later_journal c.worlds_are_lawful.ensures rules room e range few honest p r is,
+)

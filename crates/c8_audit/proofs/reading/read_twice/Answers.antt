@@ -10,21 +10,21 @@ pub returns-clause-read : goal.returns-clause-read
 returns-clause-read c =
     rw (c.joined.ensures.named, c.joined.ensures.first)
     (read_is c.args.game.now (first_bytes c.args.file.now) (later_bytes c.args.file.now) c.in-Ok.one.room c.in-Ok.one.known
-        c.in-Ok-known_later.later (value_of c.in-Ok.one.checks)
+    c.in-Ok-known_later.later (value_of c.in-Ok.one.checks)
     (rw c.deref.ensures.value at c.in-Ok.ensures.journal) c.in-Ok-known_later.ensures.later c.me-player.ensures.known c.in-Ok.ensures.of_game)
 
 pub returns-clause-seen : goal.returns-clause-seen
 returns-clause-seen c =
     rw (c.joined.ensures.first, c.joined.ensures.later, c.joined.ensures.checks)
     (seen_is c.args.game.now (first_bytes c.args.file.now) (later_bytes c.args.file.now) c.in-Ok.one.room c.in-Ok.one.known
-        c.in-Ok-known_later.later (value_of c.in-Ok.one.checks)
+    c.in-Ok-known_later.later (value_of c.in-Ok.one.checks)
     (rw c.deref.ensures.value at c.in-Ok.ensures.journal) c.in-Ok-known_later.ensures.later)
 
 pub returns-clause-named : goal.returns-clause-named
 returns-clause-named c =
     rw c.joined.ensures.first
     (head_names (kept (first_bytes c.args.file.now)) c.in-Ok.one.known.me (id_of c.args.game.now) c.in-Ok.one.room
-        (rw c.deref.ensures.value at c.in-Ok.ensures.journal).head)
+    (rw c.deref.ensures.value at c.in-Ok.ensures.journal).head)
 
 pub returns-clause-head : goal.returns-clause-head
 returns-clause-head c =
@@ -37,4 +37,4 @@ pub returns-in-Err-known_later-clause-unread : goal.returns-in-Err-known_later-c
 returns-in-Err-known_later-clause-unread c =
     let head = (rw c.deref.ensures.value at c.in-Ok.ensures.journal).head in
     unread_again c.args.game.now (first_bytes c.args.file.now) (later_bytes c.args.file.now) c.in-Ok.one.known.me c.in-Ok.one.room
-        c.in-Err-known_later.why head c.in-Err-known_later.ensures.unread
+    c.in-Err-known_later.why head c.in-Err-known_later.ensures.unread

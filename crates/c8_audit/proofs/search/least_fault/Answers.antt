@@ -10,7 +10,7 @@ loop-number-preserved c =
     let all = all_seen c.args.journals.now in
     subst (λ (least : Option Fault). IsLeastBelow c.args.question all (c.loop-number.number + 1) least) (sym c.earlier-least.ensures)
     (below_more c.args.question all c.loop-number.number c.loop-number.least c.least_of.result
-        (below_five c.requires.0 c.args.question all c.requires.1) c.loop-number.invariant c.least_of.ensures)
+    (below_five c.requires.0 c.args.question all c.requires.1) c.loop-number.invariant c.least_of.ensures)
 
 pub returns : goal.returns
 returns c =

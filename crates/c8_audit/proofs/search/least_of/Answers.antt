@@ -10,4 +10,4 @@ loop-number-preserved c =
     let all = all_seen c.args.journals.now in
     subst (λ (least : Option Fault). IsLeastOf c.args.question all c.args.one.number (c.loop-number.number + 1) least) (sym c.earlier-least.ensures)
     (least_of_next c.args.question all c.args.one.number c.loop-number.number c.loop-number.least c.first_fault.result
-        c.loop-number.invariant c.first_fault.ensures)
+    c.loop-number.invariant c.first_fault.ensures)

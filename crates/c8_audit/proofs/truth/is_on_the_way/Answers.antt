@@ -17,7 +17,7 @@ returns-then-not-has_mark c =
       λ never. absurd cc,
       λ way.
           let has : HasMark last.frames last.marks frame (mark_of (serial c.args.game.now (rows_below k frame))) =
-              marks_then c.args.game.now k last.frames last.marks (frame + 1) way.marks frame (omega arith) in
+          marks_then c.args.game.now k last.frames last.marks (frame + 1) way.marks frame (omega arith) in
           c.if-not-has_mark.ensures.1 (subst (λ (s : State). HasMark last.frames last.marks frame (mark_of s)) (sym c.loop-frame.invariant.run) has),
     )
 
@@ -61,6 +61,6 @@ returns-else-has_mark c =
       λ has. absurd cc,
       λ way.
           let has : HasMark last.frames last.marks last.frames (mark_of (serial rules (rows_below k last.frames))) =
-              marks_then rules k last.frames last.marks (last.frames + 1) way.marks last.frames (omega arith) in
+          marks_then rules k last.frames last.marks (last.frames + 1) way.marks last.frames (omega arith) in
           c.has_mark-2.ensures.1 (subst (λ (s : State). HasMark last.frames last.marks last.frames (mark_of s)) (sym run) has),
     )

@@ -17,14 +17,14 @@ returns-in-Err-read-clause-audited g c = told_no_game c.refuse_game.result c.der
 pub returns-in-Ok-gather_files-clause-audited : goal.returns-in-Ok-gather_files-clause-audited
 returns-in-Ok-gather_files-clause-audited g c =
     told_judged c.a_yes_of_files_means_agreement.ensures c.in-Ok-read.game c.gather_files.new.readings
-        c.in-Ok-gather_files.gathered.journals c.in-Ok-gather_files.ensures.gathered c.in-Ok-gather_files.ensures.one_match
+    c.in-Ok-gather_files.gathered.journals c.in-Ok-gather_files.ensures.gathered c.in-Ok-gather_files.ensures.one_match
     c.deref.result.now c.judge_all.result c.in-Ok-read.ensures.game c.judge_all.ensures.judged
 
 pub returns-clause-audited : goal.returns-clause-audited
 returns-clause-audited g c =
     told_unjudged c.refuse-in-Err-gather_files.result c.in-Err-gather_files.unjudged.fault
     (unjudged_by c.deref.result.now c.in-Ok-read.game c.gather_files.new.readings c.in-Err-gather_files.unjudged.fault
-        c.in-Ok-read.ensures.game c.in-Err-gather_files.ensures.refused)
+    c.in-Ok-read.ensures.game c.in-Err-gather_files.ensures.refused)
     c.refuse-in-Err-gather_files.ensures
 
 pub returns-in-Err-clause-printed : goal.returns-in-Err-clause-printed

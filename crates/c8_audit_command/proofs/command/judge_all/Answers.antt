@@ -7,7 +7,7 @@ pub returns-in-Some-clause-judged : goal.returns-in-Some-clause-judged
 returns-in-Some-clause-judged g c =
     let told = c.in_ok-fault.ensures in
     told_no c.args.game.now (all_seen c.args.gathered.now.journals) c.tell_at.result c.in-Some.fault told.0 told.1
-        (sym c.in-Some.is ∙ told.2) c.tell_at.ensures
+    (sym c.in-Some.is ∙ told.2) c.tell_at.ensures
 
 pub returns-in-None-clause-judged : goal.returns-in-None-clause-judged
 returns-in-None-clause-judged g c =

@@ -9,5 +9,5 @@ loop-byte-preserved g c =
     let style = c.laid_out.result in
     grows_then (g.W.Write.contents c.args.out.now) (g.W.Write.contents c.loop-byte.out) (g.W.Write.contents c.write.new.self) c.loop-byte.invariant
     (some_of (padded_integral style false (shown_prefix style (radix_prefix c.in_radix.result.base)))
-        (Appends (g.W.Write.contents c.loop-byte.out) (g.W.Write.contents c.write.new.self)) (digits_output c.in_radix.result) _ c.in_radix.ensures
+    (Appends (g.W.Write.contents c.loop-byte.out) (g.W.Write.contents c.write.new.self)) (digits_output c.in_radix.result) _ c.in_radix.ensures
     c.in_ok-write.ensures.bytes)

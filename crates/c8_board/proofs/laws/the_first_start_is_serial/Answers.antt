@@ -7,4 +7,4 @@ use Rattle.c8_board.proofs.laws.the_first_start_is_serial.Goals as goal
 pub returns : goal.returns
 returns c rules rows range =
     ap (λ (first : State). fold (λ s row. frame_of rules (joined rules row) s) first rows)
-        (c.states_are_read_again.ensures (first_state rules) (c.states_stay_in_range.ensures.first rules range))
+    (c.states_are_read_again.ensures (first_state rules) (c.states_stay_in_range.ensures.first rules range))

@@ -12,4 +12,4 @@ returns-in-Some c =
     let long = c.requires ∙ ap (λ (b : Bool). cond b 68 128) (ne_eqb c.args.piece 34 apart) in
     let all = take_all 128 c.args.bytes.now (omega (arith, long)) in
     rw (ne_eqb c.args.piece 34 apart) (rw (eq-eqb c.args.piece 35 c.if-piece-eq-PIECE_OF_MARKS.true)
-        (c.are_marks.ensures ∙ ap (are_marks c.args.frames) (c.in-Some.ensures.cases.same ∙ all)))
+    (c.are_marks.ensures ∙ ap (are_marks c.args.frames) (c.in-Some.ensures.cases.same ∙ all)))

@@ -15,11 +15,11 @@ returns-clause-bytes c =
     let stack : List ℕ = c.stack.result.now in
     let all =
     appended before c.registers.result.now c.to_be_bytes.result c.to_be_bytes-2.result (length stack ∷ [])
-        (flat_map (to_be_bytes w16) (places stack)) (screen_bytes (points_of c.screen.result.now)) (rest_bytes s)
+    (flat_map (to_be_bytes w16) (places stack)) (screen_bytes (points_of c.screen.result.now)) (rest_bytes s)
     before c.put.new.out.items c.put-2.new.out.items c.put-3.new.out.items c.put_stack.new.out.items c.put_screen.new.out.items
-        c.put_rest.new.out.items
+    c.put_rest.new.out.items
     refl c.put.ensures.bytes c.put-2.ensures.bytes c.put-3.ensures.bytes c.put_stack.ensures.bytes c.put_screen.ensures.bytes
-        c.put_rest.ensures.bytes in
+    c.put_rest.ensures.bytes in
     let address = c.to_be_bytes.ensures ∙ ap (to_be_bytes w16) c.address.ensures.value in
     let counter = c.to_be_bytes-2.ensures ∙ ap (to_be_bytes w16) c.counter.ensures.value in
     all

@@ -11,6 +11,6 @@ loop-k-preserved c = record {
   size = omega (arith, length-set c.loop-k.places c.loop-k.k c.from_be_bytes.result, c.loop-k.invariant.size);
   items =
       set_next (place_at c.args.bytes.now) c.loop-k.places c.loop-k.k c.from_be_bytes.result
-          (omega (arith, c.loop-k-test.true, c.loop-k.invariant.size)) c.loop-k.invariant.items
+      (omega (arith, c.loop-k-test.true, c.loop-k.invariant.size)) c.loop-k.invariant.items
       (c.from_be_bytes.ensures ∙ ap (from_be_bytes w16) c.part_at.ensures);
 }

@@ -20,7 +20,7 @@ pub returns-else-eq-clause-none : goal.returns-else-eq-clause-none
 returns-else-eq-clause-none c = λ none s is same.
     let read = state_read s c.args.bytes.now c.parts_in.result is same (omega arith) c.parts_in.ensures in
     let spelled = c.as_slice.ensures.value ∙ c.spelled.ensures.bytes ∙ ap state_bytes (c.in_ok-machine.ensures.found ∙ read.0) ∙ same
-        ∙ sym c.as_slice-2.ensures in
+    ∙ sym c.as_slice-2.ensures in
     both_ways c.eq.result c.if-eq.false (c.eq.ensures ∙ (bytes_decides _ _).1 spelled)
 
 pub returns-then-eq-clause-state : goal.returns-then-eq-clause-state

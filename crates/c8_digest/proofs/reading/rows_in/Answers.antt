@@ -11,6 +11,6 @@ loop-y-preserved c = record {
   size = omega (arith, length-set c.loop-y.rows c.loop-y.y c.from_be_bytes.result, c.loop-y.invariant.size);
   items =
       set_next (row_at c.args.bytes.now) c.loop-y.rows c.loop-y.y c.from_be_bytes.result
-          (omega (arith, c.loop-y-test.true, c.loop-y.invariant.size)) c.loop-y.invariant.items
+      (omega (arith, c.loop-y-test.true, c.loop-y.invariant.size)) c.loop-y.invariant.items
       (c.from_be_bytes.ensures ∙ ap (from_be_bytes w64) c.part_at.ensures);
 }

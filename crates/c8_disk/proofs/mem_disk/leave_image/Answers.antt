@@ -47,10 +47,10 @@ returns-then-pick-ne0-clause-image c =
     let front = c.split_at.ensures.front ∙ ap (λ (n : ℕ). take n calls) c.count_synced.ensures in
     let back = c.split_at.ensures.back ∙ ap (λ (n : ℕ). drop n calls) c.count_synced.ensures in
     let is : c.replace.new.file.items ≡ synced first calls =
-        c.replace.ensures.items ∙ c.deref.ensures.value ∙ c.replay.ensures.content ∙ ap (content first) front in
+    c.replace.ensures.items ∙ c.deref.ensures.value ∙ c.replay.ensures.content ∙ ap (content first) front in
     let torn = subst (λ (l : List Call). TornBy l c.replace.new.file.items c.tear_all.new.file.items) back c.tear_all.ensures.torn in
     torn_is_image first calls c.requires.lawful c.tear_all.new.file.items
-        (subst (λ (l : List ℕ). TornBy (drop (synced_count calls) calls) l c.tear_all.new.file.items) is torn)
+    (subst (λ (l : List ℕ). TornBy (drop (synced_count calls) calls) l c.tear_all.new.file.items) is torn)
 
 pub returns-else-pick-ne0-clause-image : goal.returns-else-pick-ne0-clause-image
 returns-else-pick-ne0-clause-image c =
@@ -58,7 +58,7 @@ returns-else-pick-ne0-clause-image c =
     let first = c.args.first.now.items in
     let front = c.split_at.ensures.front ∙ ap (λ (n : ℕ). take n calls) c.count_synced.ensures in
     let is : c.replace.new.file.items ≡ synced first calls =
-        c.replace.ensures.items ∙ c.deref.ensures.value ∙ c.replay.ensures.content ∙ ap (content first) front in
+    c.replace.ensures.items ∙ c.deref.ensures.value ∙ c.replay.ensures.content ∙ ap (content first) front in
     subst (IsImage first calls) (sym is) (synced_is_image first calls c.requires.lawful)
 
 -- an image is no longer than what a read gives
@@ -69,11 +69,11 @@ within first calls bytes image lawful same left = let less = image_within first 
 pub returns-then-pick-ne0-clause-no_longer : goal.returns-then-pick-ne0-clause-no_longer
 returns-then-pick-ne0-clause-no_longer c =
     let less = within c.args.first.now.items c.args.calls.now c.args.bytes.now.items c.tear_all.new.file.items c.requires.lawful
-        c.requires.replayed (returns-then-pick-ne0-clause-image c) in
+    c.requires.replayed (returns-then-pick-ne0-clause-image c) in
     omega (arith, less)
 
 pub returns-else-pick-ne0-clause-no_longer : goal.returns-else-pick-ne0-clause-no_longer
 returns-else-pick-ne0-clause-no_longer c =
     let less = within c.args.first.now.items c.args.calls.now c.args.bytes.now.items c.replace.new.file.items c.requires.lawful
-        c.requires.replayed (returns-else-pick-ne0-clause-image c) in
+    c.requires.replayed (returns-else-pick-ne0-clause-image c) in
     omega (arith, less)

@@ -16,7 +16,7 @@ returns-clause-now g c step start k most from count before after is fewer =
 pub returns-clause-stays : goal.returns-clause-stays
 returns-clause-stays g c step start k most from count n before after is confirmed_is within =
     state_now step start k most from count n before after is within
-        ∙ ap (λ (rows : List Row). Some (run step start rows)) (best_confirmed k n confirmed_is)
+    ∙ ap (λ (rows : List Row). Some (run step start rows)) (best_confirmed k n confirmed_is)
 
 pub returns-clause-same : goal.returns-clause-same
 returns-clause-same g c step start k j n same = ap (λ (rows : List Row). run step start rows) same

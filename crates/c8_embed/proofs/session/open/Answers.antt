@@ -8,9 +8,9 @@ pub returns-in-Ok : goal.returns-in-Ok
 returns-in-Ok c =
     let given : GivenValue = record { from = c.in-Ok.taken.from.number; counter = c.in-Ok.taken.counter; datagram = c.in-Ok.taken.datagram.now } in
     subst (λ (before : Option SealerValue). IsOpenedAs before c.args.bytes.now (Ok c.in-Ok.taken.datagram.now) (Some c.open.new.self))
-        (sym c.in-Some.is) (given, c.open.new.self, c.in-Ok.ensures.taken, refl, refl)
+    (sym c.in-Some.is) (given, c.open.new.self, c.in-Ok.ensures.taken, refl, refl)
 
 pub returns-in-Err : goal.returns-in-Err
 returns-in-Err c =
     subst (λ (before : Option SealerValue). IsOpenedAs before c.args.bytes.now (Err c.in-Err.why) (Some c.open.new.self)) (sym c.in-Some.is)
-        (c.open.new.self, c.in-Err.ensures.taken, refl)
+    (c.open.new.self, c.in-Err.ensures.taken, refl)

@@ -6,7 +6,7 @@ use Rattle.c8_embed.proofs.session.wrap.Goals as goal
 pub returns-in-Ok-clause-wrapped : goal.returns-in-Ok-clause-wrapped
 returns-in-Ok-clause-wrapped c =
     subst (λ (before : Option SealerValue). IsWrapped before c.args.datagram.now c.in-Ok.size c.seal.new.out (Some c.seal.new.self))
-        (sym c.in-Some.is) (c.seal.new.self, c.in-Ok.ensures.sealed, refl)
+    (sym c.in-Some.is) (c.seal.new.self, c.in-Ok.ensures.sealed, refl)
 
 pub returns-in-Err-clause-wrapped : goal.returns-in-Err-clause-wrapped
 returns-in-Err-clause-wrapped c = ap (λ (s : SealerValue). Some s) c.in-Err.ensures.refused.1 ∙ sym c.in-Some.is

@@ -7,24 +7,24 @@ use Rattle.c8_game.proofs.game.drafted.Goals as goal
 pub loop-line-init : goal.loop-line-init
 loop-line-init c =
     nothing_read c.new-draft.result (lines c.args.text.now) (lines_left c.into_iter-line-iterator.result)
-        (ap lines_left c.into_iter-line-iterator.ensures.into_iter_gives ∙ c.new-line-items.ensures) c.new-draft.ensures
+    (ap lines_left c.into_iter-line-iterator.ensures.into_iter_gives ∙ c.new-line-items.ensures) c.new-draft.ensures
 
 pub overflow_add-place : goal.overflow_add-place
 overflow_add-place c =
     let room = has_room c.loop-line.draft c.args.text.now (lines_left c.loop-line.line-iterator) (lines_left c.next.new.self)
-        c.in-Some.line.now c.loop-line.place c.in-Some.ensures.steps c.loop-line.invariant in
+    c.in-Some.line.now c.loop-line.place c.in-Some.ensures.steps c.loop-line.invariant in
     omega (arith, room)
 
 pub loop-line-preserved : goal.loop-line-preserved
 loop-line-preserved c =
     one_more_read c.loop-line.draft c.add.new.self (lines c.args.text.now) (lines_left c.loop-line.line-iterator)
-        (lines_left c.next.new.self) c.in-Some.line.now c.loop-line.place c.add.result c.in-Some.ensures.steps c.in_default.is
+    (lines_left c.next.new.self) c.in-Some.line.now c.loop-line.place c.add.result c.in-Some.ensures.steps c.in_default.is
     c.loop-line.invariant c.add.ensures
 
 pub returns-in-Err : goal.returns-in-Err
 returns-in-Err c =
     fault_read c.loop-line.draft c.add.new.self c.args.text.now (lines_left c.loop-line.line-iterator) (lines_left c.next.new.self)
-        c.in-Some.line.now c.loop-line.place c.in-Err.error c.add.result c.in-Some.ensures.steps c.in-Err.is
+    c.in-Some.line.now c.loop-line.place c.in-Err.error c.add.result c.in-Some.ensures.steps c.in-Err.is
     c.loop-line.invariant c.add.ensures
 
 pub returns : goal.returns

@@ -8,5 +8,8 @@ pub returns-in_default-record : goal.returns-in_default-record
 returns-in_default-record c =
     let lent = c.in-Some.record in
     let spells = rw (c.in-Some.is) at c.view.ensures.value in
-    inl (refl, other_kind (kept c.args.image.now) c.kept_body.result.now (value_of lent) c.kept_body.ensures spells
-        (not_head lent c.in_default-record.not-Head))
+    inl (
+      refl,
+      other_kind (kept c.args.image.now) c.kept_body.result.now (value_of lent) c.kept_body.ensures spells
+          (not_head lent c.in_default-record.not-Head),
+    )

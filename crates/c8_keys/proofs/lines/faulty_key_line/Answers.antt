@@ -12,8 +12,8 @@ loop-line-preserved c =
     let before = c.loop-line.invariant in
     let n = c.players.result in
     let spelt : is_key_line n line ≡ true = found_some c.row_in.result (is_key_line n line ≡ false)
-        (λ row. (is_key_line n line ≡ true) × (row ≡ row_of n line)) (is_key_line n line ≡ true) c.if-is_none.ensures c.row_in.ensures
-        (λ row found. found.0) in
+    (λ row. (is_key_line n line ≡ true) × (row ≡ row_of n line)) (is_key_line n line ≡ true) c.if-is_none.ensures c.row_in.ensures
+    (λ row found. found.0) in
     let good : is_key_line game.players line ≡ true = rw (← c.players.ensures.value) spelt in
     record {
       seen = before.seen ++ line ∷ [];
@@ -29,7 +29,7 @@ pub returns-then-frames : goal.returns-then-frames
 returns-then-frames c =
     let before = c.loop-line.invariant in
     long_here c.args.game.now c.args.keys.now before.seen c.in-Some.line.now _ c.loop-line.frames
-        (before.cut ∙ ap (λ left. before.seen ++ left) c.in-Some.ensures.steps) before.here before.faultless
+    (before.cut ∙ ap (λ left. before.seen ++ left) c.in-Some.ensures.steps) before.here before.faultless
     (omega (arith, c.if-frames.true, c.frames.ensures.value, before.here))
 
 -- the line is no key line, and those before it are
@@ -40,8 +40,8 @@ returns-then-is_none c =
     let before = c.loop-line.invariant in
     let n = c.players.result in
     let none : is_key_line n line ≡ false = found_none c.row_in.result (is_key_line n line ≡ false)
-        (λ row. (is_key_line n line ≡ true) × (row ≡ row_of n line)) c.if-is_none.ensures c.row_in.ensures in
+    (λ row. (is_key_line n line ≡ true) × (row ≡ row_of n line)) c.if-is_none.ensures c.row_in.ensures in
     let bad : is_key_line game.players line ≡ false = rw (← c.players.ensures.value) none in
     bad_here game c.args.keys.now before.seen line _ c.loop-line.frames
-        (before.cut ∙ ap (λ left. before.seen ++ left) c.in-Some.ensures.steps) before.here before.faultless
+    (before.cut ∙ ap (λ left. before.seen ++ left) c.in-Some.ensures.steps) before.here before.faultless
     (omega (arith, c.if-frames.false, c.frames.ensures.value, before.within, before.here)) bad

@@ -23,7 +23,7 @@ loop-line-preserved c =
       within = omega arith;
       machine =
           c.frame.ensures.serial (map (row_of game.players) before.seen) (row_of game.players line) before.machine
-              (c.joined.ensures ∙ ap (joined game) spelt.1)
+          (c.joined.ensures ∙ ap (joined game) spelt.1)
           ∙ ap (serial game) (sym (map-append (row_of game.players) before.seen (line ∷ [])));
     }
 
@@ -32,7 +32,7 @@ pub returns-then-played-frames : goal.returns-then-played-frames
 returns-then-played-frames c =
     let before = c.loop-line.invariant in
     first_long c.args.game.now c.args.keys.now before.seen c.in-Some.line.now _
-        (before.cut ∙ ap (λ left. before.seen ++ left) c.in-Some.ensures.steps) before.faultless
+    (before.cut ∙ ap (λ left. before.seen ++ left) c.in-Some.ensures.steps) before.faultless
     (omega (arith, c.if-played-frames.true, c.frames.ensures.value, before.frames))
 
 -- the line is no key line, and those before it are
@@ -43,7 +43,7 @@ returns-in_default c =
     let before = c.loop-line.invariant in
     let n = c.players.result in
     let none : is_key_line n line ≡ false = unspelt c.row_in.result (is_key_line n line ≡ false)
-        (λ row. (is_key_line n line ≡ true) × (row ≡ row_of n line)) c.in_default.not-Some c.row_in.ensures in
+    (λ row. (is_key_line n line ≡ true) × (row ≡ row_of n line)) c.in_default.not-Some c.row_in.ensures in
     let bad : is_key_line game.players line ≡ false = rw (← c.players.ensures.value) none in
     first_bad game c.args.keys.now before.seen line _ (before.cut ∙ ap (λ left. before.seen ++ left) c.in-Some.ensures.steps) before.faultless
     (omega (arith, c.if-played-frames.false, c.frames.ensures.value, before.within, before.frames)) bad

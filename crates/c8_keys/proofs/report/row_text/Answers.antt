@@ -6,4 +6,4 @@ use Rattle.c8_keys.proofs.report.row_text.Goals as goal
 pub returns : goal.returns
 returns c =
     row_is (points_of c.args.screen.now) c.args.y c.loop-x.text c.loop-x.invariant.length
-        (λ x below. c.loop-x.invariant.marked x (let end = c.loop-x-test.false in omega (arith, below, end))) c.loop-x.invariant.end
+    (λ x below. c.loop-x.invariant.marked x (let end = c.loop-x-test.false in omega (arith, below, end))) c.loop-x.invariant.end

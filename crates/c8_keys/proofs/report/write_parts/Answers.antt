@@ -10,9 +10,9 @@ returns g c =
     let timers = g.W.Write.contents c.writeln-2.new.self in
     let stack = g.W.Write.contents c.write_stack.new.out in
     let first = grows_two start counters _ _ (codes "pc ") (codes " i ") _ _ _ _ c.in_radix.ensures c.in_radix-2.ensures _ (known _)
-        c.in_ok-writeln.ensures.bytes in
+    c.in_ok-writeln.ensures.bytes in
     let second = grows_two registers timers _ _ (codes "timer ") (codes " tone ") _ _ _ _ c.in_radix-3.ensures c.in_radix-4.ensures _
-        (known _) c.in_ok-writeln-2.ensures.bytes in
+    (known _) c.in_ok-writeln-2.ensures.bytes in
     grows_more start stack (g.W.Write.contents c.write_condition.new.out) c.write_condition.result
     (grows_then start timers stack (grows_then start registers timers
-        (grows_then start counters registers first c.in_ok-write_registers.ensures) second) c.in_ok-write_stack.ensures) c.write_condition.ensures
+    (grows_then start counters registers first c.in_ok-write_registers.ensures) second) c.in_ok-write_stack.ensures) c.write_condition.ensures

@@ -5,5 +5,5 @@ use Rattle.c8_keys.proofs.report.write_report.Goals as goal
 pub returns : goal.returns
 returns g c =
     reports (g.W.Write.contents c.args.out.now) (g.W.Write.contents c.writeln.new.self) (g.W.Write.contents c.write_parts.new.out)
-        (g.W.Write.contents c.write_screen.new.out) (points_of c.screen.result.now) c.args.played.now
+    (g.W.Write.contents c.write_screen.new.out) (points_of c.screen.result.now) c.args.played.now
     c.write_screen.result c.screen.ensures c.in_ok-writeln.ensures.bytes c.in_ok-write_parts.ensures c.write_screen.ensures

@@ -5,7 +5,7 @@ use Rattle.c8_keys.proofs.report.write_screen.Goals as goal
 pub loop-y-preserved : goal.loop-y-preserved
 loop-y-preserved g c =
     rows_more (g.W.Write.contents c.args.out.now) (g.W.Write.contents c.loop-y.out) (g.W.Write.contents c.write_all.new.self)
-        (points_of c.args.screen.now) c.loop-y.y c.row_text.result c.loop-y.invariant c.row_text.ensures
+    (points_of c.args.screen.now) c.loop-y.y c.row_text.result c.loop-y.invariant c.row_text.ensures
     c.in_ok-write_all.ensures.bytes
 
 pub returns : goal.returns

@@ -5,13 +5,13 @@ use Rattle.c8_keys.proofs.report.write_stack.Goals as goal
 pub loop-place-preserved : goal.loop-place-preserved
 loop-place-preserved g c =
     grows_then (g.W.Write.contents c.write.new.self) (g.W.Write.contents c.loop-place.out)
-        (g.W.Write.contents c.write-in-loop-place.new.self) c.loop-place.invariant
+    (g.W.Write.contents c.write-in-loop-place.new.self) c.loop-place.invariant
     (grows_hex (g.W.Write.contents c.loop-place.out) (g.W.Write.contents c.write-in-loop-place.new.self) _ (codes " ") _ _
-        c.in_radix.ensures c.in_ok-write-2.ensures.bytes)
+    c.in_radix.ensures c.in_ok-write-2.ensures.bytes)
 
 pub returns : goal.returns
 returns g c =
     grows_last (g.W.Write.contents c.args.out.now) (g.W.Write.contents c.loop-place.out) (g.W.Write.contents c.writeln.new.self) _ c.writeln.result
     (grows_then (g.W.Write.contents c.args.out.now) (g.W.Write.contents c.write.new.self) (g.W.Write.contents c.loop-place.out)
-        (grows_by (g.W.Write.contents c.args.out.now) (g.W.Write.contents c.write.new.self) _ c.in_ok-write.ensures.bytes) c.loop-place.invariant)
+    (grows_by (g.W.Write.contents c.args.out.now) (g.W.Write.contents c.write.new.self) _ c.in_ok-write.ensures.bytes) c.loop-place.invariant)
     c.writeln.ensures.bytes

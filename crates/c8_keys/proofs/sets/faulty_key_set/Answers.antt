@@ -21,7 +21,7 @@ loop-line-preserved c =
     let line = c.in-Some.line.now in
     let before = c.loop-line.invariant in
     let spelt : is_keys_text line ≡ true = found_some c.from_hex.result _ (λ keys. (is_keys_text line ≡ true) × (keys.0 ≡ keys_number line))
-        (is_keys_text line ≡ true) c.if-is_none.ensures c.from_hex.ensures (λ keys found. found.0) in
+    (is_keys_text line ≡ true) c.if-is_none.ensures c.from_hex.ensures (λ keys found. found.0) in
     record {
       seen = before.seen ++ line ∷ [];
       cut = before.cut ∙ ap (λ left. before.seen ++ left) c.in-Some.ensures.steps ∙ sym (append_assoc before.seen (line ∷ []) _);
@@ -35,5 +35,5 @@ returns-then-is_none c =
     let line = c.in-Some.line.now in
     let before = c.loop-line.invariant in
     let none : is_keys_text line ≡ false = found_none c.from_hex.result (is_keys_text line ≡ false)
-        (λ keys. (is_keys_text line ≡ true) × (keys.0 ≡ keys_number line)) c.if-is_none.ensures c.from_hex.ensures in
+    (λ keys. (is_keys_text line ≡ true) × (keys.0 ≡ keys_number line)) c.if-is_none.ensures c.from_hex.ensures in
     rw (before.cut, c.in-Some.ensures.steps, before.here) (Line, first_placed set_fault before.seen line _ Line before.faultless (rw none refl))

@@ -26,4 +26,4 @@ loop-input-preserved c =
 pub returns-clause-items : goal.returns-clause-items
 returns-clause-items c =
     sym (append-nil c.loop-input.inputs.items) ∙ ap (λ (xs : List ℕ). c.loop-input.inputs.items ++ xs) (sym c.in-None.ensures.steps.0)
-        ∙ c.loop-input.invariant.0
+    ∙ c.loop-input.invariant.0

@@ -7,6 +7,6 @@ use Rattle.c8_known.proofs.table.least_reach.Goals as goal
 pub loop-place-preserved : goal.loop-place-preserved
 loop-place-preserved c =
     let more = least_more c.args.tables.now c.loop-place.place c.args.ticks c.index-tables-place.result c.loop-place-test.true
-        c.index-tables-place.is in
+    c.index-tables-place.is in
     c.min-least.ensures ∙ ap (λ (n : ℕ). min n c.reach.result) c.loop-place.invariant
-        ∙ ap (λ (n : ℕ). min (least_of (take c.loop-place.place (map table_value c.args.tables.now)) c.args.ticks) n) c.reach.ensures ∙ sym more
+    ∙ ap (λ (n : ℕ). min (least_of (take c.loop-place.place (map table_value c.args.tables.now)) c.args.ticks) n) c.reach.ensures ∙ sym more

@@ -8,8 +8,8 @@ use Rattle.c8_peer.specs.Peer.{PeerValue, known_by, begun_by, IsSound}
 use Rattle.c8_live.specs.Published.{IsShown}
 use Rattle.c8_live.proofs.RunLemmas.{begins_then}
 use Rattle.c8_live.proofs.game.game_worker.Goals as goal
-use Rattle.c8_live.proofs.game.game_worker.Goals.{then-is_over-via-then-is_over, then-is_over-via-else-is_over+then-stop_asked,
-  then-is_over-via-else-is_over+else-stop_asked+then-not-before}
+use Rattle.c8_live.proofs.game.game_worker.Goals.{then-is_over-via-then-is_over, then-is_over-via-else-is_over+then-stop_asked}
+use Rattle.c8_live.proofs.game.game_worker.Goals.{then-is_over-via-else-is_over+else-stop_asked+then-not-before}
 
 -- the rows of a pen that shows these
 shown_rows : (pen : PenValue) (rows : List Row) (early : List Row) → pen.rows ≡ rows → Begins early rows → Begins early pen.rows
@@ -34,7 +34,7 @@ returns-in_err-turn_with-clause-end g c =
     let error = err_from_is_err_and c.from_residual.result c.from_residual.ensures.1 in
     rw (error.1, error.2)
     (c.peers_run_on.ensures.ended c.args.session.now.peer c.loop-turn.session.peer c.turn_with.new.session.peer c.in_err-turn_with.field-0.0
-        c.loop-turn.invariant.ran c.in_err-turn_with.ensures.end)
+    c.loop-turn.invariant.ran c.in_err-turn_with.ensures.end)
 
 pub returns-in_err-turn_with-clause-begins : goal.returns-in_err-turn_with-clause-begins
 returns-in_err-turn_with-clause-begins g c =
@@ -55,7 +55,7 @@ still_from first old new rows shown same = ap (λ (pen : PenValue). pen.from) (s
 pub publish_more-published-requires-clause-from : goal.publish_more-published-requires-clause-from
 publish_more-published-requires-clause-from g c =
     ap origin_from (still_from c.args.pen.now c.loop-turn.pen c.stop_asked.new.pen (confirmed_rows (known_by c.loop-turn.session.peer))
-        c.loop-turn.invariant.shown c.stop_asked.ensures)
+    c.loop-turn.invariant.shown c.stop_asked.ensures)
     ∙ c.requires.from ∙ sym c.loop-turn.invariant.begun
     ∙ sym (c.machines_begin_where_they_did.ensures c.loop-turn.session.peer c.turn_with.new.session.peer c.loop-turn.invariant.sound
     c.in_ok-turn_with.ensures.ran)
@@ -74,7 +74,7 @@ loop-turn-preserved g c = record {
       c.in_ok-turn_with.ensures.ran ∙ c.loop-turn.invariant.begun;
   shown = subst (λ (peer : PeerValue g.row.D.Denot). IsShown peer c.args.pen.now c.publish_more-published.new.pen) c.peer-in-loop-turn.ensures
       (show_again c.args.pen.now c.stop_asked.new.pen c.publish_more-published.new.pen (confirmed_rows (known_by c.loop-turn.session.peer))
-          (confirmed_rows (known_by c.peer-in-loop-turn.result.now))
+      (confirmed_rows (known_by c.peer-in-loop-turn.result.now))
       (c.stop_asked.ensures ∙ c.loop-turn.invariant.shown) c.publish_more-published.ensures.shown);
   begins = begins_then c.args.pen.now.rows (confirmed_rows (known_by c.loop-turn.session.peer))
       (confirmed_rows (known_by c.turn_with.new.session.peer)) c.loop-turn.invariant.begins
@@ -84,7 +84,7 @@ loop-turn-preserved g c = record {
 pub returns-after-loop-turn-clause-begins : goal.returns-after-loop-turn-clause-begins
 returns-after-loop-turn-clause-begins g c =
     shown_rows c.loop-turn.pen (confirmed_rows (known_by c.loop-turn.session.peer)) c.args.pen.now.rows
-        (ap (λ (pen : PenValue). pen.rows) c.loop-turn.invariant.shown) c.loop-turn.invariant.begins
+    (ap (λ (pen : PenValue). pen.rows) c.loop-turn.invariant.shown) c.loop-turn.invariant.begins
 
 pub returns-then-is_over-clause-begins : goal.returns-then-is_over-clause-begins
 returns-then-is_over-clause-begins g c =
@@ -92,9 +92,9 @@ returns-then-is_over-clause-begins g c =
     (elim c.then-is_over.branch [
       | then-is_over-via-then-is_over w ↦ ap (λ (pen : PenValue). pen.rows) (w.pen-is ∙ c.loop-turn.invariant.shown)
       | then-is_over-via-else-is_over+then-stop_asked w ↦ ap (λ (pen : PenValue). pen.rows)
-      (w.pen-is ∙ w.stop_asked.ensures ∙ c.loop-turn.invariant.shown)
+          (w.pen-is ∙ w.stop_asked.ensures ∙ c.loop-turn.invariant.shown)
       | then-is_over-via-else-is_over+else-stop_asked+then-not-before w ↦ ap (λ (pen : PenValue). pen.rows)
-      (w.pen-is ∙ w.stop_asked.ensures ∙ c.loop-turn.invariant.shown)
+          (w.pen-is ∙ w.stop_asked.ensures ∙ c.loop-turn.invariant.shown)
     ])
     c.loop-turn.invariant.begins
 

@@ -18,8 +18,8 @@ open_at-requires g c κs within =
     let same = c.confirmed-confirmed.ensures.value in
     let counted = c.base-frames.ensures.confirmed in
     let begins = c.starts_tell_origins.ensures (begun_by peer)
-        (c.checkpoints_are_in_order.ensures.origin peer.rules peer.me peer.room peer.state.journal sound.range sound.plays.0 sound.plays.1
-        sound.is_journal) in (
+    (c.checkpoints_are_in_order.ensures.origin peer.rules peer.me peer.room peer.state.journal sound.range sound.plays.0 sound.plays.1
+    sound.is_journal) in (
       within,
       (
         refl,
@@ -44,9 +44,9 @@ returns-clause-shows g c =
     let sound = c.is_down-down.ensures.sound in
     let rows = confirmed_rows (known_by peer) in
     let begins = c.starts_tell_origins.ensures (begun_by peer)
-        (c.checkpoints_are_in_order.ensures.origin peer.rules peer.me peer.room peer.state.journal sound.range sound.plays.0 sound.plays.1
-        sound.is_journal) in
+    (c.checkpoints_are_in_order.ensures.origin peer.rules peer.me peer.room peer.state.journal sound.range sound.plays.0 sound.plays.1
+    sound.is_journal) in
     IfOk-weaker c.open_at.result _ _
     (λ r is. subst (MayShow peer) (sym is) (record
-        { game = c.requires.game; from = begins; rows = record { rest = []; is = sym (append-nil rows) } }))
+    { game = c.requires.game; from = begins; rows = record { rest = []; is = sym (append-nil rows) } }))
     c.open_at.ensures.pen

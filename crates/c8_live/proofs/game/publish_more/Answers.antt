@@ -12,5 +12,5 @@ returns-then-confirmed-published-clause-shown g c =
     let known = known_by c.args.peer.now in
     let same = begins_whole pen.rows (confirmed_rows known) c.requires.rows
     (length-map-range_with_len (row known) 0 (confirmed known) ∙ sym c.confirmed.ensures.value ∙ c.if-confirmed-published.true
-        ∙ c.requires.published) in
+    ∙ c.requires.published) in
     ap (λ (rows : List Row). record pen { rows = rows }) (sym same)

@@ -9,6 +9,7 @@ returns-clause-none g c p bytes = (done_still g.D.Disk Hears p, tt)
 
 pub returns-clause-once : goal.returns-clause-once
 returns-clause-once g c old new bytes packet reply spells answered =
-    let call = Deliver (Ok packet) in
-    (done_once g.D.Disk old new call reply answered (c.calls_are_deeds.ensures.answered old new call reply spells.packet answered),
-        inl ((packet, refl, spells), tt))
+    let call = Deliver (Ok packet) in (
+      done_once g.D.Disk old new call reply answered (c.calls_are_deeds.ensures.answered old new call reply spells.packet answered),
+      inl ((packet, refl, spells), tt),
+    )

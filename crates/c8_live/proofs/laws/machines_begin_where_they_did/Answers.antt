@@ -5,5 +5,5 @@ pub returns : goal.returns
 returns g c old new sound ran =
     begun_still g.D.Disk old new ran
     (c.a_machine_begins_at_an_opening.ensures old.rules old.room old.me old.state new.state ran.calls ran.answers sound.range sound.plays.0
-        sound.plays.1 sound.low
+    sound.plays.1 sound.low
     (c.a_word_stands_from_any_journal.ensures.sound old sound) ran.run)

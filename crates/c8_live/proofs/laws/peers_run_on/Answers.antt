@@ -7,7 +7,7 @@ returns-clause-still g c p = still g.D.Disk p
 pub returns-clause-call : goal.returns-clause-call
 returns-clause-call g c first old new call reply ran is answered =
     joined g.D.Disk c.runs_join.ensures.run first old new ran
-        (once g.D.Disk old new call reply answered (c.calls_are_deeds.ensures.answered old new call reply is answered))
+    (once g.D.Disk old new call reply answered (c.calls_are_deeds.ensures.answered old new call reply is answered))
 
 pub returns-clause-joined : goal.returns-clause-joined
 returns-clause-joined g c first middle last one two = joined g.D.Disk c.runs_join.ensures.run first middle last one two

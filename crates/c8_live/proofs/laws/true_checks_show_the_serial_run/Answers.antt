@@ -17,14 +17,14 @@ returns-clause-opened g c disk rules room me p opened are =
     let low = subst (λ (n : ℕ). n < 2 ^ 64) opened.room_is sound.low in
     opened_tells g.D.Disk disk rules room me p opened
     (c.openings_are_lawful.ensures.checks rules me room (records_of (bodies_found g.D.Disk disk)) range from opened.may.2 low opened.may.0
-        opened.may.1 are)
+    opened.may.1 are)
 
 pub returns-clause-stays : goal.returns-clause-stays
 returns-clause-stays g c old new sound tells ran =
     subst (λ (rules : Rules). TellsTruly rules new.me new.state) (sym ran.rules)
     (subst (λ (me : ℕ). TellsTruly old.rules me new.state) (sym ran.me)
     (c.a_word_stands_from_any_journal.ensures.checks old.rules old.room old.me old.state new.state (map does ran.calls) ran.answers
-        sound.range sound.plays.0 sound.plays.1 sound.low
+    sound.range sound.plays.0 sound.plays.1 sound.low
     (c.a_word_stands_from_any_journal.ensures.sound old sound) tells ran.run))
 
 pub returns-clause-serial : goal.returns-clause-serial

@@ -1,5 +1,5 @@
-use Rattle.std.proofs.Common.{◌≡◌, inl, inr, ◌+◌, ◌*◌, ◌++◌, [], ◌∷◌, ℕ, List, length, Ok, Err, OnOk, IsErrOf, rules, ap, ◌∙◌, subst, arith,
-  length-append}
+use Rattle.std.proofs.Common.{◌≡◌, inl, inr, ◌+◌, ◌*◌, ◌++◌, [], ◌∷◌, ℕ, List, length, Ok, Err, OnOk, IsErrOf, rules, ap, ◌∙◌, subst, arith}
+use Rattle.std.proofs.Common.{length-append}
 use Rattle.c8_disk.specs.Disk.{overwritten, Only, Torn}
 use Rattle.c8_disk.specs.declared.error.DiskError.TheVariants.{Failed}
 use Rattle.c8_log.specs.Slots.{kept}
@@ -22,8 +22,8 @@ returns-in_err-write_and_sync-clause-any_moment g c =
     let up = c.requires.up in
     weaker g.D.Disk c.args.disk.now c.write_and_sync.new.disk (IsBeforeOrTorn (144 * c.args.count + 1) (length c.with_closed_gate.result) images)
     (KeepsWithOrWithout (kept old) c.args.body.now) c.write_and_sync.ensures.any_moment
-        (first_keeps c.writes_keep_the_rest.ensures.whole c.writes_keep_the_rest.ensures.none images old c.args.count c.args.body.now
-        up.count_is up.closed up.durable (length c.with_closed_gate.result))
+    (first_keeps c.writes_keep_the_rest.ensures.whole c.writes_keep_the_rest.ensures.none images old c.args.count c.args.body.now
+    up.count_is up.closed up.durable (length c.with_closed_gate.result))
 
 -- what stands on the disk after the first write
 abbrev staged_image : (g : Over) → goal.After-write_and_sync-2 g → List ℕ
@@ -50,14 +50,14 @@ returns-clause-any_moment g c =
     let written = first_written g c in
     let first = weaker g.D.Disk c.args.disk.now c.write_and_sync.new.disk (IsBeforeOrTorn (144 * n + 1) (length c.with_closed_gate.result) images)
     (KeepsWithOrWithout (kept old) body) c.write_and_sync.ensures.any_moment
-        (first_keeps c.writes_keep_the_rest.ensures.whole c.writes_keep_the_rest.ensures.none images old n body up.count_is up.closed
-        up.durable (length c.with_closed_gate.result)) in
+    (first_keeps c.writes_keep_the_rest.ensures.whole c.writes_keep_the_rest.ensures.none images old n body up.count_is up.closed
+    up.durable (length c.with_closed_gate.result)) in
     let later = g.D.Disk.may_leave c.write_and_sync.new.disk in
     let only = subst (λ (l : List ℕ). Only l later) written c.in_ok-write_and_sync.ensures.durable in
     let second = weaker g.D.Disk c.write_and_sync.new.disk c.write_and_sync-2.new.disk (IsBeforeOrTorn (144 * n) 1 later)
     (KeepsWithOrWithout (kept old) body) c.write_and_sync-2.ensures.any_moment
-        (second_keeps c.writes_keep_the_rest.ensures.whole c.writes_keep_the_rest.ensures.none images old n body up.count_is up.closed
-        up.durable (staged_image g c) is later only) in
+    (second_keeps c.writes_keep_the_rest.ensures.whole c.writes_keep_the_rest.ensures.none images old n body up.count_is up.closed
+    up.durable (staged_image g c) is later only) in
     then_run g.D.Disk c.args.disk.now c.write_and_sync.new.disk c.write_and_sync-2.new.disk (KeepsWithOrWithout (kept old) body) first second
 
 pub returns-in_err-write_and_sync-clause-left : goal.returns-in_err-write_and_sync-clause-left
@@ -66,10 +66,10 @@ returns-in_err-write_and_sync-clause-left g c is =
     let new = g.D.Disk.seen c.write_and_sync.new.disk in
     let at = 144 * c.args.count + 1 in
     let size : length c.with_closed_gate.result ≡ 144 =
-        omega (arith, ap length c.with_closed_gate.ensures, length-append c.args.body.now (0 ∷ []), c.told-body) in
+    omega (arith, ap length c.with_closed_gate.ensures, length-append c.args.body.now (0 ∷ []), c.told-body) in
     let failed : IsErrOf c.write_and_sync.result Failed = search rules in
     inl (subst (λ (n : ℕ). Torn at n old new) size
-        (failed_torn at c.with_closed_gate.result old new c.write_and_sync.result c.write_and_sync.ensures.written failed))
+    (failed_torn at c.with_closed_gate.result old new c.write_and_sync.result c.write_and_sync.ensures.written failed))
 
 pub returns-clause-left : goal.returns-clause-left
 returns-clause-left g c is =
@@ -77,7 +77,7 @@ returns-clause-left g c is =
     let new = g.D.Disk.seen c.write_and_sync-2.new.disk in
     let gate = 144 * c.args.count in
     inr (subst (λ (l : List ℕ). Torn gate 1 l new) (first_written g c)
-        (failed_torn gate (0xa5 ∷ []) staged new c.write_and_sync-2.result c.write_and_sync-2.ensures.written is))
+    (failed_torn gate (0xa5 ∷ []) staged new c.write_and_sync-2.result c.write_and_sync-2.ensures.written is))
 
 gate_written : (g : Over) (c : goal.After-write_and_sync-2 g)
     → OnOk c.write_and_sync-2.result (g.D.Disk.seen c.write_and_sync-2.new.disk
@@ -94,8 +94,8 @@ ended : (g : Over) (c : goal.After-write_and_sync-2 g)
 ended g c holds only =
     let up = c.requires.up in
     up_with_it c.writes_keep_the_rest.ensures.whole c.writes_keep_the_rest.ensures.none (g.D.Disk.may_leave c.args.disk.now)
-        (g.D.Disk.seen c.args.disk.now) c.args.count c.args.body.now up.count_is up.closed up.durable (staged_image g c) (behind g c)
-        g.D.Disk c.write_and_sync-2.new.disk
+    (g.D.Disk.seen c.args.disk.now) c.args.count c.args.body.now up.count_is up.closed up.durable (staged_image g c) (behind g c)
+    g.D.Disk c.write_and_sync-2.new.disk
     (holds ∙ ap (λ (l : List ℕ). overwritten l (144 * c.args.count) (0xa5 ∷ [])) (first_written g c)) only c.requires.fits
 
 pub returns-clause-up : goal.returns-clause-up
@@ -113,7 +113,7 @@ returns-clause-seen g c =
     let there = gate_there old c.args.count (ap (λ (k : ℕ). has_closed_gate_at old k) c.requires.up.count_is ∙ c.requires.up.closed) in
     on_ok_both c.write_and_sync-2.result (gate_written g c) c.write_and_sync-2.ensures.durable (λ holds only.
     holds ∙ ap (λ (l : List ℕ). overwritten l gate (0xa5 ∷ [])) (first_written g c)
-        ∙ two_writes c.writes_keep_the_rest.ensures.whole old gate 0xa5 (c.args.body.now ++ 0 ∷ []) (omega (arith, there)))
+    ∙ two_writes c.writes_keep_the_rest.ensures.whole old gate 0xa5 (c.args.body.now ++ 0 ∷ []) (omega (arith, there)))
 
 pub returns-in_err-write_and_sync-clause-asks : goal.returns-in_err-write_and_sync-clause-asks
 returns-in_err-write_and_sync-clause-asks g c =
@@ -121,18 +121,18 @@ returns-in_err-write_and_sync-clause-asks g c =
     let why = c.in_err-write_and_sync.field-0.0 in
     rw (error.1, error.2)
     (asks_refused g.D.Disk (WriteAndSync (144 * c.args.count + 1) (c.args.body.now ++ 0 ∷ []))
-        (WriteAndSync (144 * c.args.count) (0xa5 ∷ [])) c.args.disk.now c.write_and_sync.new.disk why
+    (WriteAndSync (144 * c.args.count) (0xa5 ∷ [])) c.args.disk.now c.write_and_sync.new.disk why
     (asks_as g.D.Disk (WriteAndSync (144 * c.args.count + 1) (c.args.body.now ++ 0 ∷ [])) c.args.disk.now c.write_and_sync.new.disk
-        c.write_and_sync.result (Err why) c.in_err-write_and_sync.was
+    c.write_and_sync.result (Err why) c.in_err-write_and_sync.was
     (subst (λ (bytes : List ℕ). Asks g.D.Disk (WriteAndSync (144 * c.args.count + 1) bytes) c.write_and_sync.result c.args.disk.now
-        c.write_and_sync.new.disk) c.with_closed_gate.ensures c.write_and_sync.ensures.asks)))
+    c.write_and_sync.new.disk) c.with_closed_gate.ensures c.write_and_sync.ensures.asks)))
 
 pub returns-clause-asks : goal.returns-clause-asks
 returns-clause-asks g c =
     asks_then g.D.Disk (WriteAndSync (144 * c.args.count + 1) (c.args.body.now ++ 0 ∷ [])) (WriteAndSync (144 * c.args.count) (0xa5 ∷ []))
-        c.args.disk.now c.write_and_sync.new.disk c.write_and_sync-2.new.disk c.write_and_sync-2.result
+    c.args.disk.now c.write_and_sync.new.disk c.write_and_sync-2.new.disk c.write_and_sync-2.result
     (asks_as g.D.Disk (WriteAndSync (144 * c.args.count + 1) (c.args.body.now ++ 0 ∷ [])) c.args.disk.now c.write_and_sync.new.disk
-        c.write_and_sync.result (Ok tt) c.in_ok-write_and_sync.was
+    c.write_and_sync.result (Ok tt) c.in_ok-write_and_sync.was
     (subst (λ (bytes : List ℕ). Asks g.D.Disk (WriteAndSync (144 * c.args.count + 1) bytes) c.write_and_sync.result c.args.disk.now
-        c.write_and_sync.new.disk) c.with_closed_gate.ensures c.write_and_sync.ensures.asks))
+    c.write_and_sync.new.disk) c.with_closed_gate.ensures c.write_and_sync.ensures.asks))
     c.write_and_sync-2.ensures.asks

@@ -21,7 +21,7 @@ returns-in_err-read_at-clause-asks g c =
     let error = err_from_is_err_and c.from_residual.result c.from_residual.ensures.1 in
     let why = c.in_err-read_at.field-0.0 in
     rw (error.1, error.2) (asks_read g.D.Disk c.args.disk.now c.read_at.new.self _ _ c.read_at.result (Err why) c.in_err-read_at.was
-        c.read_at.ensures.does)
+    c.read_at.ensures.does)
 
 pub returns-clause-count : goal.returns-clause-count
 returns-clause-count g c = c.end_of.ensures.count ∙ ap kept_count (is_block g c)

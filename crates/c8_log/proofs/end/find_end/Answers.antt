@@ -16,4 +16,4 @@ returns-in-None-clause-asks g c =
     let disk = c.args.disk.now in
     let lent : false ≡ g.D.Disk.lends = sym (ap is_some c.in-None.is) ∙ c.end_held.ensures.lent in
     subst (λ (lends : Bool). Asks g.D.Disk (Reads (end_reads lends (g.D.Disk.seen disk))) (answer_of c.read_end.result) disk
-        c.read_end.new.disk) lent c.read_end.ensures.asks
+    c.read_end.new.disk) lent c.read_end.ensures.asks

@@ -43,7 +43,7 @@ loop-number-preserved g c =
       reads = reads_then g.D.Disk c.args.disk.now c.loop-number.disk c.end_in.new.disk c.loop-number.invariant.reads c.end_in.ensures.reads;
       asks = asks_reads g.D.Disk c.args.disk.now c.loop-number.disk c.end_in.new.disk k 1 (Ok tt) c.loop-number.invariant.asks
           (asks_as g.D.Disk (Reads 1) c.loop-number.disk c.end_in.new.disk (answer_of c.end_in.result) (Ok tt)
-              (ap answer_of c.in_ok-end.was) c.end_in.ensures.asks);
+          (ap answer_of c.in_ok-end.was) c.end_in.ensures.asks);
       unfailed = search rules;
     }
 
@@ -81,10 +81,10 @@ returns-in_err-end-clause-asks g c =
     let here = c.loop-number-test.true in
     rw (error.1, error.2)
     (asks_cut g.D.Disk c.args.disk.now c.end_in.new.disk (k + 1) (blocks_to_gate image) why
-        (block_to_gate image k c.loop-number.invariant.below (omega (arith, long, blocks, here)))
+    (block_to_gate image k c.loop-number.invariant.below (omega (arith, long, blocks, here)))
     (asks_reads g.D.Disk c.args.disk.now c.loop-number.disk c.end_in.new.disk k 1 (Err why) c.loop-number.invariant.asks
     (asks_as g.D.Disk (Reads 1) c.loop-number.disk c.end_in.new.disk (answer_of c.end_in.result) (Err why) (ap answer_of c.in_err-end.was)
-        c.end_in.ensures.asks)))
+    c.end_in.ensures.asks)))
 
 pub returns-then-end-clause-asks : goal.returns-then-end-clause-asks
 returns-then-end-clause-asks g c =
@@ -99,7 +99,7 @@ returns-then-end-clause-asks g c =
     (last_to_gate image k (omega (arith, long, blocks, here)) (omega (arith, count)) (omega (arith, count, c.if-end.true)))
     (asks_reads g.D.Disk c.args.disk.now c.loop-number.disk c.end_in.new.disk k 1 (Ok tt) c.loop-number.invariant.asks
     (asks_as g.D.Disk (Reads 1) c.loop-number.disk c.end_in.new.disk (answer_of c.end_in.result) (Ok tt) (ap answer_of c.in_ok-end.was)
-        c.end_in.ensures.asks))
+    c.end_in.ensures.asks))
 
 pub returns-clause-count : goal.returns-clause-count
 returns-clause-count g c =

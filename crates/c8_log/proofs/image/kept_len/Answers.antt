@@ -15,5 +15,5 @@ returns c =
     let image = c.args.image.now in
     let whole = length image / 144 in
     front_unique image whole (kept_count image)
-        (record { below = λ m lt. c.loop-n.invariant m (omega arith); at = shut_by_end image whole (omega arith) }) (front_of image)
-        ∙ sym (length_of_kept image)
+    (record { below = λ m lt. c.loop-n.invariant m (omega arith); at = shut_by_end image whole (omega arith) }) (front_of image)
+    ∙ sym (length_of_kept image)

@@ -6,4 +6,4 @@ pub returns : goal.returns
 returns g c old new t lists body le so_far run =
     let image = g.D.Disk.seen old in
     one_list_more g.D.Disk old new t lists (kept image) body le
-        (so_far image (g.met.D.Disk.counts_now old t image le (g.met.D.Disk.reads_now old))) so_far run
+    (so_far image (g.met.D.Disk.counts_now old t image le (g.met.D.Disk.reads_now old))) so_far run

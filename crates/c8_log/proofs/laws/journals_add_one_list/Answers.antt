@@ -7,4 +7,4 @@ returns g c old new t lists bodies body le keep so_far =
     let image = g.D.Disk.seen old in
     let left = g.met.D.Disk.reads_now old in
     one_list_more g.D.Disk old new t lists bodies body le
-        (subst (Contains lists) (keep image left) (so_far image (g.met.D.Disk.counts_now old t image le left))) so_far
+    (subst (Contains lists) (keep image left) (so_far image (g.met.D.Disk.counts_now old t image le left))) so_far

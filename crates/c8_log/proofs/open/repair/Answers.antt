@@ -26,7 +26,7 @@ returns-clause-any_moment g c =
     let torn_there = subst (λ (n : ℕ). Torn (144 * n) 1 image new) c.requires.count torn_here in
     repair_keeps image new (sym c.requires.closed ∙ c.if-end.false) torn_there) in
     weaker g.D.Disk c.args.disk.now c.write_and_sync.new.disk (IsBeforeOrTorn (144 * c.args.end.count) 1 images)
-        (λ new. kept new ≡ kept image) c.write_and_sync.ensures.any_moment keeps
+    (λ new. kept new ≡ kept image) c.write_and_sync.ensures.any_moment keeps
 
 pub returns-clause-up : goal.returns-clause-up
 returns-clause-up g c =
@@ -38,7 +38,7 @@ returns-clause-up g c =
     let gate : new ≡ closed = holds ∙ ap (λ (n : ℕ). overwritten old (144 * n) (0 ∷ [])) c.requires.count in
     let is : new ≡ repaired old = gate ∙ sym (cond-false (has_closed_gate old) old closed (sym c.requires.closed ∙ c.if-end.false)) in
     up_from_repair c.writes_keep_the_rest.ensures.whole g.D.Disk c.write_and_sync.new.disk c.args.end.count old is c.requires.count only
-        c.requires.fits)
+    c.requires.fits)
 
 pub returns-clause-full : goal.returns-clause-full
 returns-clause-full g c is =
@@ -58,5 +58,5 @@ pub returns-clause-asks : goal.returns-clause-asks
 returns-clause-asks g c =
     let open_gate = sym c.requires.closed ∙ c.if-end.false in
     let asks = subst (λ (n : ℕ). Asks g.D.Disk (WriteAndSync (144 * n) (0 ∷ [])) c.write_and_sync.result c.args.disk.now
-        c.write_and_sync.new.disk) c.requires.count c.write_and_sync.ensures.asks in
+    c.write_and_sync.new.disk) c.requires.count c.write_and_sync.ensures.asks in
     record { calls = asks.calls; led = asks.led; is = inr (open_gate, asks.is) }

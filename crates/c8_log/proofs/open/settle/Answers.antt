@@ -21,14 +21,14 @@ pub returns-in_err-repair-clause-any_moment : goal.returns-in_err-repair-clause-
 returns-in_err-repair-clause-any_moment g c =
     let sync = c.sync.ensures in
     settles g.D.Disk g.met.D.Disk.only_now g.met.D.Disk.reads_now c.args.disk.now c.sync.new.self c.find_end.new.disk c.repair.new.disk
-        sync.seen sync.crash sync.time c.find_end.ensures.reads
+    sync.seen sync.crash sync.time c.find_end.ensures.reads
     c.repair.ensures.any_moment
 
 pub returns-clause-any_moment : goal.returns-clause-any_moment
 returns-clause-any_moment g c =
     let sync = c.sync.ensures in
     settles g.D.Disk g.met.D.Disk.only_now g.met.D.Disk.reads_now c.args.disk.now c.sync.new.self c.find_end.new.disk c.repair.new.disk
-        sync.seen sync.crash sync.time c.find_end.ensures.reads
+    sync.seen sync.crash sync.time c.find_end.ensures.reads
     c.repair.ensures.any_moment
 
 pub returns-in_err-sync-clause-asks : goal.returns-in_err-sync-clause-asks
@@ -47,13 +47,13 @@ returns-in_err-end-clause-asks g c =
     let why = c.in_err-end.field-0.0 in
     let synced = asks_sync g.D.Disk c.args.disk.now c.sync.new.self c.sync.result (Ok tt) c.in_ok-sync.was c.sync.ensures.does in
     let read = subst (λ (l : List ℕ). Asks g.D.Disk (Reads (end_reads g.D.Disk.lends l)) (answer_of c.find_end.result) c.sync.new.self
-        c.find_end.new.disk) c.sync.ensures.seen c.find_end.ensures.asks in
+    c.find_end.new.disk) c.sync.ensures.seen c.find_end.ensures.asks in
     rw (error.1, error.2)
     (asks_then g.D.Disk Sync (Then (Reads (end_reads g.D.Disk.lends image)) (Repair image)) c.args.disk.now c.sync.new.self
-        c.find_end.new.disk (Err why) synced
+    c.find_end.new.disk (Err why) synced
     (asks_refused g.D.Disk (Reads (end_reads g.D.Disk.lends image)) (Repair image) c.sync.new.self c.find_end.new.disk why
     (asks_as g.D.Disk (Reads (end_reads g.D.Disk.lends image)) c.sync.new.self c.find_end.new.disk (answer_of c.find_end.result) (Err why)
-        (ap answer_of c.in_err-end.was) read)))
+    (ap answer_of c.in_err-end.was) read)))
 
 pub returns-in_err-repair-clause-asks : goal.returns-in_err-repair-clause-asks
 returns-in_err-repair-clause-asks g c =
@@ -62,15 +62,15 @@ returns-in_err-repair-clause-asks g c =
     let why = c.in_err-repair.field-0.0 in
     let synced = asks_sync g.D.Disk c.args.disk.now c.sync.new.self c.sync.result (Ok tt) c.in_ok-sync.was c.sync.ensures.does in
     let read = subst (λ (l : List ℕ). Asks g.D.Disk (Reads (end_reads g.D.Disk.lends l)) (answer_of c.find_end.result) c.sync.new.self
-        c.find_end.new.disk) c.sync.ensures.seen c.find_end.ensures.asks in
+    c.find_end.new.disk) c.sync.ensures.seen c.find_end.ensures.asks in
     let repaired = subst (λ (l : List ℕ). Asks g.D.Disk (Repair l) c.repair.result c.find_end.new.disk c.repair.new.disk)
-        (c.find_end.ensures.reads.seen ∙ c.sync.ensures.seen) c.repair.ensures.asks in
+    (c.find_end.ensures.reads.seen ∙ c.sync.ensures.seen) c.repair.ensures.asks in
     rw (error.1, error.2)
     (asks_then g.D.Disk Sync (Then (Reads (end_reads g.D.Disk.lends image)) (Repair image)) c.args.disk.now c.sync.new.self
-        c.repair.new.disk (Err why) synced
+    c.repair.new.disk (Err why) synced
     (asks_then g.D.Disk (Reads (end_reads g.D.Disk.lends image)) (Repair image) c.sync.new.self c.find_end.new.disk c.repair.new.disk (Err why)
     (asks_as g.D.Disk (Reads (end_reads g.D.Disk.lends image)) c.sync.new.self c.find_end.new.disk (answer_of c.find_end.result) (Ok tt)
-        (ap answer_of c.in_ok-end.was) read)
+    (ap answer_of c.in_ok-end.was) read)
     (asks_as g.D.Disk (Repair image) c.find_end.new.disk c.repair.new.disk c.repair.result (Err why) c.in_err-repair.was repaired)))
 
 pub returns-clause-asks : goal.returns-clause-asks
@@ -78,12 +78,12 @@ returns-clause-asks g c =
     let image = g.D.Disk.seen c.args.disk.now in
     let synced = asks_sync g.D.Disk c.args.disk.now c.sync.new.self c.sync.result (Ok tt) c.in_ok-sync.was c.sync.ensures.does in
     let read = subst (λ (l : List ℕ). Asks g.D.Disk (Reads (end_reads g.D.Disk.lends l)) (answer_of c.find_end.result) c.sync.new.self
-        c.find_end.new.disk) c.sync.ensures.seen c.find_end.ensures.asks in
+    c.find_end.new.disk) c.sync.ensures.seen c.find_end.ensures.asks in
     let repaired = subst (λ (l : List ℕ). Asks g.D.Disk (Repair l) c.repair.result c.find_end.new.disk c.repair.new.disk)
-        (c.find_end.ensures.reads.seen ∙ c.sync.ensures.seen) c.repair.ensures.asks in
+    (c.find_end.ensures.reads.seen ∙ c.sync.ensures.seen) c.repair.ensures.asks in
     asks_then g.D.Disk Sync (Then (Reads (end_reads g.D.Disk.lends image)) (Repair image)) c.args.disk.now c.sync.new.self c.repair.new.disk
-        (Ok tt) synced
+    (Ok tt) synced
     (asks_then g.D.Disk (Reads (end_reads g.D.Disk.lends image)) (Repair image) c.sync.new.self c.find_end.new.disk c.repair.new.disk (Ok tt)
     (asks_as g.D.Disk (Reads (end_reads g.D.Disk.lends image)) c.sync.new.self c.find_end.new.disk (answer_of c.find_end.result) (Ok tt)
-        (ap answer_of c.in_ok-end.was) read)
+    (ap answer_of c.in_ok-end.was) read)
     (asks_as g.D.Disk (Repair image) c.find_end.new.disk c.repair.new.disk c.repair.result (Ok tt) c.in_ok-repair.was repaired))

@@ -11,11 +11,11 @@ returns-in_err-write_at-clause-asks g c =
     rw (error.1, error.2)
     (asks_refused g.D.Disk (Write c.args.at c.args.bytes.now) Sync c.args.disk.now c.write_at.new.self why
     (asks_write g.D.Disk c.args.disk.now c.write_at.new.self c.args.at c.args.bytes.now c.write_at.result (Err why) c.in_err-write_at.was
-        c.write_at.ensures.does))
+    c.write_at.ensures.does))
 
 pub returns-clause-asks : goal.returns-clause-asks
 returns-clause-asks g c =
     asks_then g.D.Disk (Write c.args.at c.args.bytes.now) Sync c.args.disk.now c.write_at.new.self c.sync.new.self c.sync.result
     (asks_write g.D.Disk c.args.disk.now c.write_at.new.self c.args.at c.args.bytes.now c.write_at.result (Ok tt) c.in_ok-write_at.was
-        c.write_at.ensures.does)
+    c.write_at.ensures.does)
     (asks_sync g.D.Disk c.write_at.new.self c.sync.new.self c.sync.result c.sync.result refl c.sync.ensures.does)

@@ -9,5 +9,5 @@ returns-in-Err g c = answers_unbegun c.args.asked.now.room c.args.asked.now.play
 pub returns : goal.returns
 returns g c =
     answers_played c.args.asked.now.room c.args.asked.now.player.number (g.W.Write.contents c.args.out.now)
-        (g.W.Write.contents c.tell_outcome.new.out) c.tell_outcome.result c.play_in-played.result
+    (g.W.Write.contents c.tell_outcome.new.out) c.tell_outcome.result c.play_in-played.result
     (inl (c.in-Ok.it.1, c.in-Ok.it.0.game, c.play_in-played.ensures)) c.tell_outcome.ensures

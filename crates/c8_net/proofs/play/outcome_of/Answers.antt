@@ -10,6 +10,6 @@ returns-in-Err-clause-refused g c = λ disk rules room me first opened ended.
 pub returns-clause-played : goal.returns-clause-played
 returns-clause-played g c = λ disk rules room me first opened ended.
     has_played g.D.Disk disk rules room me c.machines_begin_where_they_did.ensures c.true_checks_show_the_serial_run.ensures.opened
-        c.true_checks_show_the_serial_run.ensures.stays
+    c.true_checks_show_the_serial_run.ensures.stays
     first first c.args.ended.session.peer c.peer.result.now _ opened refl ended.ran c.peer.ensures c.base-frames.ensures.confirmed
     c.base-frames.ensures.machine c.base-frames.ensures.serial

@@ -8,24 +8,24 @@ returns-in-Err-clause-refused g c =
 pub returns-in-Ok-perform-clause-refused : goal.returns-in-Ok-perform-clause-refused
 returns-in-Ok-perform-clause-refused g c =
     lost_failed g.D.Disk c.args.disk c.args.it.game c.args.asked.now.room c.args.asked.now.player.number c.in-Ok.peer
-        c.session_of-session.result.peer _ _ c.in-Ok.ensures.opened c.session_of-session.ensures c.in-Ok-perform.ensures
+    c.session_of-session.result.peer _ _ c.in-Ok.ensures.opened c.session_of-session.ensures c.in-Ok-perform.ensures
 
 pub returns-in-Ok-2-clause-played : goal.returns-in-Ok-2-clause-played
 returns-in-Ok-2-clause-played g c =
     c.outcome_of.ensures.played c.args.disk c.args.it.game c.args.asked.now.room c.args.asked.now.player.number c.session_of-session.result.peer
     (opened_still g.D.Disk c.args.disk c.args.it.game c.args.asked.now.room c.args.asked.now.player.number c.in-Ok.peer
-        c.session_of-session.result.peer c.session_of-session.ensures c.in-Ok.ensures.opened)
+    c.session_of-session.result.peer c.session_of-session.ensures c.in-Ok.ensures.opened)
     c.in-Ok-perform.ensures
 
 pub returns-in-Ok-2-clause-refused : goal.returns-in-Ok-2-clause-refused
 returns-in-Ok-2-clause-refused g c =
     c.outcome_of.ensures.refused c.args.disk c.args.it.game c.args.asked.now.room c.args.asked.now.player.number c.session_of-session.result.peer
     (opened_still g.D.Disk c.args.disk c.args.it.game c.args.asked.now.room c.args.asked.now.player.number c.in-Ok.peer
-        c.session_of-session.result.peer c.session_of-session.ensures c.in-Ok.ensures.opened)
+    c.session_of-session.result.peer c.session_of-session.ensures c.in-Ok.ensures.opened)
     c.in-Ok-perform.ensures
 
 pub returns-clause-refused : goal.returns-clause-refused
 returns-clause-refused g c =
     rw c.from.ensures
     (unopened_failed g.D.Disk c.args.disk c.args.it.game c.args.asked.now.room c.args.asked.now.player.number c.peers_run_on.ensures.still
-        c.in-Ok.peer c.in-Err-perform.error c.in-Ok.ensures.opened)
+    c.in-Ok.peer c.in-Err-perform.error c.in-Ok.ensures.opened)

@@ -12,7 +12,7 @@ returns-in-Some-clause-words t c =
     let first = c.in-Some.first in
     let past : first.times ≤ c.args.place = omega (arith, c.if-first-place.true) in
     c.begun_at.ensures.words ∙ sym (ap (λ (pairs : List Pair). drop c.args.place (words_in pairs)) c.in-Some.ensures.pair
-        ∙ drop_past c.args.place first.times first.keys (words_in (pairs_at first.rest.now)) past)
+    ∙ drop_past c.args.place first.times first.keys (words_in (pairs_at first.rest.now)) past)
 
 pub returns-in-Some-clause-slice : goal.returns-in-Some-clause-slice
 returns-in-Some-clause-slice t c =

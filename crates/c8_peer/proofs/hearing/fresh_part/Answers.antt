@@ -11,5 +11,5 @@ returns-in-Ok-clause-fits c = λ m fitting.
 pub returns-in-Err-clause-fits : goal.returns-in-Err-clause-fits
 returns-in-Err-clause-fits c = λ m fitting.
     let misfits = misfit_is c.args.known.now c.args.player.number c.args.teller.number c.args.start (words c.args.run) c.in-Err.error
-        c.in-Err.ensures.judged c.requires.taken in
+    c.in-Err.ensures.judged c.requires.taken in
     rw misfits refl

@@ -1,6 +1,6 @@
 use Rattle.c8_peer.specs.Runs.{never_opened}
-use Rattle.c8_peer.proofs.RunLemmas.{reached_journal, run_grows, said_stands, run_confirms, run_keeps_rows, never_lawful, never_tells,
-  reached_tells, reached_lawful}
+use Rattle.c8_peer.proofs.RunLemmas.{reached_journal, run_grows, said_stands, run_confirms, run_keeps_rows, never_lawful, never_tells}
+use Rattle.c8_peer.proofs.RunLemmas.{reached_tells, reached_lawful}
 use Rattle.c8_peer.proofs.laws.a_peers_word_stands.Goals as goal
 
 pub returns-clause-journal : goal.returns-clause-journal

@@ -16,7 +16,7 @@ loop-frame-preserved g c =
     let row : Row = record { sets = replicate 4 begun.result } in
     let machine = c.frame.ensures.serial before.rows row before.machine c.joined.ensures in
     let points : points_of c.screen.result.now ≡ (serial c.args.game.now (before.rows ++ row ∷ [])).screen =
-        c.screen.ensures ∙ ap (λ (m : State). m.screen) machine in
+    c.screen.ensures ∙ ap (λ (m : State). m.screen) machine in
     record {
       rows = before.rows ++ row ∷ [];
       counted = refl;

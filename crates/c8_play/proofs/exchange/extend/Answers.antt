@@ -9,4 +9,4 @@ loop-byte-preserved c =
     let i : ℕ = c.loop-byte.byte-index in
     let b : ℕ = get_or bytes i 0 in
     c.and.ensures ∙ ap (λ (items : List ℕ). items ++ b ∷ []) c.loop-byte.invariant ∙ append_assoc before (take i bytes) (b ∷ [])
-        ∙ ap (λ (items : List ℕ). before ++ items) (sym (take_next bytes i c.loop-byte-test.true))
+    ∙ ap (λ (items : List ℕ). before ++ items) (sym (take_next bytes i c.loop-byte-test.true))

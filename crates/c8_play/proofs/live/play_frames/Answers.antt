@@ -10,7 +10,7 @@ returns-in_err-wait-clause-end g c =
     let error = err_from_is_err_and c.from_residual.result c.from_residual.ensures.1 in
     rw (error.1, error.2)
     (c.peers_run_on.ensures.ended c.args.session.now.peer c.loop-turn.session.peer c.wait.new.session.peer c.in_err-wait.field-0.0
-        c.loop-turn.invariant.ran c.in_err-wait.ensures.end)
+    c.loop-turn.invariant.ran c.in_err-wait.ensures.end)
 
 pub returns-in_err-play_frame-clause-ran : goal.returns-in_err-play_frame-clause-ran
 returns-in_err-play_frame-clause-ran g c =
@@ -34,9 +34,9 @@ loop-turn-preserved g c =
     let window = c.args.session.now.peer.rules.window in
     let patience = c.args.rate in
     let frame = led_with g.D.Disk g.W.Wire g.C.Console c.wait.new.session.peer c.play_frame.new.session.peer c.wait.new.wire
-        c.play_frame.new.wire c.wait.new.desk c.play_frame.new.desk
+    c.play_frame.new.wire c.wait.new.desk c.play_frame.new.desk
     (frames_of c.loop-turn.lead) (frames_of c.play_frame.new.lead) (window_of c.loop-turn.lead) (patience_of c.loop-turn.lead) window
-        patience c.loop-turn.invariant.window c.loop-turn.invariant.patience c.in_ok-play_frame.ensures.frame in
+    patience c.loop-turn.invariant.window c.loop-turn.invariant.patience c.in_ok-play_frame.ensures.frame in
     record {
       ran = c.peers_run_on.ensures.joined first c.wait.new.session.peer c.play_frame.new.session.peer
           (c.peers_run_on.ensures.joined first c.loop-turn.session.peer c.wait.new.session.peer c.loop-turn.invariant.ran c.in_ok-wait.ensures.ran)
@@ -49,7 +49,7 @@ loop-turn-preserved g c =
           c.args.wire.now c.play_frame.new.wire c.args.desk.now c.play_frame.new.desk
           0 (frames_of c.play_frame.new.lead)) (ap (λ (n : ℕ). n + 1) c.loop-turn.invariant.counted)
           (frames_more g.D.Disk g.W.Wire g.C.Console window patience c.loop-turn.made first c.loop-turn.session.peer c.wait.new.session.peer
-              c.play_frame.new.session.peer c.args.wire.now c.loop-turn.wire c.wait.new.wire c.play_frame.new.wire
+          c.play_frame.new.session.peer c.args.wire.now c.loop-turn.wire c.wait.new.wire c.play_frame.new.wire
           c.args.desk.now c.loop-turn.desk c.wait.new.desk c.play_frame.new.desk 0 (frames_of c.loop-turn.lead)
-              (frames_of c.play_frame.new.lead) c.loop-turn.invariant.frames c.in_ok-wait.ensures.waited frame);
+          (frames_of c.play_frame.new.lead) c.loop-turn.invariant.frames c.in_ok-wait.ensures.waited frame);
     }

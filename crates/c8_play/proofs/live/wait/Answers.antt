@@ -8,12 +8,12 @@ returns-in_err-listen-clause-end g c =
     let error = err_from_is_err_and c.from_residual.result c.from_residual.ensures.1 in
     rw (error.1, error.2)
     (c.peers_run_on.ensures.ended c.args.session.now.peer c.loop.session.peer c.listen.new.self.peer c.in_err-listen.field-0.0
-        c.loop.invariant.ran c.in_err-listen.ensures.end)
+    c.loop.invariant.ran c.in_err-listen.ensures.end)
 
 pub returns-in_err-listen-clause-waited : goal.returns-in_err-listen-clause-waited
 returns-in_err-listen-clause-waited g c =
     waited_more g.D.Disk g.W.Wire g.C.Console c.hearings_join.ensures.joined most_packets c.args.session.now.peer c.loop.session.peer
-        c.listen.new.self.peer c.args.wire.now c.loop.wire c.listen.new.wire c.args.desk.now c.loop.desk c.rest_unless_due.new.self
+    c.listen.new.self.peer c.args.wire.now c.loop.wire c.listen.new.wire c.args.desk.now c.loop.desk c.rest_unless_due.new.self
     c.loop.invariant.waited c.rest_unless_due.ensures c.in_err-listen.ensures.heard
 
 pub loop-preserved : goal.loop-preserved

@@ -7,5 +7,5 @@ pub returns-in_ok-write_listing : goal.returns-in_ok-write_listing
 returns-in_ok-write_listing g c =
     let some : (length c.args.program.bytes.now == 0) ≡ false = sym c.is_empty.ensures ∙ c.if-is_empty.false in
     let fits : nat_lt most_program (length c.args.program.bytes.now) ≡ false =
-        le-ltb most_program (length c.args.program.bytes.now) c.if-program-gt-MOST_PROGRAM.false in
+    le-ltb most_program (length c.args.program.bytes.now) c.if-program-gt-MOST_PROGRAM.false in
     (Ok c.args.program.bytes.now, (refl, rw (some, fits) refl), refl)

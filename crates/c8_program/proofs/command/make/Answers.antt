@@ -2,5 +2,9 @@ use Rattle.std.proofs.Common.{Ok, refl}
 use Rattle.c8_program.proofs.command.make.Goals as goal
 
 pub returns-in_ok-write_all-in-Ok : goal.returns-in_ok-write_all-in-Ok
-returns-in_ok-write_all-in-Ok g c = (Ok c.in-Ok.text.items, (c.in-Ok.ensures.fine, c.in-Ok.ensures.text), refl,
-    rw c.deref.ensures.value at c.in_ok-write_all-in-Ok.ensures.bytes)
+returns-in_ok-write_all-in-Ok g c = (
+  Ok c.in-Ok.text.items,
+  (c.in-Ok.ensures.fine, c.in-Ok.ensures.text),
+  refl,
+  rw c.deref.ensures.value at c.in_ok-write_all-in-Ok.ensures.bytes,
+)

@@ -12,8 +12,8 @@ all_more : (test : ℕ → Bool) (bytes : List ℕ) (place : ℕ) → place < le
     → test (get_or bytes place 0) ≡ true → list_all test (take (place + 1) bytes) ≡ true
 all_more test bytes place within all here =
     rw (add-one, take-suc bytes place 0) (list_all-append test (take place bytes) (get_or bytes place 0 ∷ [])
-        ∙ and_from (list_all test (take place bytes)) (list_all test (get_or bytes place 0 ∷ [])) all
-        (and_from (test (get_or bytes place 0)) true here refl))
+    ∙ and_from (list_all test (take place bytes)) (list_all test (get_or bytes place 0 ∷ [])) all
+    (and_from (test (get_or bytes place 0)) true here refl))
 
 pub loop-digit-preserved : goal.loop-digit-preserved
 loop-digit-preserved c =

@@ -4,5 +4,8 @@ use Rattle.c8_program.proofs.FieldLemmas.{one_more_field}
 use Rattle.c8_program.proofs.text.add_fields.Goals as goal
 
 pub loop-field-preserved : goal.loop-field-preserved
-loop-field-preserved c = (refl, one_more_field (rules_of c.args.settings.now []) c.args.text.now.items c.loop-field.text.items
-    c.add_field.new.text.items c.loop-field.field-index c.loop-field-test.true c.loop-field.invariant.1 c.in_ok-add_field.ensures)
+loop-field-preserved c = (
+  refl,
+  one_more_field (rules_of c.args.settings.now []) c.args.text.now.items c.loop-field.text.items
+      c.add_field.new.text.items c.loop-field.field-index c.loop-field-test.true c.loop-field.invariant.1 c.in_ok-add_field.ensures,
+)

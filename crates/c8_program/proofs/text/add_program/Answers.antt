@@ -11,7 +11,7 @@ pub loop-rest-preserved : goal.loop-rest-preserved
 loop-rest-preserved c =
     let full = eqb-false (length c.loop-rest.rest.now) 0 (sym c.is_empty.ensures ∙ c.loop-rest-test.true) in
     let some : 0 < length (take c.min.result c.loop-rest.rest.now) =
-        omega (arith, full, ap length c.split_at.ensures.front, c.split_at.ensures.front_len, c.min.ensures) in
+    omega (arith, full, ap length c.split_at.ensures.front, c.split_at.ensures.front_len, c.min.ensures) in
     rw c.split_at.ensures.back (more_written c.args.text.now.items c.loop-rest.text.items c.add_line.new.text.items c.args.program.now
-        c.loop-rest.rest.now c.as_bytes.result.now c.min.result c.loop-rest.invariant (λ i. omega (arith, c.type_inv.program i)) some
+    c.loop-rest.rest.now c.as_bytes.result.now c.min.result c.loop-rest.invariant (λ i. omega (arith, c.type_inv.program i)) some
     (c.as_bytes.ensures.value ∙ c.in_ok-digits.ensures ∙ ap encode_lower c.split_at.ensures.front) c.in_ok-add_line.ensures)

@@ -8,5 +8,5 @@ pub returns-clause-text : goal.returns-clause-text
 returns-clause-text c =
     let added = c.in_ok-add_program.ensures in
     game_spelled c.args.settings.now c.args.program.now c.add_program.new.text.items added.0 (sym c.fault.ensures ∙ c.in_default.is)
-        (added.1 ∙ ap (λ front. front ++ added.0)
-        (c.in_ok-add_fields.ensures ∙ ap (λ front. front ++ fields_text (rules_of c.args.settings.now [])) c.new-text.ensures.items)) added.2
+    (added.1 ∙ ap (λ front. front ++ added.0)
+    (c.in_ok-add_fields.ensures ∙ ap (λ front. front ++ fields_text (rules_of c.args.settings.now [])) c.new-text.ensures.items)) added.2

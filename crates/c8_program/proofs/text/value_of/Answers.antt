@@ -19,12 +19,12 @@ pub returns-in_ok-digits : goal.returns-in_ok-digits
 returns-in_ok-digits c =
     let same : c.as_bytes.result.now ≡ value_text c.args.field c.args.number =
     c.as_bytes.ensures.value ∙ c.in_ok-digits.ensures ∙ ap encode_lower c.to_be_bytes.ensures
-        ∙ as_mask c.args.field c.args.number (sym c.is_mask.ensures ∙ c.if-is_mask.true) in
+    ∙ as_mask c.args.field c.args.number (sym c.is_mask.ensures ∙ c.if-is_mask.true) in
     rw same at c.from_slice.ensures.items
 
 pub returns-else-is_mask : goal.returns-else-is_mask
 returns-else-is_mask c =
     let same : c.as_bytes-else-is_mask.result.now ≡ value_text c.args.field c.args.number =
     c.as_bytes-else-is_mask.ensures.value ∙ c.format.ensures.text
-        ∙ as_decimal c.args.field c.args.number (sym c.is_mask.ensures ∙ c.if-is_mask.false) in
+    ∙ as_decimal c.args.field c.args.number (sym c.is_mask.ensures ∙ c.if-is_mask.false) in
     rw same at c.from_slice-else-is_mask.ensures.items

@@ -1,8 +1,8 @@
 use Rattle.std.proofs.Common.{rules}
 use Rattle.c8_record.specs.checked.BodyLaws.{complete, spells_lent}
 use Rattle.c8_record.proofs.reading.view.Goals as goal
-use Rattle.c8_record.proofs.reading.view.Goals.{then-not-is_complete-via-then-not-is_complete,
-  then-not-is_complete-via-else-not-is_complete+then-not-is_body_of}
+use Rattle.c8_record.proofs.reading.view.Goals.{then-not-is_complete-via-then-not-is_complete}
+use Rattle.c8_record.proofs.reading.view.Goals.{then-not-is_complete-via-else-not-is_complete+then-not-is_body_of}
 
 pub returns-then-not-is_complete-clause-value : goal.returns-then-not-is_complete-clause-value
 returns-then-not-is_complete-clause-value c = λ r spells.

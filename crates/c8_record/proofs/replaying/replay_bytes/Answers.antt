@@ -18,7 +18,7 @@ pub loop-n-preserved : goal.loop-n-preserved
 loop-n-preserved c = record {
   taken =
       read_more c.args.game.now c.args.known.now.me c.args.room (kept c.args.image.now) c.loop-n.n c.loop-n.known c.take_body.new.known
-          (value_in c.loop-n.checks) (value_in c.take_body.new.checks) c.loop-n.epoch c.in_ok-epoch.epoch c.kept_body.result.now
+      (value_in c.loop-n.checks) (value_in c.take_body.new.checks) c.loop-n.epoch c.in_ok-epoch.epoch c.kept_body.result.now
       c.loop-n.invariant.taken c.kept_body.ensures c.in_ok-epoch.ensures.taken;
   all = c.loop-n.invariant.all;
 }

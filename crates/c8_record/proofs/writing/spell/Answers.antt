@@ -4,5 +4,10 @@ use Rattle.c8_record.proofs.writing.spell.Goals as goal
 
 pub returns : goal.returns
 returns c =
-    rw (c.copy_from_slice.ensures.after, c.copy_from_slice-2.ensures.after, c.head_of.ensures, c.split_at_mut-head.ensures.back,
-        drop-replicate {X = ℕ} (length c.args.run.now) 131 0) refl
+    rw (
+      c.copy_from_slice.ensures.after,
+      c.copy_from_slice-2.ensures.after,
+      c.head_of.ensures,
+      c.split_at_mut-head.ensures.back,
+      drop-replicate {X = ℕ} (length c.args.run.now) 131 0,
+    ) refl

@@ -18,7 +18,7 @@ loop-frame-preserved c =
       spell =
           spell_more players k frame c.loop-frame.invariant.spell
           (known_row k frame players c.requires.of_game.players (omega (arith, c.players.ensures.least, c.players.ensures.value))
-              (omega (arith, c.players.ensures.greatest, c.players.ensures.value)) sets);
+          (omega (arith, c.players.ensures.greatest, c.players.ensures.value)) sets);
     }
 
 pub returns-clause-spell : goal.returns-clause-spell

@@ -15,5 +15,5 @@ loop-frame-preserved c =
 pub returns-clause-run : goal.returns-clause-run
 returns-clause-run c =
     let end : c.loop-frame.frame ≡ c.args.frames =
-        omega (arith, c.loop-frame-test.false, c.loop-frame.auto.frame, c.loop-frame.auto.frame-end, c.if-frames-from.false) in
+    omega (arith, c.loop-frame-test.false, c.loop-frame.auto.frame, c.loop-frame.auto.frame-end, c.if-frames-from.false) in
     record { frames = sym (length-rows c.args.known.now c.args.frames); machine = rw (end) at c.loop-frame.invariant }

@@ -7,4 +7,4 @@ use Rattle.c8_rig.proofs.gathering.agree.Given as goal
 abbrev pub invariant-loop-peer : goal.invariant-loop-peer
 invariant-loop-peer l =
     (vec_len l.standings ≡ l.peer-index) × (length l.peers ≤ vec_capacity l.standings)
-        × (map known_at l.standings.items ≡ map known_by (take l.peer-index l.peers))
+    × (map known_at l.standings.items ≡ map known_by (take l.peer-index l.peers))

@@ -23,7 +23,7 @@ together-requires-clause-played g c =
     let are : c.in-Some.entries.items ≡ map (λ one. one.entry) played = search rules in
     let also : map Some c.in-Some.peers.items ≡ map (λ one. one.peer) played = search rules in
     all_played c.args.game.now c.args.turns g.B.Room.ether g.B.Room.players (λ job. job.entry) (λ job. job.disk) (λ one. one.entry)
-        (λ one. one.peer) jobs played c.in-Some.entries.items c.in-Some.peers.items begins c.in_ok-jobs.ensures.disks as_many are also
+    (λ one. one.peer) jobs played c.in-Some.entries.items c.in-Some.peers.items begins c.in_ok-jobs.ensures.disks as_many are also
     (λ i r few at.
     let given = (c.in_ok-played.ensures.each i r few).1 in
     (given.job, given.job_read, subst (λ one. HasWorked c.args.game.now given.job.disk given.job.entry one.entry one.peer) (sym at) given.call.met))

@@ -16,10 +16,10 @@ gather-requires-clause-places g c = at_their_places c.args.game.now c.args.turns
 pub returns : goal.returns
 returns g c =
     let played : (i : ℕ) → i < c.args.game.now.players
-        → IsPlayedAt c.args.game.now c.args.turns g.B.Room.ether c.args.entries.items c.args.peers.items i =
+    → IsPlayedAt c.args.game.now c.args.turns g.B.Room.ether c.args.entries.items c.args.peers.items i =
     subst (λ (n : ℕ). (i : ℕ) → i < n → IsPlayedAt c.args.game.now c.args.turns g.B.Room.ether c.args.entries.items c.args.peers.items i)
-        (sym c.requires.game) c.requires.played in
+    (sym c.requires.game) c.requires.played in
     rigged c.a_log_is_a_world.ensures c.moments_of_a_log_agree.ensures c.what_disks_give_agrees.ensures c.args.game.now c.args.turns
-        g.B.Room.ether c.args.entries.items c.args.peers.items c.gather.result c.in_range.ensures (c.requires.peers ∙ sym c.requires.game) played
+    g.B.Room.ether c.args.entries.items c.args.peers.items c.gather.result c.in_range.ensures (c.requires.peers ∙ sym c.requires.game) played
     (subst (λ (n : ℕ). IfOk c.gather.result (λ gathering. IsGathering n c.args.entries.items c.args.peers.items gathering))
-        (sym c.requires.game) c.gather.ensures)
+    (sym c.requires.game) c.gather.ensures)

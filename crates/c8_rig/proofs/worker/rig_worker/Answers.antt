@@ -27,12 +27,12 @@ returns-clause-led g c =
     let deed = c.openings_are_deeds.ensures.opened c.args.disk c.args.game.now 0 number before false c.in-Ok.peer opened (λ e. cc e) refl in
     subst (λ (me : ℕ). Leads c.args.game.now 0 me before c.play.new.self.entry.notes c.play.new.self.peer.state) c.player-player.ensures
     (worked _ before c.args.game.now 0 number number c.args.entry c.note.new.entry c.play.new.self.entry c.in-Ok.peer c.play.new.self.peer
-        c.requires.unused noted opened.rules_are opened.room_is opened.me_is
+    c.requires.unused noted opened.rules_are opened.room_is opened.me_is
     (record { finds = false; opening = Stands; answer = _; done = deed }) c.play.ensures)
 
 pub returns-clause-played : goal.returns-clause-played
 returns-clause-played g c =
     let noted : c.note.new.entry ≡ with_note c.args.entry (Open c.player-player.result.number) [] = search rules in
     played_on _ c.args.game.now c.player-player.result.number c.args.entry.player c.args.disk c.args.entry c.note.new.entry
-        c.play.new.self.entry c.in-Ok.peer c.play.new.self.peer
+    c.play.new.self.entry c.in-Ok.peer c.play.new.self.peer
     c.requires.unused noted c.player-player.ensures c.in-Ok.ensures.opened c.play.ensures

@@ -8,7 +8,7 @@ pub loop-before-preserved : goal.loop-before-preserved
 loop-before-preserved g c =
     let told = c.in_ok-write_line.ensures in
     lines_next (g.W.Write.contents c.args.out.now) (g.W.Write.contents c.loop-before.out) (g.W.Write.contents c.write_line.new.out)
-        c.args.answers.now c.loop-before.before _ told.0
+    c.args.answers.now c.loop-before.before _ told.0
     (drop_more c.args.answers.now c.loop-before.before (Opened (Ok 0)) (omega arith)) c.loop-before.invariant told.1 told.2
 
 pub returns : goal.returns

@@ -52,14 +52,14 @@ pub returns-in_ok-write_ends-in-Ok : goal.returns-in_ok-write_ends-in-Ok
 unfolding Wrote
 returns-in_ok-write_ends-in-Ok g c =
     finished c.args.game.bytes.now c.args.script.bytes.now (g.W.Write.contents c.args.out.now) (g.W.Write.contents c.write_answers.new.out)
-        (g.W.Write.contents c.write_ends.new.out) c.in-Ok.transcript
+    (g.W.Write.contents c.write_ends.new.out) c.in-Ok.transcript
     c.deref.result.now (subst (λ (outcome : Result Transcript Unfinished). IsOutcomeOfSim c.args.game.bytes.now c.args.script.bytes.now
-        outcome) c.in-Ok.is c.requires) c.deref.ensures.value c.in_ok-write_answers-in-Ok.ensures c.in_ok-write_ends-in-Ok.ensures
+    outcome) c.in-Ok.is c.requires) c.deref.ensures.value c.in_ok-write_answers-in-Ok.ensures c.in_ok-write_ends-in-Ok.ensures
 
 pub returns-in_ok-write_answers-in-Err : goal.returns-in_ok-write_answers-in-Err
 unfolding Wrote
 returns-in_ok-write_answers-in-Err g c =
     cut_short c.args.game.bytes.now c.args.script.bytes.now (g.W.Write.contents c.args.out.now)
-        (g.W.Write.contents c.write_answers-in-Err.new.out) c.in-Err.unfinished c.deref-in-Err.result.now c.tell_at.result
+    (g.W.Write.contents c.write_answers-in-Err.new.out) c.in-Err.unfinished c.deref-in-Err.result.now c.tell_at.result
     (subst (λ (outcome : Result Transcript Unfinished). IsOutcomeOfSim c.args.game.bytes.now c.args.script.bytes.now outcome) c.in-Err.is
-        c.requires) c.deref-in-Err.ensures.value c.in_ok-write_answers-in-Err.ensures (rw (← c.from.ensures.0) c.tell_at.ensures)
+    c.requires) c.deref-in-Err.ensures.value c.in_ok-write_answers-in-Err.ensures (rw (← c.from.ensures.0) c.tell_at.ensures)

@@ -37,7 +37,7 @@ returns-then-not-branch c =
     let untaken : is_event_line line ≡ false = sym c.in_ok-is_event_line.ensures ∙ c.if-not-branch.true in
     let here : IsFirstPlace event_fault (lines c.args.text.now) c.loop-line.place =
     rw (before.cut, c.in-Some.ensures.steps, before.here)
-        (Line, first_placed event_fault before.seen line _ Line before.faultless (rw untaken refl)) in
+    (Line, first_placed event_fault before.seen line _ Line before.faultless (rw untaken refl)) in
     first_no_event c.args.text.now c.loop-line.place here
 
 -- no line is left
@@ -45,6 +45,6 @@ pub returns : goal.returns
 returns c =
     let before = c.loop-line.invariant in
     let all : lines c.args.text.now ≡ before.seen =
-        before.cut ∙ ap (λ left. before.seen ++ left) c.in-None.ensures.steps.0 ∙ append-nil before.seen in
+    before.cut ∙ ap (λ left. before.seen ++ left) c.in-None.ensures.steps.0 ∙ append-nil before.seen in
     let faultless : AreFaultless event_fault (lines c.args.text.now) = rw all before.faultless in
     are_event_lines c.args.text.now faultless

@@ -37,20 +37,20 @@ returns-in_err-event-clause-spelled c =
     let error = err_from_is_err_and c.from_residual.result c.from_residual.ensures.1 in
     rw (error.1, error.2)
     (fault_told c.args.text.now before.seen _ line c.in_err-event.field-0.0
-        (before.cut ∙ ap (λ left. before.seen ++ left) c.in-Some.ensures.steps) (sym c.is_skipped.ensures ∙ c.if-is_skipped.false)
-        c.in_err-event.ensures)
+    (before.cut ∙ ap (λ left. before.seen ++ left) c.in-Some.ensures.steps) (sym c.is_skipped.ensures ∙ c.if-is_skipped.false)
+    c.in_err-event.ensures)
 
 -- no line is left
 pub returns-clause-spelled : goal.returns-clause-spelled
 returns-clause-spelled c =
     let before = c.loop-line.invariant in
     let all : lines c.args.text.now ≡ before.seen =
-        before.cut ∙ ap (λ left. before.seen ++ left) c.in-None.ensures.steps.0 ∙ append-nil before.seen in
+    before.cut ∙ ap (λ left. before.seen ++ left) c.in-None.ensures.steps.0 ∙ append-nil before.seen in
     lines_spelt (event_lines c.args.text.now) c.loop-line.events.items (ap (λ ls. map event_of (not_skipped ls)) all ∙ before.read)
 
 pub returns-clause-no_other : goal.returns-clause-no_other
 returns-clause-no_other c other spelt =
     let before = c.loop-line.invariant in
     let all : lines c.args.text.now ≡ before.seen =
-        before.cut ∙ ap (λ left. before.seen ++ left) c.in-None.ensures.steps.0 ∙ append-nil before.seen in
+    before.cut ∙ ap (λ left. before.seen ++ left) c.in-None.ensures.steps.0 ∙ append-nil before.seen in
     no_other (event_lines c.args.text.now) c.loop-line.events.items other (ap (λ ls. map event_of (not_skipped ls)) all ∙ before.read) spelt

@@ -11,7 +11,7 @@ returns-then-take-clause-taken c =
     let some = c.args.from.from_one in
     let size : length c.args.seen.now ≡ 6 = c.told-seen in
     let is = element c.args.seen.now (c.args.from.number - 1) c.place_of.result c.index-seen-place_of.result c.place_of.ensures.is
-        (omega (arith, few, some, size)) in (
+    (omega (arith, few, some, size)) in (
       subst (λ (taken : List ℕ). IsNew taken c.args.counter) (sym is) c.if-take.ensures.0,
       subst (λ (taken : List ℕ). IsTrue c.is_newest-is_newest.result ↔ IsNewest taken c.args.counter) (sym is) c.is_newest-is_newest.ensures,
       ap (λ (place : ℕ). slice_set c.args.seen.now place c.take.new.self) c.place_of.ensures.is
@@ -25,7 +25,7 @@ returns-else-take-clause-taken c =
     let some = c.args.from.from_one in
     let size : length c.args.seen.now ≡ 6 = c.told-seen in
     let is = element c.args.seen.now (c.args.from.number - 1) c.place_of.result c.index-seen-place_of.result c.place_of.ensures.is
-        (omega (arith, few, some, size)) in (
+    (omega (arith, few, some, size)) in (
       λ new. c.if-take.ensures.0 (subst (λ (taken : List ℕ). IsNew taken c.args.counter) is new),
       ap (λ (place : ℕ). slice_set c.args.seen.now place c.take.new.self) c.place_of.ensures.is
           ∙ ap (slice_set c.args.seen.now (c.args.from.number - 1)) c.if-take.ensures.1

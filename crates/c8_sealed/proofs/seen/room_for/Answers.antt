@@ -2,8 +2,8 @@ use Rattle.std.proofs.Common.{ℕ, Option, subst, ◌+◌, ◌<◌, arith}
 use Rattle.c8_sealed.specs.SeenBits.{HasSeen}
 use Rattle.c8_sealed.proofs.SeenLemmas.{is_new, was_taken, older, too_old, is_newer, newer, mark_at}
 use Rattle.c8_sealed.proofs.seen.room_for.Goals as goal
-use Rattle.c8_sealed.proofs.seen.room_for.Goals.{then-greatest-counter-ge-WINDOW-via-then-greatest-counter-ge-WINDOW,
-  then-greatest-counter-ge-WINDOW-via-else-greatest-counter-ge-WINDOW+then-marks-place_of}
+use Rattle.c8_sealed.proofs.seen.room_for.Goals.{then-greatest-counter-ge-WINDOW-via-then-greatest-counter-ge-WINDOW}
+use Rattle.c8_sealed.proofs.seen.room_for.Goals.{then-greatest-counter-ge-WINDOW-via-else-greatest-counter-ge-WINDOW+then-marks-place_of}
 
 pub returns-then-counter-greatest-clause-room : goal.returns-then-counter-greatest-clause-room
 returns-then-counter-greatest-clause-room c taken seen =
@@ -21,7 +21,7 @@ returns-then-greatest-counter-ge-WINDOW-clause-room c taken seen =
     let below = c.if-counter-greatest.false in
     elim c.then-greatest-counter-ge-WINDOW.branch [
       | then-greatest-counter-ge-WINDOW-via-then-greatest-counter-ge-WINDOW w ↦ too_old _ _ c.args.marks.now taken at
-      (let far = w.if-greatest-counter-ge-WINDOW.true in omega (arith, far, below))
+          (let far = w.if-greatest-counter-ge-WINDOW.true in omega (arith, far, below))
       | then-greatest-counter-ge-WINDOW-via-else-greatest-counter-ge-WINDOW+then-marks-place_of w ↦ was_taken _ _ c.args.marks.now taken at below
           (let near = w.if-greatest-counter-ge-WINDOW.false in omega (arith, near, below))
           (mark_at c.args.marks.now _ _ _ w.place_of.ensures.is w.if-marks-place_of.true)

@@ -10,19 +10,19 @@ returns-then-not-are_same c =
     let place = c.loop-place.place in
     let none : Row = record { sets = [] } in
     sym (c.loop-place.invariant ∙ differ_off place c.args.taken.now (shown c.args.rows) (get_or c.args.taken.now place none) c.get.result
-        (slice_get-get_or c.args.taken.now place none (omega (arith, c.loop-place-test.true, c.min-place-end.ensures))) c.get.ensures
-        (sym c.are_same.ensures ∙ c.if-not-are_same.true))
+    (slice_get-get_or c.args.taken.now place none (omega (arith, c.loop-place-test.true, c.min-place-end.ensures))) c.get.ensures
+    (sym c.are_same.ensures ∙ c.if-not-are_same.true))
 
 pub loop-place-preserved : goal.loop-place-preserved
 loop-place-preserved c =
     let place = c.loop-place.place in
     let none : Row = record { sets = [] } in
     c.loop-place.invariant ∙ differ_on place c.args.taken.now (shown c.args.rows) (get_or c.args.taken.now place none) c.get.result
-        (slice_get-get_or c.args.taken.now place none (omega (arith, c.loop-place-test.true, c.min-place-end.ensures))) c.get.ensures
-        (sym c.are_same.ensures ∙ c.if-not-are_same.false)
+    (slice_get-get_or c.args.taken.now place none (omega (arith, c.loop-place-test.true, c.min-place-end.ensures))) c.get.ensures
+    (sym c.are_same.ensures ∙ c.if-not-are_same.false)
 
 pub returns : goal.returns
 returns c =
     let place = c.loop-place.place in
     sym (c.loop-place.invariant ∙ differ_past place c.args.taken.now (shown c.args.rows)
-        (omega (arith, c.loop-place-test.false, c.min-place-end.ensures, c.len.ensures.count)))
+    (omega (arith, c.loop-place-test.false, c.min-place-end.ensures, c.len.ensures.count)))

@@ -13,7 +13,7 @@ loop-x-preserved c =
     let x : ℕ = c.loop-x.x in
     let is : c.cell.result.now ≡ cell_at points y x =
     c.cell.ensures ∙ ap (λ (upper : Bool). cell upper c.lit-in-loop-x.result) c.lit.ensures
-        ∙ ap (λ (lower : Bool). cell (points x (2 * y)) lower) c.lit-in-loop-x.ensures in
+    ∙ ap (λ (lower : Bool). cell (points x (2 * y)) lower) c.lit-in-loop-x.ensures in
     let short : length c.cell.result.now ≤ 3 = omega (arith, ap length is, cell-length (points x (2 * y)) (points x (2 * y + 1))) in
     record {
       items =
@@ -29,5 +29,5 @@ returns-clause-bytes c =
     let points : Points = points_of c.args.screen.now in
     let all : c.loop-x.x ≡ 64 = omega (arith, c.loop-x-test.false, c.loop-x.auto.x-end) in
     c.loop-x.invariant.items ∙ ap (λ (n : ℕ). (c.args.out.now.items ++ move (c.args.y + 1)) ++ flat_map (cell_at points c.args.y)
-        (range_with_len 0 n)) all
+    (range_with_len 0 n)) all
     ∙ append_assoc c.args.out.now.items (move (c.args.y + 1)) (flat_map (cell_at points c.args.y) (range_with_len 0 64))

@@ -8,4 +8,4 @@ returns c =
     let a_in : c.row-a.result.now < 2 ^ 64 = omega arith in
     let b_in : c.row-b.result.now < 2 ^ 64 = omega arith in
     compared (points_of c.args.a.now) (points_of c.args.b.now) c.args.y c.row-a.result.now c.row-b.result.now a_in b_in c.row-a.ensures
-        c.row-b.ensures
+    c.row-b.ensures

@@ -8,11 +8,11 @@ pub returns-in-Some-true : goal.returns-in-Some-true
 returns-in-Some-true g c =
     let is : c.args.verdict ≡ Some true = c.in-Some-true.is ∙ ap Some c.in-Some-true.field-0-test in
     subst (λ (verdict : Option Bool). OnOk c.write.result
-        (Appends (g.W.Write.contents c.args.out.now) (g.W.Write.contents c.write.new.self) (verdict_text verdict))) (sym is) c.write.ensures.bytes
+    (Appends (g.W.Write.contents c.args.out.now) (g.W.Write.contents c.write.new.self) (verdict_text verdict))) (sym is) c.write.ensures.bytes
 
 pub returns-in-Some-false : goal.returns-in-Some-false
 returns-in-Some-false g c =
     let is : c.args.verdict ≡ Some false = c.in-Some-false.is ∙ ap Some c.in-Some-false.field-0-test in
     subst (λ (verdict : Option Bool). OnOk c.write-in-Some-false.result
-        (Appends (g.W.Write.contents c.args.out.now) (g.W.Write.contents c.write-in-Some-false.new.self) (verdict_text verdict))) (sym is)
-        c.write-in-Some-false.ensures.bytes
+    (Appends (g.W.Write.contents c.args.out.now) (g.W.Write.contents c.write-in-Some-false.new.self) (verdict_text verdict))) (sym is)
+    c.write-in-Some-false.ensures.bytes

@@ -8,4 +8,4 @@ pub returns : goal.returns
 returns g c old new before after turn =
     subst (λ (w : WatchValue). IsStillWatched old w) (sym turn.hears.has)
     (still_watched c.what_is_heard_takes_nothing_back.ensures c.what_is_still_watched_chains.ensures.same
-        c.what_is_still_watched_chains.ensures.more old turn.hears.given)
+    c.what_is_still_watched_chains.ensures.more old turn.hears.given)

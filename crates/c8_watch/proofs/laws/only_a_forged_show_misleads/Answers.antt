@@ -9,5 +9,5 @@ pub returns : goal.returns
 returns c rules room seat s deeds answers given range few run shows =
     shows_begin c.what_is_shown_of_one_list_begins_it.ensures.any rules s answers
     (λ p among. c.a_peers_word_stands.ensures.said rules room 1 s deeds answers p range (omega arith) (omega (arith, range.at_least_two))
-        few run among)
+    few run among)
     (first_watch rules room seat) given shows (record { rest = confirmed_rows (known_of rules 1 s.journal); is = refl })

@@ -14,5 +14,5 @@ returns-then-count-published-clause-shown c =
     let same = c.if-count-published.true in
     let count = c.count.ensures.count in
     let none : begins.rest ≡ [] = nothing_left begins.rest
-        (omega (arith, same, count, c.requires.published, length-append pen.rows begins.rest, ap length begins.is)) in
+    (omega (arith, same, count, c.requires.published, length-append pen.rows begins.rest, ap length begins.is)) in
     ap (λ (rows : List Row). record pen { rows = rows }) (sym (begins.is ∙ ap (λ (rest : List Row). pen.rows ++ rest) none ∙ append-nil pen.rows))

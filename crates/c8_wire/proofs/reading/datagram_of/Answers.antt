@@ -25,8 +25,13 @@ invariant_of-result-in-Data c =
     let fits : AreBytes bytes = λ i. omega (arith, c.type_inv.bytes i) in
     let named : kind_at bytes ≡ Some kinds.Data = c.requires.kind ∙ ap Some c.in-Data.is in
     let run = data_run bytes fits named c.requires.accepted in
-    record { long = run.long; few = run.short; sized = run.sized; paired = run.paired;
-        spelled = found kinds.Data bytes fits named c.requires.accepted }
+    record {
+      long = run.long;
+      few = run.short;
+      sized = run.sized;
+      paired = run.paired;
+      spelled = found kinds.Data bytes fits named c.requires.accepted;
+    }
 
 pub invariant_of-result-in-Freeze : goal.invariant_of-result-in-Freeze
 invariant_of-result-in-Freeze c =
@@ -49,8 +54,11 @@ invariant_of-result-in-Frozen c =
     let fits : AreBytes bytes = λ i. omega (arith, c.type_inv.bytes i) in
     let named : kind_at bytes ≡ Some kinds.Frozen = c.requires.kind ∙ ap Some c.in-Frozen.is in
     let is = (found kinds.Frozen bytes fits named c.requires.accepted).packet.message in
-    record { long = omega (arith, (frozen_run bytes fits named c.requires.accepted).long); from_two = is.leaver_from_two;
-        to_four = is.leaver_to_four }
+    record {
+      long = omega (arith, (frozen_run bytes fits named c.requires.accepted).long);
+      from_two = is.leaver_from_two;
+      to_four = is.leaver_to_four;
+    }
 
 pub invariant_of-result-in-Frozen-2 : goal.invariant_of-result-in-Frozen-2
 invariant_of-result-in-Frozen-2 c =
@@ -58,8 +66,13 @@ invariant_of-result-in-Frozen-2 c =
     let fits : AreBytes bytes = λ i. omega (arith, c.type_inv.bytes i) in
     let named : kind_at bytes ≡ Some kinds.Frozen = c.requires.kind ∙ ap Some c.in-Frozen.is in
     let run = frozen_run bytes fits named c.requires.accepted in
-    record { long = run.long; few = run.short; sized = run.sized; paired = run.paired;
-        spelled = found kinds.Frozen bytes fits named c.requires.accepted }
+    record {
+      long = run.long;
+      few = run.short;
+      sized = run.sized;
+      paired = run.paired;
+      spelled = found kinds.Frozen bytes fits named c.requires.accepted;
+    }
 
 pub invariant_of-result-in-Cut : goal.invariant_of-result-in-Cut
 invariant_of-result-in-Cut c =
@@ -75,8 +88,13 @@ invariant_of-result-in-Cut-2 c =
     let fits : AreBytes bytes = λ i. omega (arith, c.type_inv.bytes i) in
     let named : kind_at bytes ≡ Some kinds.Cut = c.requires.kind ∙ ap Some c.in-Cut.is in
     let run = cut_run bytes fits named c.requires.accepted in
-    record { long = run.long; few = run.short; sized = run.sized; paired = run.paired;
-        spelled = found kinds.Cut bytes fits named c.requires.accepted }
+    record {
+      long = run.long;
+      few = run.short;
+      sized = run.sized;
+      paired = run.paired;
+      spelled = found kinds.Cut bytes fits named c.requires.accepted;
+    }
 
 pub invariant_of-result-in-Show : goal.invariant_of-result-in-Show
 invariant_of-result-in-Show c =

@@ -12,7 +12,7 @@ in_parts : (version : WireVersion) (old first second between new : List ℕ) (bo
     → new ≡ old ++ body_bytes version (message_of whole)
 in_parts version old first second between new body whole p q is parts =
     q ∙ ap (λ (front : List ℕ). front ++ second) p ∙ append_assoc old first second ∙ ap (λ (back : List ℕ). old ++ back) (sym parts)
-        ∙ ap (λ (b : Body). old ++ body_bytes version (message_of b)) (sym is)
+    ∙ ap (λ (b : Body). old ++ body_bytes version (message_of b)) (sym is)
 
 pub returns-in-Frozen-clause-bytes : goal.returns-in-Frozen-clause-bytes
 returns-in-Frozen-clause-bytes c = in_parts c.args.version _ _ _ _ _ _ _ c.put_leaver-in-Frozen.ensures c.put_run-in-Frozen.ensures.bytes

@@ -9,8 +9,15 @@ use Rattle.c8_wire.proofs.writing.put_rows.Goals as goal
 pub put_row-requires : goal.put_row-requires
 put_row-requires c =
     let front : List Row = take c.loop-row.row-index c.args.rows.now in
-    omega (arith, c.requires, ap length c.loop-row.invariant.0, length-append c.args.out.now.items (rows_bytes front),
-        length-rows_bytes front c.loop-row.invariant.1, length-take c.loop-row.row-index c.args.rows.now, c.loop-row-test.true)
+    omega (
+      arith,
+      c.requires,
+      ap length c.loop-row.invariant.0,
+      length-append c.args.out.now.items (rows_bytes front),
+      length-rows_bytes front c.loop-row.invariant.1,
+      length-take c.loop-row.row-index c.args.rows.now,
+      c.loop-row-test.true,
+    )
 
 pub loop-row-preserved : goal.loop-row-preserved
 loop-row-preserved c =

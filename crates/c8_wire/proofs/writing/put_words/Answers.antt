@@ -8,8 +8,14 @@ use Rattle.c8_wire.proofs.writing.put_words.Goals as goal
 pub put-requires : goal.put-requires
 put-requires c =
     let front : List ℕ = take c.loop-word.word-index c.args.run.now in
-    omega (arith, ap length c.loop-word.invariant, length-append c.args.out.now.items (flat_map (big_bytes 2) front),
-        length-spelled_words front, length-take c.loop-word.word-index c.args.run.now, ap length c.to_be_bytes.ensures)
+    omega (
+      arith,
+      ap length c.loop-word.invariant,
+      length-append c.args.out.now.items (flat_map (big_bytes 2) front),
+      length-spelled_words front,
+      length-take c.loop-word.word-index c.args.run.now,
+      ap length c.to_be_bytes.ensures,
+    )
 
 pub loop-word-preserved : goal.loop-word-preserved
 loop-word-preserved c =

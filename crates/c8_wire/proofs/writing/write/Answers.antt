@@ -13,23 +13,41 @@ begun old new bytes empty put = put ∙ ap (λ (front : List ℕ). front ++ byte
 pub put_header-requires-clause-size : goal.put_header-requires-clause-size
 put_header-requires-clause-size c =
     let body = begun _ _ _ c.new-body.ensures c.put_body.ensures.bytes in
-    omega (arith, body_fits c.args.said.now.head.version (message_of c.args.said.now.body) c.put_body.ensures.fits c.requires.message
-        c.requires.room, ap length body, c.len.ensures.value)
+    omega (
+      arith,
+      body_fits c.args.said.now.head.version (message_of c.args.said.now.body) c.put_body.ensures.fits c.requires.message
+          c.requires.room,
+      ap length body,
+      c.len.ensures.value,
+    )
 
 pub put-requires : goal.put-requires
 put-requires c =
     let body = begun _ _ _ c.new-body.ensures c.put_body.ensures.bytes in
     let header = begun _ _ _ c.new-datagram.ensures c.put_header.ensures.bytes in
-    omega (arith, body_fits c.args.said.now.head.version (message_of c.args.said.now.body) c.put_body.ensures.fits c.requires.message
-        c.requires.room, ap length body, ap length header, ap length c.as_slice.ensures.value)
+    omega (
+      arith,
+      body_fits c.args.said.now.head.version (message_of c.args.said.now.body) c.put_body.ensures.fits c.requires.message
+          c.requires.room,
+      ap length body,
+      ap length header,
+      ap length c.as_slice.ensures.value,
+    )
 
 pub returns-clause-length : goal.returns-clause-length
 unfolding spelling
 returns-clause-length c =
     let body = begun _ _ _ c.new-body.ensures c.put_body.ensures.bytes in
     let header = begun _ _ _ c.new-datagram.ensures c.put_header.ensures.bytes in
-    omega (arith, length-append c.put_header.new.out.items c.as_slice.result.now, ap length body, ap length header,
-        ap length c.as_slice.ensures.value, ap length c.put.ensures.bytes, c.len-size.ensures.value)
+    omega (
+      arith,
+      length-append c.put_header.new.out.items c.as_slice.result.now,
+      ap length body,
+      ap length header,
+      ap length c.as_slice.ensures.value,
+      ap length c.put.ensures.bytes,
+      c.len-size.ensures.value,
+    )
 
 pub returns-clause-spelled : goal.returns-clause-spelled
 returns-clause-spelled c =
@@ -45,7 +63,7 @@ returns-clause-spelled c =
     let copied = c.copy_from_slice.ensures.after ∙ c.as_slice-2.ensures.value in
     let front = take_at c.copy_from_slice.new.self _ c.len-size.result (ap length copied ∙ sym c.len-size.ensures.value) in
     spells_both _ head message c.put_header.ensures.head c.requires.kind c.put_body.ensures.fits c.requires.message c.requires.room
-        (front ∙ copied ∙ whole)
+    (front ∙ copied ∙ whole)
 
 -- what is wrong here is refused at once
 pub returns-clause-rest : goal.returns-clause-rest

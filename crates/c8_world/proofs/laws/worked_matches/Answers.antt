@@ -1,6 +1,6 @@
 -- Each match is computed in proofs/Matches.antt.
-use Rattle.c8_world.proofs.Matches.{two_range, three_range, four_range, goes_in_turn, stops_in_tick, cuts_where_held, cuts_after_restart,
-  waits_for_silent, differs_when_dropped, only_of_undropped, ends_after_last_frame, refuses_other}
+use Rattle.c8_world.proofs.Matches.{two_range, three_range, four_range, goes_in_turn, stops_in_tick, cuts_where_held, cuts_after_restart}
+use Rattle.c8_world.proofs.Matches.{waits_for_silent, differs_when_dropped, only_of_undropped, ends_after_last_frame, refuses_other}
 use Rattle.std.proofs.Common.{arith}
 use Rattle.c8_world.proofs.laws.worked_matches.Goals as goal
 

@@ -6,4 +6,4 @@ use Rattle.c8_board.proofs.board.Board.enlist_all.Given as goal
 abbrev pub invariant-loop : goal.invariant-loop
 invariant-loop l =
     (l.pen ≡ l.initial.pen) × (length l.seated.items ≡ l.counter)
-        × All (λ v. v ≡ new_viewer l.pen.board l.pen.game l.pen.from l.pen.rows) l.seated.items
+    × All (λ v. v ≡ new_viewer l.pen.board l.pen.game l.pen.from l.pen.rows) l.seated.items

@@ -4,9 +4,13 @@ use Rattle.c8_board.specs.Starts.{origin_from}
 use Rattle.c8_board.proofs.board.Board.look_with.Goals as goal
 
 pub join_seat-requires : goal.join_seat-requires
-join_seat-requires c =
-    (search rules, search rules, search rules, search rules,
-        joins_as _ c.pen.inside.seat.me _ c.viewer.inside.seat.me c.pen.invariant c.viewer.invariant)
+join_seat-requires c = (
+  search rules,
+  search rules,
+  search rules,
+  search rules,
+  joins_as _ c.pen.inside.seat.me _ c.viewer.inside.seat.me c.pen.invariant c.viewer.invariant,
+)
 
 pub load-found-requires : goal.load-found-requires
 load-found-requires c =
@@ -28,5 +32,5 @@ returns-clause-look c =
     let v = c.viewer.invariant in
     let j = joined_is c.pen.inside.seat.me c.viewer.inside.seat.me _ p v c.join_seat.ensures.2 in
     look_is p.0 (origin_from p.1) p.2 c.load-found.result c.of.result
-        (told c.join_seat.new.seat.me _ _ (p.0, p.1, p.2, v.0, j) c.load-found.ensures.2).0 c.of.ensures.count c.of.ensures.bits
+    (told c.join_seat.new.seat.me _ _ (p.0, p.1, p.2, v.0, j) c.load-found.ensures.2).0 c.of.ensures.count c.of.ensures.bits
     ∙ pen_is _ c.pen.inside.seat.me c.args.pen p c.pen.view_is

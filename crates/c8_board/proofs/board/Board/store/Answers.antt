@@ -3,5 +3,8 @@ use Rattle.c8_board.proofs.TokenMoves.{publishes_as}
 use Rattle.c8_board.proofs.board.Board.store.Goals as goal
 
 pub store-requires : goal.store-requires
-store-requires g c = (search rules, search rules,
-    publishes_as _ c.pen.inside.seat.id _ c.pen.inside.seat.me _ _ _ c.pen.invariant c.pen.view_is c.requires.later c.requires.word)
+store-requires g c = (
+  search rules,
+  search rules,
+  publishes_as _ c.pen.inside.seat.id _ c.pen.inside.seat.me _ _ _ c.pen.invariant c.pen.view_is c.requires.later c.requires.word,
+)

@@ -22,9 +22,9 @@ returns c =
       λ some.
           let found = some_machine c.machine_in.result _ c.is_some.result c.is_some.ensures some c.machine_in.ensures.found in
           may_check c.args.self.now c.args.frames c.args.digest.now found.0 (omega (arith, c.if-self-ne-PIECES.false)) (omega arith)
-              (omega (arith, c.if-frames-self.false)) digest found.1,
+          (omega (arith, c.if-frames-self.false)) digest found.1,
       λ may.
           let whole = is_whole c.args.self.now c.args.frames c.args.digest.now (omega arith) may in
           not_none c.machine_in.result c.is_some.result c.is_some.ensures
-              (λ none. c.machine_in.ensures.none none whole.machine whole.machine_is whole.spelled),
+          (λ none. c.machine_in.ensures.none none whole.machine whole.machine_is whole.spelled),
     )

@@ -10,12 +10,17 @@ before_piece-requires c = let next = is_next c.args.self.now c.requires.0 c.args
 pub put_at-requires : goal.put_at-requires
 put_at-requires c =
     let next = is_next c.args.self.now c.requires.0 c.args.frames c.args.piece c.args.bytes.now c.requires.1 in
-    omega (arith, c.before_piece.ensures, next.long, piece_ends c.args.piece next.within,
-        before_within (c.args.piece + 1) (omega (arith, next.within)))
+    omega (
+      arith,
+      c.before_piece.ensures,
+      next.long,
+      piece_ends c.args.piece next.within,
+      before_within (c.args.piece + 1) (omega (arith, next.within)),
+    )
 
 pub returns : goal.returns
 returns c =
     let next = is_next c.args.self.now c.requires.0 c.args.frames c.args.piece c.args.bytes.now c.requires.1 in
     let put = c.put_at.ensures ∙ ap (λ (place : ℕ). take place c.args.self.now.bytes ++ c.args.bytes.now ++ drop
-        (place + length c.args.bytes.now) c.args.self.now.bytes) c.before_piece.ensures in
+    (place + length c.args.bytes.now) c.args.self.now.bytes) c.before_piece.ensures in
     rw (piece_taken c.args.self.now c.args.frames c.args.piece c.args.bytes.now c.put_at.new.out next (omega arith) put) refl

@@ -19,6 +19,6 @@ returns c =
     ∙ ap (λ (items : List ℕ). items ++ after_memory s) (sym same) ∙ sym (memory_first s) in
     let begun : Holds256 c.in-Ok.hasher memory =
     subst (λ (h : Sha256). Holds256 h memory) (sym c.in-Ok.ensures.cases)
-        (subst (λ (held : List ℕ). Holds256 c.follow.new.self.begun held) c.follow.ensures.memory c.follow.new.self.begins) in
+    (subst (λ (held : List ℕ). Holds256 c.follow.new.self.begun held) c.follow.ensures.memory c.follow.new.self.begins) in
     c.first_of.ensures ∙ ap (take 8) (c.finalize.ensures (memory ++ c.as_slice.result.now) (c.update.ensures memory begun))
     ∙ ap (λ (rest : List ℕ). take 8 (sha256 (memory ++ rest))) c.as_slice.ensures.value ∙ ap (λ (all : List ℕ). take 8 (sha256 all)) bytes

@@ -17,6 +17,6 @@ loop-n-preserved c =
 pub returns-clause-bytes : goal.returns-clause-bytes
 returns-clause-bytes c =
     bytes_end c.args.self.now c.loop-n.n _ c.loop-n.bytes.items c.put-2.new.out.items
-        (omega (arith, c.loop-n-test.false, c.len-n-end.ensures.len, ap length c.self.view_is))
-        (omega (arith, c.loop-n.auto.n-end, c.len-n-end.ensures.len, ap length c.self.view_is))
+    (omega (arith, c.loop-n-test.false, c.len-n-end.ensures.len, ap length c.self.view_is))
+    (omega (arith, c.loop-n.auto.n-end, c.len-n-end.ensures.len, ap length c.self.view_is))
     (omega (arith, c.len-room.ensures.value, c.loop-n.invariant.size)) c.loop-n.invariant.items c.put-2.ensures.bytes

@@ -22,7 +22,7 @@ pub returns-clause-durable : goal.returns-clause-durable
 returns-clause-durable c image left =
     let d = c.args.self.now in
     only_synced d.first.items d.calls.items image (subst (λ (l : List Call). IsImage d.first.items l image) c.note.ensures.items left)
-        ∙ sym d.replayed
+    ∙ sym d.replayed
 
 pub returns-clause-crash : goal.returns-clause-crash
 returns-clause-crash c image left =
@@ -35,4 +35,4 @@ returns-clause-time c =
     let first = d.first.items in
     let calls = d.calls.items in
     subst (λ (l : List Call). Elapses (length calls) (length l) (LeftSince first calls) (LeftSince first l) (IsImage first l))
-        (sym c.note.ensures.items) (elapses_push first calls Sync)
+    (sym c.note.ensures.items) (elapses_push first calls Sync)

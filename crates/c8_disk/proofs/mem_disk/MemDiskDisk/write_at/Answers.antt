@@ -9,9 +9,9 @@ pub invariant_of-self-2-clause-lawful : goal.invariant_of-self-2-clause-lawful
 invariant_of-self-2-clause-lawful c =
     let d = c.args.self.now in
     let within : c.args.at ≤ length (content d.first.items d.calls.items) =
-        subst (λ (l : List ℕ). c.args.at ≤ length l) d.replayed c.requires.place in
+    subst (λ (l : List ℕ). c.args.at ≤ length l) d.replayed c.requires.place in
     ap (are_lawful d.first.items) c.note.ensures.items
-        ∙ lawful_write d.first.items d.calls.items c.args.at c.args.bytes.now c.write_call.result c.write_call.ensures d.lawful within
+    ∙ lawful_write d.first.items d.calls.items c.args.at c.args.bytes.now c.write_call.result c.write_call.ensures d.lawful within
 
 pub invariant_of-self-2-clause-replayed : goal.invariant_of-self-2-clause-replayed
 invariant_of-self-2-clause-replayed c =
@@ -24,13 +24,13 @@ pub invariant_of-self-2-clause-fitting : goal.invariant_of-self-2-clause-fitting
 invariant_of-self-2-clause-fitting c =
     let d = c.args.self.now in
     ap (fit d.room) c.note.ensures.items ∙ fit_write d.first.items d.calls.items c.args.at c.args.bytes.now c.write_call.result
-        c.write_call.ensures d.room d.fitting c.requires.short (omega arith)
+    c.write_call.ensures d.room d.fitting c.requires.short (omega arith)
 
 pub returns-clause-crash : goal.returns-clause-crash
 returns-clause-crash c image left =
     let d = c.args.self.now in
     tears_write d.first.items d.calls.items c.args.at c.args.bytes.now c.write_call.result c.write_call.ensures image
-        (subst (λ (l : List Call). IsImage d.first.items l image) c.note.ensures.items left)
+    (subst (λ (l : List Call). IsImage d.first.items l image) c.note.ensures.items left)
 
 pub returns-clause-time : goal.returns-clause-time
 returns-clause-time c =
@@ -38,7 +38,7 @@ returns-clause-time c =
     let first = d.first.items in
     let calls = d.calls.items in
     subst (λ (l : List Call). Elapses (length calls) (length l) (LeftSince first calls) (LeftSince first l) (IsImage first l))
-        (sym c.note.ensures.items) (elapses_push first calls c.write_call.result)
+    (sym c.note.ensures.items) (elapses_push first calls c.write_call.result)
 
 pub returns-then-bytes-self-clause-full : goal.returns-then-bytes-self-clause-full
 returns-then-bytes-self-clause-full c = search rules

@@ -7,5 +7,5 @@ pub invariant_of-self : goal.invariant_of-self
 invariant_of-self g c =
     let is : IsCall Checkpoint = tt in
     engine_after g.D.Disk c.what_was_given_stays.ensures c.self.inside.peer c.checkpoint.new.self Checkpoint (Checked c.checkpoint.result)
-        c.self.inside.steps c.self.inside.is_told
+    c.self.inside.steps c.self.inside.is_told
     c.is_down-sound.ensures.sound is c.checkpoint.ensures c.self.invariant

@@ -7,5 +7,5 @@ pub invariant_of-self : goal.invariant_of-self
 invariant_of-self g c =
     let is : IsCall (Decide c.args.leaver.number) = tt in
     engine_after g.D.Disk c.what_was_given_stays.ensures c.self.inside.peer c.decide.new.self (Decide c.args.leaver.number)
-        (Decided c.decide.result) c.self.inside.steps c.self.inside.is_told
+    (Decided c.decide.result) c.self.inside.steps c.self.inside.is_told
     c.is_down-sound.ensures.sound is c.decide.ensures c.self.invariant

@@ -2,8 +2,9 @@ use Rattle.std.proofs.Common.{refl, inl, ◌∙◌}
 use Rattle.c8_peer.specs.State.{Leave, Left}
 use Rattle.c8_embed.proofs.TurnLemmas.{turned_still, turned_once, turned_then}
 use Rattle.c8_embed.proofs.engine.Engine.drop_silent.Goals as goal
-use Rattle.c8_embed.proofs.engine.Engine.drop_silent.Goals.{in_default-via-in-None-1, in_default-via-in-Some+else-drops,
-  in_default-via-in-Some+then-drops+in-Err+in-NotChair-1, in_default-via-in-Some+then-drops+in-Ok-1}
+use Rattle.c8_embed.proofs.engine.Engine.drop_silent.Goals.{in_default-via-in-None-1, in_default-via-in-Some+else-drops}
+use Rattle.c8_embed.proofs.engine.Engine.drop_silent.Goals.{in_default-via-in-Some+then-drops+in-Err+in-NotChair-1}
+use Rattle.c8_embed.proofs.engine.Engine.drop_silent.Goals.{in_default-via-in-Some+then-drops+in-Ok-1}
 
 pub loop-number-init : goal.loop-number-init
 loop-number-init g c = record { turned = turned_still g.D.Disk c.args.self.now.peer; steps = refl; depth = refl }
@@ -15,7 +16,7 @@ loop-number-preserved g c =
       | in_default-via-in-Some+else-drops w ↦ rw w.self-is c.loop-number.invariant
       | in_default-via-in-Some+then-drops+in-Err+in-NotChair-1 w ↦
           let once = turned_once g.D.Disk c.loop-number.self.peer w.leave.new.self.peer (Leave w.in-Some.player.number)
-              (Left w.leave.result) (inl (w.in-Some.player.number, refl)) w.leave.ensures.answered in
+          (Left w.leave.result) (inl (w.in-Some.player.number, refl)) w.leave.ensures.answered in
           rw w.self-is (record {
             turned = turned_then g.D.Disk c.args.self.now.peer c.loop-number.self.peer w.leave.new.self.peer c.loop-number.invariant.turned once;
             steps = w.leave.ensures.steps ∙ c.loop-number.invariant.steps;
@@ -23,7 +24,7 @@ loop-number-preserved g c =
           })
       | in_default-via-in-Some+then-drops+in-Ok-1 w ↦
           let once = turned_once g.D.Disk c.loop-number.self.peer w.leave.new.self.peer (Leave w.in-Some.player.number)
-              (Left w.leave.result) (inl (w.in-Some.player.number, refl)) w.leave.ensures.answered in
+          (Left w.leave.result) (inl (w.in-Some.player.number, refl)) w.leave.ensures.answered in
           rw w.self-is (record {
             turned = turned_then g.D.Disk c.args.self.now.peer c.loop-number.self.peer w.leave.new.self.peer c.loop-number.invariant.turned once;
             steps = w.leave.ensures.steps ∙ c.loop-number.invariant.steps;
@@ -34,5 +35,5 @@ loop-number-preserved g c =
 pub returns-in-loop-number-clause-turned : goal.returns-in-loop-number-clause-turned
 returns-in-loop-number-clause-turned g c =
     let once = turned_once g.D.Disk c.loop-number.self.peer c.leave.new.self.peer (Leave c.in-Some.player.number) (Left c.leave.result)
-        (inl (c.in-Some.player.number, refl)) c.leave.ensures.answered in
+    (inl (c.in-Some.player.number, refl)) c.leave.ensures.answered in
     turned_then g.D.Disk c.args.self.now.peer c.loop-number.self.peer c.leave.new.self.peer c.loop-number.invariant.turned once

@@ -7,5 +7,5 @@ pub invariant_of-self : goal.invariant_of-self
 invariant_of-self g c =
     let is : IsCall (Leave c.args.leaver.number) = tt in
     engine_after g.D.Disk c.what_was_given_stays.ensures c.self.inside.peer c.leave.new.self (Leave c.args.leaver.number)
-        (Left c.leave.result) c.self.inside.steps c.self.inside.is_told
+    (Left c.leave.result) c.self.inside.steps c.self.inside.is_told
     c.is_down-sound.ensures.sound is c.leave.ensures c.self.invariant

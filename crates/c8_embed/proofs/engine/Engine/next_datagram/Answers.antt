@@ -7,6 +7,8 @@ use Rattle.c8_embed.proofs.engine.Engine.next_datagram.Goals as goal
 
 pub returns-in-loop-place-clause-said : goal.returns-in-loop-place-clause-said
 returns-in-loop-place-clause-said g c =
-    let what = saying_of c.in-Some-due.kind in
-    (what, subst (λ (e : EngineValue g.row.D.Denot). IsSaid e.peer (Say c.in-Some.to.number what) (take c.in-Ok.size c.say.new.out))
-        (c.self-in-loop-place.view_is ∙ c.loop-place.invariant.same) c.in-Ok.ensures.said)
+    let what = saying_of c.in-Some-due.kind in (
+      what,
+      subst (λ (e : EngineValue g.row.D.Denot). IsSaid e.peer (Say c.in-Some.to.number what) (take c.in-Ok.size c.say.new.out))
+          (c.self-in-loop-place.view_is ∙ c.loop-place.invariant.same) c.in-Ok.ensures.said,
+    )

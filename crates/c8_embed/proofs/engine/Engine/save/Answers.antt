@@ -8,7 +8,7 @@ pub returns-in-Ok-clause-turned : goal.returns-in-Ok-clause-turned
 returns-in-Ok-clause-turned g c =
     subst (λ (e : EngineValue g.row.D.Denot). HasTurned g.D.Disk c.args.self.now.peer e.peer) (sym c.self-2.view_is)
     (turned_once g.D.Disk c.args.self.now.peer c.checkpoint.new.self.peer Checkpoint (Checked c.checkpoint.result) (inr (inr refl))
-        c.checkpoint.ensures.answered)
+    c.checkpoint.ensures.answered)
 
 pub returns-in-Err-Disk-clause-turned : goal.returns-in-Err-Disk-clause-turned
 returns-in-Err-Disk-clause-turned g c = turned_once g.D.Disk c.args.self.now.peer c.checkpoint.new.self.peer Checkpoint

@@ -13,20 +13,22 @@ pub returns-then-self-clause-stepped : goal.returns-then-self-clause-stepped
 returns-then-self-clause-stepped g c = λ none.
     let told = told_steps (known_by c.self.inside.peer) c.args.most c.self.inside.steps.given (c.self.invariant.told c.if-self.true) in
     let here = subst (λ (n : ℕ). IsStepped (known_by c.self.inside.peer) c.args.most c.self.inside.steps.given c.self.inside.steps.given n
-        0) (sym (c.now-from.ensures ∙ ticked c.self.inside.peer.rules c.self.inside.peer.me c.self.inside.peer.state.journal)) told in
+    0) (sym (c.now-from.ensures ∙ ticked c.self.inside.peer.rules c.self.inside.peer.me c.self.inside.peer.state.journal)) told in
     subst (λ (e : EngineValue g.row.D.Denot). IsStepped (known_by e.peer) c.args.most e.steps.given e.steps.given c.now-from.result 0)
-        c.self.view_is here
+    c.self.view_is here
 
 pub returns-then-self-clause-tested : goal.returns-then-self-clause-tested
 returns-then-self-clause-tested g c =
     let told = told_steps (known_by c.self.inside.peer) c.args.most c.self.inside.steps.given (c.self.invariant.told c.if-self.true) in
     let here = subst (λ (n : ℕ). IsStepped (known_by c.self.inside.peer) c.args.most c.self.inside.steps.given c.self.inside.steps.given n
-        0) (sym (c.now-from.ensures ∙ ticked c.self.inside.peer.rules c.self.inside.peer.me c.self.inside.peer.state.journal)) told in
+    0) (sym (c.now-from.ensures ∙ ticked c.self.inside.peer.rules c.self.inside.peer.me c.self.inside.peer.state.journal)) told in
     let there = subst (λ (e : EngineValue g.row.D.Denot). IsStepped (known_by e.peer) c.args.most e.steps.given e.steps.given
-        c.now-from.result 0) c.self.view_is here in
-    let given = c.args.self.now.steps.given in
-    (length given, subst (λ (rows : List Row). IsStepped (known_by c.args.self.now.peer) c.args.most rows given c.now-from.result 0)
-        (sym (take_long given)) there)
+    c.now-from.result 0) c.self.view_is here in
+    let given = c.args.self.now.steps.given in (
+      length given,
+      subst (λ (rows : List Row). IsStepped (known_by c.args.self.now.peer) c.args.most rows given c.now-from.result 0)
+          (sym (take_long given)) there,
+    )
 
 pub returns-clause-tested : goal.returns-clause-tested
 returns-clause-tested g c =
@@ -37,26 +39,30 @@ returns-clause-tested g c =
       | then-self-gt0 w ↦
           let left = w.take_back.new.self.given in
           let made = subst (λ (i : Inside g.row.D.Denot). IsStepped (known_by i.peer) c.args.most i.steps.given new from count)
-              w.self-inside-is c.step-stepped.ensures.stepped in
+          w.self-inside-is c.step-stepped.ensures.stepped in
           let taken = subst (λ (rows : List Row). IsStepped (known_by c.self.inside.peer) c.args.most rows new from count)
-              w.take_back.ensures.given made in
-          (length left, subst (λ (e : EngineValue g.row.D.Denot). IsStepped (known_by e.peer) c.args.most (take (length left) e.steps.given)
-              new from count) c.self.view_is taken)
+          w.take_back.ensures.given made in (
+            length left,
+            subst (λ (e : EngineValue g.row.D.Denot). IsStepped (known_by e.peer) c.args.most (take (length left) e.steps.given)
+                new from count) c.self.view_is taken,
+          )
       | else-self-gt0+else-self w ↦
           let given = c.self.inside.steps.given in
           let made = subst (λ (i : Inside g.row.D.Denot). IsStepped (known_by i.peer) c.args.most i.steps.given new from count)
-              w.self-inside-is c.step-stepped.ensures.stepped in
+          w.self-inside-is c.step-stepped.ensures.stepped in
           let taken = subst (λ (rows : List Row). IsStepped (known_by c.self.inside.peer) c.args.most rows new from count)
-              (sym (take_long given)) made in
-          (length given, subst (λ (e : EngineValue g.row.D.Denot). IsStepped (known_by e.peer) c.args.most
-              (take (length given) e.steps.given) new from count) c.self.view_is taken)
+          (sym (take_long given)) made in (
+            length given,
+            subst (λ (e : EngineValue g.row.D.Denot). IsStepped (known_by e.peer) c.args.most
+                (take (length given) e.steps.given) new from count) c.self.view_is taken,
+          )
     ]
 
 pub returns-then-self-clause-counted : goal.returns-then-self-clause-counted
 returns-then-self-clause-counted g c =
     let now = c.now-from.ensures ∙ ticked c.self.inside.peer.rules c.self.inside.peer.me c.self.inside.peer.state.journal in
     let long = ap (λ (rows : List Row). length rows) (c.self.invariant.told c.if-self.true)
-        ∙ best_length (known_by c.self.inside.peer) (known_by c.self.inside.peer).ticks in
+    ∙ best_length (known_by c.self.inside.peer) (known_by c.self.inside.peer).ticks in
     let same : length c.self.inside.steps.given ≡ length c.args.self.now.steps.given =
-        ap (λ (e : EngineValue g.row.D.Denot). length e.steps.given) c.self.view_is in
+    ap (λ (e : EngineValue g.row.D.Denot). length e.steps.given) c.self.view_is in
     omega (arith, now, long, same)

@@ -7,5 +7,5 @@ pub invariant_of-self : goal.invariant_of-self
 invariant_of-self g c =
     let is : IsCall (Tick c.args.keys.0) = search in
     engine_after g.D.Disk c.what_was_given_stays.ensures c.self.inside.peer c.tick.new.self (Tick c.args.keys.0) (Ticked c.tick.result)
-        c.self.inside.steps c.self.inside.is_told
+    c.self.inside.steps c.self.inside.is_told
     c.is_down-sound.ensures.sound is c.tick.ensures c.self.invariant

@@ -45,7 +45,7 @@ returns-then-not-is_same g c =
       differs = λ less before is.
           let got : get_or c.self.inside.given.items frame c.index.result.now ≡ best_row k frame =
           ap (λ rows. get_or rows frame c.index.result.now) kept
-              ∙ get_or_from_slice_get c.args.self.now.given frame (best_row k frame) c.index.result.now is in
+          ∙ get_or_from_slice_get c.args.self.now.given frame (best_row k frame) c.index.result.now is in
           absurd (true≢false (sym (c.is_same.ensures.1 (c.index.ensures ∙ got ∙ sym c.best_row.ensures)) ∙ c.if-not-is_same.true));
     }
 
@@ -58,7 +58,7 @@ loop-frame-preserved g c =
     let len = c.len.ensures in
     let end = c.min-end.ensures in
     let here : get_or c.self.inside.given.items frame c.index.result.now ≡ best_row k frame =
-        sym c.index.ensures ∙ c.is_same.ensures.0 c.if-not-is_same.false ∙ c.best_row.ensures in
+    sym c.index.ensures ∙ c.is_same.ensures.0 c.if-not-is_same.false ∙ c.best_row.ensures in
     let so_far = subst (λ (s : StepsValue). take frame s.given ≡ best_rows_below k frame) (sym c.self.view_is) c.loop-frame.invariant.same in
     record {
       same = subst (λ (s : StepsValue). take (frame + 1) s.given ≡ best_rows_below k (frame + 1)) c.self.view_is

@@ -30,7 +30,7 @@ pub give-requires : goal.give-requires
 give-requires g c =
     let k = known_by c.args.peer.now in
     let long : length c.loop-frame.self-inside.given.items ≡ c.loop-frame.frame =
-        ap (λ (rows : List Row). length rows) c.loop-frame.invariant.given ∙ best_length k c.loop-frame.frame in
+    ap (λ (rows : List Row). length rows) c.loop-frame.invariant.given ∙ best_length k c.loop-frame.frame in
     let test = c.loop-frame-test.true in
     let now = c.now.ensures ∙ ticked c.args.peer.now.rules c.args.peer.now.me c.args.peer.now.state.journal in
     let within = c.first_change-from.ensures.ticked in
@@ -58,7 +58,7 @@ loop-frame-preserved g c =
 pub invariant_of-self : goal.invariant_of-self
 invariant_of-self g c =
     let long : length c.loop-frame.self-inside.given.items ≡ c.loop-frame.frame =
-        ap (λ (rows : List Row). length rows) c.loop-frame.invariant.given ∙ best_length (known_by c.args.peer.now) c.loop-frame.frame in
+    ap (λ (rows : List Row). length rows) c.loop-frame.invariant.given ∙ best_length (known_by c.args.peer.now) c.loop-frame.frame in
     let within = c.loop-frame.invariant.within in
     let now = c.now.ensures ∙ ticked c.args.peer.now.rules c.args.peer.now.me c.args.peer.now.state.journal in
     let from = c.first_change-from.ensures.ticked in
@@ -93,7 +93,7 @@ returns-clause-true_to g c =
     let confirmed_is = c.confirmed.ensures.value in
     let over = c.loop-frame-test.false in
     let long : length c.loop-frame.self-inside.given.items ≡ c.loop-frame.frame =
-        ap (λ (rows : List Row). length rows) c.loop-frame.invariant.given ∙ best_length k c.loop-frame.frame in
+    ap (λ (rows : List Row). length rows) c.loop-frame.invariant.given ∙ best_length k c.loop-frame.frame in
     record {
       confirmed_is = omega (arith, settled, confirmed_is);
       within = omega (arith, settled, over, long);
@@ -106,5 +106,5 @@ returns-clause-counted g c =
     let over = c.loop-frame-test.false in
     let within = c.loop-frame.invariant.within in
     let long : length c.loop-frame.self-inside.given.items ≡ c.loop-frame.frame =
-        ap (λ (rows : List Row). length rows) c.loop-frame.invariant.given ∙ best_length (known_by c.args.peer.now) c.loop-frame.frame in
+    ap (λ (rows : List Row). length rows) c.loop-frame.invariant.given ∙ best_length (known_by c.args.peer.now) c.loop-frame.frame in
     omega (arith, over, within, long)

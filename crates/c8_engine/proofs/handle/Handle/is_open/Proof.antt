@@ -14,8 +14,8 @@ use types.Logic.{Logic, sem}
 use contract.Monad.{Fun, fact_use}
 use contract.Running.{tables, tables_of}
 use sound.WpLaws.{WpFn-mono}
-use types.Kit.{Item, ‵, ◌⊛◌, given, learn, ◌$◌, ◌∵◌, !, qed, move, keep, use1, join, split, rewrite, group, fsplit, fsplit3, feq_i,
-  suffices, frame, done}
+use types.Kit.{Item, ‵, ◌⊛◌, given, learn, ◌$◌, ◌∵◌, !, qed, move, keep, use1, join, split, rewrite, group, fsplit, fsplit3, feq_i}
+use types.Kit.{suffices, frame, done}
 use types.Part.{whole, sub, look_in}
 use types.Run.{stop, fld, load, of_opd, lit, bin, un, returns, enter}
 use types.ByLocal.{alloc_all, pass_all, free_all, look_at, get, through, sets}
@@ -71,21 +71,24 @@ module _ {M : Type 1} {𝓤 : Ura M} (𝓛 : Logic 𝓤) (at_mem : Memory → SP
         -- [the allocator; the word; the open borrow, in three entries; self's first part]
         (λ hv ep ev ws fa. rewrite ! 1 Cell ws refl $
         sets ! (of_opd ! (load ! (through ! refl (fld ! refl (stop !))) (look_in ! 1 (sub ! 0 refl (whole !))))) refl
-            (tt, record { fits = lit< tt }) $
+        (tt, record { fits = lit< tt }) $
         sets ! (bin ! (get ! refl) (lit ! tt) tt) refl (tt, tt) $ sets ! (un ! (get ! refl) tt) refl (tt, tt) $
         closed_in ! a $ move ! (1 ∷ 0 ∷ []) $ closes ! tt Hd (closed a) (null_word hv ∷ []) rb ro $
         -- [two parts of self; the token; self's first part]
         returns ! (look_at ! 0 refl) $ free_all ! refl $ move ! (3 ∷ []) $
         suffices ! _ (ends_at 𝓛 F.ended stayed held bound (vbool false) false (closed a, tt) (tt, tt)) $
-        says ! (sym (ap is_some ev), ap (λ (p : Ptr). record { at = p; alloc = a; value = None }) (sym ep)
-            ∙ ap (λ (v : Option S.Denot). record { at = h.at; alloc = a; value = v }) (sym ev)) $
+        says ! (
+          sym (ap is_some ev),
+          ap (λ (p : Ptr). record { at = p; alloc = a; value = None }) (sym ep)
+              ∙ ap (λ (v : Option S.Denot). record { at = h.at; alloc = a; value = v }) (sym ev),
+        ) $
         group ! 3 $ nothing ! $ move ! (1 ∷ 0 ∷ []) $ join ! $ nothing ! $ move ! (2 ∷ 0 ∷ []) $ join ! $ frame ! $ frame ! $
         feq_i ! (List Val) (vbool false ∷ []) (vbool false ∷ []) refl $ done !)
         (λ s ev. box_out E ! (boxed h.at a s) vs (λ b o hv e ws fa. rewrite ! 3 Cell ws refl $
         -- [the session; the token; the allocator; the word; the open borrow, in three entries; self's first part]
         let p = block_ptr b o in let K : Fml = token E.al a (bare (τ E)) p in
         move ! (1 ∷ []) $ use1 𝓛 (given (Testable p) (‵ K))
-            (fact_use 𝓤 (Testable p) (dealloc_token-Testable 𝓛 a (bare (τ E)) p) (λ x. guard_i 𝓤 (Testable p) (sem 𝓛 K) x)) $ learn ! (λ t.
+        (fact_use 𝓤 (Testable p) (dealloc_token-Testable 𝓛 a (bare (τ E)) p) (λ x. guard_i 𝓤 (Testable p) (sem 𝓛 K) x)) $ learn ! (λ t.
         sets ! (of_opd ! (load ! (through ! refl (fld ! refl (stop !))) (look_in ! 3 (sub ! 0 refl (whole !))))) refl (tt, tt) $
         sets ! (bin ! (get ! refl) (lit ! tt) (tests_null p t)) refl (tt, tt) $ sets ! (un ! (get ! refl) tt) refl (tt, tt) $
         move ! (1 ∷ 0 ∷ []) $ box_in E ! (boxed h.at a s) b o s e refl $ use1 𝓛 (‵ (Hd.own_val (open_at h.at a s) (word E hv b o ∷ []))) (id⊢ 𝓤 _) $
@@ -102,8 +105,8 @@ is_open_spec 𝓤 𝓛 𝓜 𝓡 wired =
     let 𝓣 : Tables 𝓤 𝓛.H = tables_of 𝓤 𝓛.H 𝓜 (tables 𝓤 𝓛.H 𝓜 𝓡 𝓡.env) in
     entered 𝓤 𝓛.H (triple_of 𝓛 F.signature (F.spec 𝓛 𝓜.mem 𝓡.returns)) 𝓣.C 𝓣.Λ #self code.function (code.unfolded 𝓤 𝓛.H 𝓜 𝓡 wired)
     (walk_Meets 𝓛 F.ended stayed (Goes-ref 𝓛 1 0 tt (plain (λ _. Hd)), tt) (F.clauses 𝓛 𝓜.mem 𝓡.returns) (WpFn 𝓤 𝓛.H 𝓣.C 𝓣.Λ code.function)
-        (WpFn-mono 𝓤 𝓛.H 𝓛.laws 𝓣 code.function)
+    (WpFn-mono 𝓤 𝓛.H 𝓛.laws 𝓣 code.function)
     (walked 𝓛 F.ended stayed (F.clauses 𝓛 𝓜.mem 𝓡.returns) (WpFn 𝓤 𝓛.H 𝓣.C 𝓣.Λ code.function) (λ κs. (mut_vals, tt))
-        (λ κs. (mut_Tells (named 0) κs.0 Hd, tt))
+    (λ κs. (mut_Tells (named 0) κs.0 Hd, tt))
     (λ κs qs bounds a g are. via 𝓤 _ (fst∗ 𝓤 _ (emp 𝓤))
-        (walk 𝓛 𝓜.mem 𝓡.returns κs.0 qs.0 a.0.ref_ptr.0 a.0.ref_ptr.1 a.0.ghost_name a.0.now 𝓣.C 𝓣.Λ))))
+    (walk 𝓛 𝓜.mem 𝓡.returns κs.0 qs.0 a.0.ref_ptr.0 a.0.ref_ptr.1 a.0.ghost_name a.0.now 𝓣.C 𝓣.Λ))))

@@ -17,8 +17,8 @@ use types.Logic.{Logic, sem}
 use contract.Monad.{Fun}
 use contract.Running.{tables, tables_of}
 use sound.WpLaws.{WpFn-mono}
-use types.Kit.{‵, raw, ◌⊛◌, some, later, at_ret, ◌$◌, ◌∵◌, !, qed, by, move, keep, drop, use1, join, split, pick, rewrite, group, fsplit,
-  fsplit3, fjoin, fpack, suffices, frame, await, done}
+use types.Kit.{‵, raw, ◌⊛◌, some, later, at_ret, ◌$◌, ◌∵◌, !, qed, by, move, keep, drop, use1, join, split, pick, rewrite, group, fsplit}
+use types.Kit.{fsplit3, fjoin, fpack, suffices, frame, await, done}
 use types.Part.{whole, sub, look_in}
 use types.Run.{stop, fld, addr, load, of_opd, first, blocks, exec, returns, enter}
 use types.ByLocal.{alloc_all, pass_all, free_all, look_at, get, through, sets, sets_last, env}
@@ -92,7 +92,7 @@ module _ {M : Type 1} {𝓤 : Ura M} (𝓛 : Logic 𝓤) (at_mem : Memory → SP
         (sep 𝓤 (A.lft κ q) (sem 𝓛 (follows Hd S γ γ' (with_session h))))) (Post (vptr b o))
     exits ev γ' =
         qed 𝓛 (‵ ((MutRef (named 0) κ S).own_val (record { ref_ptr = (b, o); ghost_name = γ'; now = s }) (vptr b o ∷ [])) ∷ ‵ (flft κ q) ∷ ‵
-            (follows Hd S γ γ' (with_session h)) ∷ []) ∵
+        (follows Hd S γ γ' (with_session h)) ∷ []) ∵
         suffices ! _ (ends_at 𝓛 F.ended stayed held bound (vptr b o) (record { ref_ptr = (b, o); ghost_name = γ'; now = s }) (tt, tt) (tt, tt)) $
         nothing ! $ nothing ! $ fjoin ! $ join ! $ nothing ! $ move ! (2 ∷ 0 ∷ []) $ join ! $ join ! $ frame ! $ says ! ev $ done !
 
@@ -118,9 +118,9 @@ module _ {M : Type 1} {𝓤 : Ura M} (𝓛 : Logic 𝓤) (at_mem : Memory → SP
         rewrite ! 0 (λ (P : Fml). ‵ P) (sym (as_param S session_laws s b o)) refl $
         move ! (1 ∷ 2 ∷ []) $ fjoin ! $ move ! (0 ∷ 2 ∷ []) $ fjoin ! $ move ! (2 ∷ 3 ∷ 4 ∷ 1 ∷ 0 ∷ []) $ group ! 5 $
         use1 𝓛 (later (types.Kit.some (λ (γ' : GName). raw
-            (Part 𝓛 Hd S (with_session h) (named 0) κ q rb ro b o γ (sem 𝓛 (Rest s b o hv)) (back s b o hv e) s γ'))))
+        (Part 𝓛 Hd S (with_session h) (named 0) κ q rb ro b o γ (sem 𝓛 (Rest s b o hv)) (back s b o hv e) s γ'))))
         (lends_Part 𝓛 Hd S (with_session h) (named 0) κ q rb ro b o γ (sem 𝓛 (Rest s b o hv)) (back s b o hv e) (Hd.coded.code h)
-            (Hd.coded.code h) s) $ await ! tt $ pick ! (λ γ'.
+        (Hd.coded.code h) s) $ await ! tt $ pick ! (λ γ'.
         returns ! (look_at ! 0 refl) $ free_all ! refl $
         keep ! (0 ∷ []) $ by ! (exits s b o hv ev γ'))))))
 
@@ -130,8 +130,8 @@ session_spec 𝓤 𝓛 𝓜 𝓡 wired =
     let 𝓣 : Tables 𝓤 𝓛.H = tables_of 𝓤 𝓛.H 𝓜 (tables 𝓤 𝓛.H 𝓜 𝓡 𝓡.env) in
     entered 𝓤 𝓛.H (triple_of 𝓛 F.signature (F.spec 𝓛 𝓜.mem 𝓡.returns)) 𝓣.C 𝓣.Λ #self code.function (code.unfolded 𝓤 𝓛.H 𝓜 𝓡 wired)
     (walk_Meets 𝓛 F.ended stayed (Goes-spent_ref 𝓛 1 (0 ∷ []) tt (plain (λ _. Hd)), tt) (F.clauses 𝓛 𝓜.mem 𝓡.returns)
-        (WpFn 𝓤 𝓛.H 𝓣.C 𝓣.Λ code.function) (WpFn-mono 𝓤 𝓛.H 𝓛.laws 𝓣 code.function)
+    (WpFn 𝓤 𝓛.H 𝓣.C 𝓣.Λ code.function) (WpFn-mono 𝓤 𝓛.H 𝓛.laws 𝓣 code.function)
     (walked 𝓛 F.ended stayed (F.clauses 𝓛 𝓜.mem 𝓡.returns) (WpFn 𝓤 𝓛.H 𝓣.C 𝓣.Λ code.function) (λ κs. (mut_vals, tt))
-        (λ κs. (mut_Tells (named 0) κs.0 Hd, tt))
+    (λ κs. (mut_Tells (named 0) κs.0 Hd, tt))
     (λ κs qs bounds a g are. needs 𝓤 (IsSome a.0.now.value) _
-        (λ is. walk 𝓛 𝓜.mem 𝓡.returns κs.0 qs.0 a.0.ref_ptr.0 a.0.ref_ptr.1 a.0.ghost_name a.0.now is 𝓣.C 𝓣.Λ))))
+    (λ is. walk 𝓛 𝓜.mem 𝓡.returns κs.0 qs.0 a.0.ref_ptr.0 a.0.ref_ptr.1 a.0.ghost_name a.0.now is 𝓣.C 𝓣.Λ))))

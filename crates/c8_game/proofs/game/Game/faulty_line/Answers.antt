@@ -7,5 +7,5 @@ returns c = elim c.match-drafted.branch [
   | in-Ok w ↦ rw w.result-is w.in-Ok.ensures.faultless
   | in-Err+in-Memory w ↦ rw w.result-is tt
   | in-Err+in_default w ↦ rw w.result-is (elim w.in-Err.ensures
-  [ inl memory ↦ absurd (w.in_default.not-Memory memory) | inr first ↦ (w.in-Err.error, first) ])
+      [ inl memory ↦ absurd (w.in_default.not-Memory memory) | inr first ↦ (w.in-Err.error, first) ])
 ]

@@ -7,4 +7,4 @@ returns-in-None c = lines-unfed c.args.text.now c.requires c.in-None.ensures.non
 pub returns-in-Some : goal.returns-in-Some
 returns-in-Some c =
     rw (c.without_return.ensures, c.in-Some.line-is, c.in-Some.rest-is, c.in-Some.ensures.before, c.in-Some.ensures.after)
-        (lines-fed c.args.text.now c.in-Some.ensures.found)
+    (lines-fed c.args.text.now c.in-Some.ensures.found)

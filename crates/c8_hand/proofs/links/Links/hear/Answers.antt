@@ -18,4 +18,4 @@ returns-in-Some-clause-rises c =
     let head : HeadValue = (packet_of c.args.datagram.now).head in
     let same : c.take.new.self ≡ heard old head = search rules in
     subst (λ (new : LinksValue). (player : ℕ) → (link_to old player).known ≤ (link_to new player).known) (sym same)
-        (λ player. known_rises old head player c.requires)
+    (λ player. known_rises old head player c.requires)

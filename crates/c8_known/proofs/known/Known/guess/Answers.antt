@@ -9,7 +9,7 @@ pub returns-in-None : goal.returns-in-None
 unfolding input_of best_input
 returns-in-None c =
     let past : length c.self.inside.tables.items ≤ c.args.place =
-        rw (← c.deref.ensures.value) (ltb-false c.args.place (length c.deref.result.now) (sym c.in-None.ensures.lookup.0)) in
+    rw (← c.deref.ensures.value) (ltb-false c.args.place (length c.deref.result.now) (sym c.in-None.ensures.lookup.0)) in
     let nobody_is : player_in c.args.self.now (c.args.place + 1) ≡ nobody =
-        nobody_there c.self.inside c.args.self.now c.args.place c.self.view_is past in
+    nobody_there c.self.inside c.args.self.now c.args.place c.self.view_is past in
     ap (λ (p : PlayerValue). best_input p c.args.frame) (sym nobody_is)

@@ -5,4 +5,4 @@ pub returns-clause-value : goal.returns-clause-value
 returns-clause-value c =
     let values = rw (c.players.ensures.value, c.delay-delay.ensures.value) at c.in_ok-tables_of.ensures.values in
     rw (c.delay-delay.ensures.value, c.limit-limit.ensures.value)
-        (seen_at_start c.args.game.now c.args.me.number c.in_ok-tables_of.field-0.items values)
+    (seen_at_start c.args.game.now c.args.me.number c.in_ok-tables_of.field-0.items values)

@@ -3,14 +3,14 @@ use Rattle.c8_refusals.specs.declared.error.DecideError.TheVariants as decides
 use Rattle.c8_live.specs.declared.error.SessionError.TheVariants.{Disk}
 use Rattle.c8_live.specs.Turns.{Cuts}
 use Rattle.c8_live.proofs.session.Session.cut.Goals as goal
-use Rattle.c8_live.proofs.session.Session.cut.Goals.{in_default-via-in-None-1, in_default-via-in-Some+in-Err+in-NotLeaving-1,
-  in_default-via-in-Some+in-Ok-1}
+use Rattle.c8_live.proofs.session.Session.cut.Goals.{in_default-via-in-None-1, in_default-via-in-Some+in-Err+in-NotLeaving-1}
+use Rattle.c8_live.proofs.session.Session.cut.Goals.{in_default-via-in-Some+in-Ok-1}
 
 pub returns-in-loop-number-clause-end : goal.returns-in-loop-number-clause-end
 returns-in-loop-number-clause-end g c =
     let is : c.peer_cuts.result ≡ Err (decides.Disk c.in-Err-Disk.error) = search in
     c.peers_run_on.ensures.ended c.args.self.now.peer c.loop-number.self.peer c.peer_cuts.new.self.peer (Disk c.in-Err-Disk.error)
-        c.loop-number.invariant.ran.ran (c.peer_cuts.ensures.stopped c.in-Err-Disk.error is)
+    c.loop-number.invariant.ran.ran (c.peer_cuts.ensures.stopped c.in-Err-Disk.error is)
 
 pub loop-number-preserved : goal.loop-number-preserved
 loop-number-preserved g c =
@@ -32,4 +32,4 @@ loop-number-init g c = record { ran = c.doings_join.ensures.still Cuts c.args.se
 pub returns-in-loop-number-clause-ran : goal.returns-in-loop-number-clause-ran
 returns-in-loop-number-clause-ran g c =
     c.doings_join.ensures.joined Cuts c.args.self.now.peer c.loop-number.self.peer c.peer_cuts.new.self.peer c.loop-number.invariant.ran
-        c.peer_cuts.ensures.ran
+    c.peer_cuts.ensures.ran

@@ -11,29 +11,29 @@ pub returns-in_err-deliver-in-Some-clause-heard : goal.returns-in_err-deliver-in
 returns-in_err-deliver-in-Some-clause-heard g c =
     let peer = c.args.self.now.peer in
     let received = subst (λ (next : Option ℕ). Gives (g.W.Wire.received c.loop.wire) c.receive.new.packet (Ok next)
-        (g.W.Wire.received c.receive.new.self)) c.in-Some.is c.in_ok-size.ensures.received in
+    (g.W.Wire.received c.receive.new.self)) c.in-Some.is c.in_ok-size.ensures.received in
     let once = c.hearings_join.ensures.once c.loop.self.peer c.deliver.new.self.peer c.loop.wire c.receive.new.self
-        (take c.in-Some.size c.receive.new.packet)
+    (take c.in-Some.size c.receive.new.packet)
     c.in_err-deliver-in-Some.ensures.ran received c.receive.ensures.sent in
     heard_up_to g.D.Disk g.W.Wire (c.loop.counter + 1) most_packets peer c.deliver.new.self.peer c.args.wire.now c.receive.new.self
-        (omega (arith, c.loop-test.true))
+    (omega (arith, c.loop-test.true))
     (c.hearings_join.ensures.joined c.loop.counter 1 peer c.loop.self.peer c.deliver.new.self.peer c.args.wire.now c.loop.wire
-        c.receive.new.self c.loop.invariant.heard once)
+    c.receive.new.self c.loop.invariant.heard once)
 
 pub returns-in_err-deliver-in-Some-clause-end : goal.returns-in_err-deliver-in-Some-clause-end
 returns-in_err-deliver-in-Some-clause-end g c =
     let error = err_from_is_err_and c.from_residual-in_err-deliver-in-Some.result c.from_residual-in_err-deliver-in-Some.ensures.1 in
     rw (error.1, error.2)
     (c.peers_run_on.ensures.ended c.args.self.now.peer c.loop.self.peer c.deliver.new.self.peer c.in_err-deliver-in-Some.field-0.0
-        c.loop.invariant.heard.heard.0.ran c.in_err-deliver-in-Some.ensures.end)
+    c.loop.invariant.heard.heard.0.ran c.in_err-deliver-in-Some.ensures.end)
 
 pub loop-preserved : goal.loop-preserved
 loop-preserved g c =
     let peer = c.args.self.now.peer in
     let received = subst (λ (next : Option ℕ). Gives (g.W.Wire.received c.loop.wire) c.receive.new.packet (Ok next)
-        (g.W.Wire.received c.receive.new.self)) c.in-Some.is c.in_ok-size.ensures.received in
+    (g.W.Wire.received c.receive.new.self)) c.in-Some.is c.in_ok-size.ensures.received in
     let once = c.hearings_join.ensures.once c.loop.self.peer c.deliver.new.self.peer c.loop.wire c.receive.new.self
-        (take c.in-Some.size c.receive.new.packet)
+    (take c.in-Some.size c.receive.new.packet)
     c.in_ok-deliver-in-Some.ensures.ran received c.receive.ensures.sent in
     record {
       heard = (c.hearings_join.ensures.joined c.loop.counter 1 peer c.loop.self.peer c.deliver.new.self.peer c.args.wire.now c.loop.wire

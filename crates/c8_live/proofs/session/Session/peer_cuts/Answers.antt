@@ -8,7 +8,7 @@ pub returns-clause-ran : goal.returns-clause-ran
 returns-clause-ran g c =
     let peer = c.args.self.now.peer in
     (c.doings_join.ensures.once peer c.decide-answer.new.self (Decide c.args.leaver.number) (Decided c.decide-answer.result) tt
-        c.decide-answer.ensures).0
+    c.decide-answer.ensures).0
 
 pub returns-clause-stopped : goal.returns-clause-stopped
 returns-clause-stopped g c why is =

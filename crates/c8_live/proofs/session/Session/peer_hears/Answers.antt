@@ -9,7 +9,7 @@ use Rattle.c8_live.proofs.session.Session.peer_hears.Goals as goal
 pub returns-clause-ran : goal.returns-clause-ran
 returns-clause-ran g c bytes spells =
     c.a_packet_is_heard.ensures.once c.args.self.now.peer c.deliver_datagram-answer.new.self bytes (packet_of c.args.datagram.now)
-        (Delivered c.deliver_datagram-answer.result) spells
+    (Delivered c.deliver_datagram-answer.result) spells
     c.deliver_datagram-answer.ensures
 
 pub returns-clause-stopped : goal.returns-clause-stopped

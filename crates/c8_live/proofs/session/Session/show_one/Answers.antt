@@ -12,5 +12,5 @@ returns-in-Ok g c = record {
   spoke = c.sayings_join.ensures.once c.args.self.now.peer c.args.wire.now c.send.new.self (Show c.args.watcher.number)
       (take c.in-Ok.size c.say_show.new.out)
       (sits c.args.watcher.number c.args.watcher.from_five c.args.watcher.to_six) refl c.in-Ok.ensures.said c.send.ensures.sent
-          c.send.ensures.received;
+      c.send.ensures.received;
 }

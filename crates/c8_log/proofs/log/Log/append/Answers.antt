@@ -16,7 +16,7 @@ returns-clause-at_rest g c =
 pub returns-then-not-has_room-clause-asks : goal.returns-then-not-has_room-clause-asks
 returns-then-not-has_room-clause-asks g c up =
     subst (λ log. Asks g.D.Disk (AppendWithin (g.D.Disk.capacity log.disk) log.count c.args.body.now) (told_by {T = ℕ} (Err errors.Full))
-        log.disk c.self.inside.disk) c.self.view_is
+    log.disk c.self.inside.disk) c.self.view_is
     (without g.D.Disk (g.D.Disk.capacity c.self.inside.disk) c.self.inside.count c.args.body.now c.self.inside.disk (search rules))
 
 pub returns-in_err-add-clause-asks : goal.returns-in_err-add-clause-asks
@@ -26,11 +26,11 @@ returns-in_err-add-clause-asks g c up =
     let capacity = g.D.Disk.capacity c.self.inside.disk in
     rw (error.1, error.2)
     (subst (λ log. Asks g.D.Disk (AppendWithin (g.D.Disk.capacity log.disk) log.count c.args.body.now)
-        (told_by {T = ℕ} (Err (log_error why))) log.disk c.add.new.disk) c.self.view_is
+    (told_by {T = ℕ} (Err (log_error why))) log.disk c.add.new.disk) c.self.view_is
     (asks_as g.D.Disk (AppendWithin capacity c.self.inside.count c.args.body.now) c.self.inside.disk c.add.new.disk (Err why) _ (told_error ℕ why)
     (within g.D.Disk capacity c.self.inside.count c.args.body.now c.self.inside.disk c.add.new.disk (Err why) (search rules)
     (asks_as g.D.Disk (Append c.self.inside.count c.args.body.now) c.self.inside.disk c.add.new.disk c.add.result (Err why) c.in_err-add.was
-        c.add.ensures.asks))))
+    c.add.ensures.asks))))
 
 pub returns-clause-asks : goal.returns-clause-asks
 returns-clause-asks g c up =
@@ -38,4 +38,4 @@ returns-clause-asks g c up =
     subst (λ log. Asks g.D.Disk (AppendWithin (g.D.Disk.capacity log.disk) log.count c.args.body.now) (Ok tt) log.disk c.add.new.disk) c.self.view_is
     (within g.D.Disk capacity c.self.inside.count c.args.body.now c.self.inside.disk c.add.new.disk (Ok tt) (search rules)
     (asks_as g.D.Disk (Append c.self.inside.count c.args.body.now) c.self.inside.disk c.add.new.disk c.add.result (Ok tt) c.in_ok-add.was
-        c.add.ensures.asks))
+    c.add.ensures.asks))

@@ -13,11 +13,11 @@ returns-in-Ok-clause-at_rest g c = rests g.D.Disk (record { disk = c.settle.new.
 pub returns-in-Ok-clause-asks : goal.returns-in-Ok-clause-asks
 returns-in-Ok-clause-asks g c =
     asks_as g.D.Disk (Opening g.D.Disk.lends (g.D.Disk.seen c.args.disk)) c.args.disk c.settle.new.disk (answer_of c.settle.result) (Ok tt)
-        (ap answer_of c.in-Ok.is) c.settle.ensures.asks
+    (ap answer_of c.in-Ok.is) c.settle.ensures.asks
 
 pub returns-in-Err-clause-asks : goal.returns-in-Err-clause-asks
 returns-in-Err-clause-asks g c =
     asks_as g.D.Disk (Opening g.D.Disk.lends (g.D.Disk.seen c.args.disk)) c.args.disk c.settle.new.disk (answer_of c.settle.result)
-        (told_by {T = Unit {0}} (Err c.from.result))
+    (told_by {T = Unit {0}} (Err c.from.result))
     (ap answer_of c.in-Err.is ∙ told_error (Unit {0}) c.in-Err.error
-        ∙ ap (λ (e : LogError). told_by {T = Unit {0}} (Err e)) (sym c.from.ensures)) c.settle.ensures.asks
+    ∙ ap (λ (e : LogError). told_by {T = Unit {0}} (Err e)) (sym c.from.ensures)) c.settle.ensures.asks

@@ -6,4 +6,4 @@ pub returns-in-Ok-clause-body : goal.returns-in-Ok-clause-body
 returns-in-Ok-clause-body g c =
     let place : c.args.n ≡ c.args.n + 0 = omega arith in
     ap (λ (m : ℕ). slice_get (kept (g.D.Disk.seen c.args.self.now.disk)) m) place ∙ c.in-Ok.ensures.bodies 0 (omega arith)
-        ∙ ap (λ (body : List ℕ). Some body) (sym c.get.ensures)
+    ∙ ap (λ (body : List ℕ). Some body) (sym c.get.ensures)

@@ -21,7 +21,7 @@ returns-clause-bodies g c = λ i lt.
     let there : c.args.n + i < kept_count (g.D.Disk.seen c.self.inside.disk) = omega (arith, lt, c.requires.within, up.count_is, count_is) in
     let within : c.args.n + i < kept_count image = subst (λ log. c.args.n + i < kept_count (g.D.Disk.seen log.disk)) c.self.view_is there in
     kept_at image (c.args.n + i) within ∙ ap Some
-        (sym (ap (λ (l : List ℕ). body_of l i) (returns-clause-bytes g c) ∙ body_there image c.args.n c.args.many i lt))
+    (sym (ap (λ (l : List ℕ). body_of l i) (returns-clause-bytes g c) ∙ body_there image c.args.n c.args.many i lt))
 
 pub returns-in_err-read_at-clause-does : goal.returns-in_err-read_at-clause-does
 returns-in_err-read_at-clause-does g c = record {
@@ -53,7 +53,7 @@ returns-clause-does g c = record {
   at_rest =
       rests g.D.Disk (record { disk = c.read_at.new.self; count = c.self.inside.count; down = false })
       (still_up g.D.Disk c.self.inside.disk c.read_at.new.self c.self.inside.count (c.self.invariant c.if-self.false) c.read_at.ensures.seen
-          c.read_at.ensures.crash);
+      c.read_at.ensures.crash);
   unfailed = search rules;
   err = search rules;
   failed = search rules;

@@ -9,13 +9,13 @@ pub returns-clause-put_out : goal.returns-clause-put_out
 returns-clause-put_out c =
     c.draw.ensures.put_out ∙ ap (λ (points : Points). meets (points_of c.args.self.now.screen) (clipped points))
     (sprite_loaded (byte_at (state c.args.self.now)) c.load.new.bytes c.from.result c.args.rows (c.args.x % 64) (c.args.y % 32)
-        (omega arith) (omega arith) c.load.ensures)
+    (omega arith) (omega arith) c.load.ensures)
 
 pub returns-clause-screen : goal.returns-clause-screen
 returns-clause-screen c =
     let points : points_of c.draw.new.self ≡ exclusive_or (points_of c.args.self.now.screen)
-        (clipped (sprite c.args.rows (byte_at (state c.args.self.now)) (c.args.x % 64) (c.args.y % 32))) =
+    (clipped (sprite c.args.rows (byte_at (state c.args.self.now)) (c.args.x % 64) (c.args.y % 32))) =
     c.draw.ensures.points ∙ ap (λ (points : Points). exclusive_or (points_of c.args.self.now.screen) (clipped points))
     (sprite_loaded (byte_at (state c.args.self.now)) c.load.new.bytes c.from.result c.args.rows (c.args.x % 64) (c.args.y % 32)
-        (omega arith) (omega arith) c.load.ensures) in
+    (omega arith) (omega arith) c.load.ensures) in
     ap (λ (points : Points). record (state c.args.self.now) { screen = points }) points

@@ -22,6 +22,6 @@ returns c =
     let first = c.in-Some.first in
     let skip = c.begun_at.result.1 in
     let begun : skip < first.times = ltb-true skip first.times
-        (subst (λ (pairs : List Pair). is_begun skip pairs ≡ true) c.in-Some.ensures.pair c.begun_at.ensures.begun) in
+    (subst (λ (pairs : List Pair). is_begun skip pairs ≡ true) c.in-Some.ensures.pair c.begun_at.ensures.begun) in
     got (words_in (pairs_at run.bytes.now)) (words_in (pairs_at first.rest.now)) run.skip c.args.place skip first.times first.keys
     (sym (ap (λ (pairs : List Pair). drop skip (words_in pairs)) c.in-Some.ensures.pair) ∙ c.begun_at.ensures.words) begun

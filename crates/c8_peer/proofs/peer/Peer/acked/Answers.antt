@@ -11,8 +11,8 @@ returns-clause-within g c =
     let q = c.args.player.number in
     -- the call got the window by reference: what holds for it holds for the peer's window
     let own : (x : Inside g.row.D.Denot) → x ≡ c.self.inside → c.acked.result ≡ acked_of x.memory.acks q
-        → c.acked.result ≡ acked_of c.self.inside.memory.acks q = λ x same is.
+    → c.acked.result ≡ acked_of c.self.inside.memory.acks q = λ x same is.
     is ∙ ap (λ (y : Inside g.row.D.Denot). acked_of y.memory.acks q) same in
     let few = acks_few c.args.self.now c.self.inside.game.now c.self.inside.room c.self.inside.journal c.self.inside.known
-        c.self.inside.memory q c.self.view_is c.self.invariant.0 in
+    c.self.inside.memory q c.self.view_is c.self.invariant.0 in
     subst (λ (n : ℕ). n ≤ count_in (known_by c.args.self.now) c.args.self.now.me) (sym (own _ c.self-inside.view_is c.acked.ensures)) few

@@ -10,18 +10,18 @@ pub returns-clause-confirmed : goal.returns-clause-confirmed
 returns-clause-confirmed g c =
     c.base.ensures.confirmed ∙ roll_confirmed c.args.self.now.rules (begun_by c.args.self.now) (known_by c.args.self.now) (seen c.self.inside.roll)
     (roll_is c.args.self.now c.self.inside.game.now c.self.inside.room c.self.inside.journal c.self.inside.known c.self.inside.memory
-        (seen c.self.inside.roll) c.self.view_is c.self.invariant.0 c.self.invariant.1)
+    (seen c.self.inside.roll) c.self.view_is c.self.invariant.0 c.self.invariant.1)
 
 pub returns-clause-machine : goal.returns-clause-machine
 returns-clause-machine g c =
     c.base.ensures.machine ∙ roll_base c.args.self.now.rules (begun_by c.args.self.now) (known_by c.args.self.now) (seen c.self.inside.roll)
     (roll_is c.args.self.now c.self.inside.game.now c.self.inside.room c.self.inside.journal c.self.inside.known c.self.inside.memory
-        (seen c.self.inside.roll) c.self.view_is c.self.invariant.0 c.self.invariant.1)
+    (seen c.self.inside.roll) c.self.view_is c.self.invariant.0 c.self.invariant.1)
 
 pub returns-clause-serial : goal.returns-clause-serial
 unfolding roll_of
 returns-clause-serial g c = λ true_checks.
     c.base.ensures.machine ∙ ap (λ (v : RollValue). v.base)
-        (true_roll c.args.self.now (seen c.self.inside.roll)
-        (roll_is c.args.self.now c.self.inside.game.now c.self.inside.room c.self.inside.journal c.self.inside.known c.self.inside.memory
-        (seen c.self.inside.roll) c.self.view_is c.self.invariant.0 c.self.invariant.1) true_checks)
+    (true_roll c.args.self.now (seen c.self.inside.roll)
+    (roll_is c.args.self.now c.self.inside.game.now c.self.inside.room c.self.inside.journal c.self.inside.known c.self.inside.memory
+    (seen c.self.inside.roll) c.self.view_is c.self.invariant.0 c.self.invariant.1) true_checks)

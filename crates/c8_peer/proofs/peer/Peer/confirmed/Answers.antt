@@ -5,5 +5,5 @@ use Rattle.c8_peer.proofs.peer.Peer.confirmed.Goals as goal
 pub returns-clause-within : goal.returns-clause-within
 returns-clause-within g c =
     let few = confirmed_few c.args.self.now c.self.inside.game.now c.self.inside.room c.self.inside.journal c.self.inside.known
-        c.self.inside.memory c.self.view_is c.self.invariant.0 in
+    c.self.inside.memory c.self.view_is c.self.invariant.0 in
     omega (arith, few, c.confirmed.ensures)

@@ -11,5 +11,5 @@ keep-requires-clause-allowed g c =
     let r : Record = records.Cut c.args.leaver.number c.in_ok-length.length c.in_ok-length.length [] in
     rw is (allowed_outside r c.self.view_is
     (may_record c.self.inside.game.now c.self.inside.room c.self.inside.journal c.self.inside.known c.self.inside.memory c.self.invariant.0
-        (Decide c.args.leaver.number) tt c.self.inside.memory (Decided (Ok c.in_ok-length.length)) r
+    (Decide c.args.leaver.number) tt c.self.inside.memory (Decided (Ok c.in_ok-length.length)) r
     c.in_ok-length.ensures.judged))

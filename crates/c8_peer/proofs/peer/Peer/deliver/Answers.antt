@@ -6,4 +6,4 @@ use Rattle.c8_peer.proofs.peer.Peer.deliver.Goals as goal
 pub returns-in-Ok : goal.returns-in-Ok
 returns-in-Ok g c =
     subst (λ told. IsAnswered g.D.Disk c.args.self.now (Deliver told) (Delivered c.deliver_datagram.result) c.deliver_datagram.new.self)
-        (sym c.in-Ok.ensures.answer) c.deliver_datagram.ensures
+    (sym c.in-Ok.ensures.answer) c.deliver_datagram.ensures

@@ -25,25 +25,25 @@ returns-in-Err g c =
     let t = told_of c.self.inside.game.now k.me (records_of c.self.inside.journal.bodies) in
     -- the links were lent out of the peer: what was said of these parts is said of the peer's own
     let refused : (x : Inside g.row.D.Denot) → x ≡ c.self.inside → c.me.result.number ≡ x.known.me
-        → c.leaving.result ≡ (player_in x.known c.me.result.number).leaving
+    → c.leaving.result ≡ (player_in x.known c.me.result.number).leaving
     → admission x.memory.links head ≡ Some c.in-Err.error
     → outcome c.self.inside.game.now t k m (Deliver (Ok packet)) ≡ answered m (Delivered (Err (refusals.Hand c.in-Err.error))) =
     λ x same own leaves judged.
     let mine : c.me.result.number ≡ k.me = own ∙ ap (λ (y : Inside g.row.D.Denot). y.known.me) same in
     let stays : (player_in k k.me).leaving ≡ false =
     ap (λ (q : ℕ). (player_in k q).leaving) (sym mine)
-        ∙ sym (leaves ∙ ap (λ (y : Inside g.row.D.Denot). (player_in y.known c.me.result.number).leaving) same) ∙ c.if-leaving.false in
+    ∙ sym (leaves ∙ ap (λ (y : Inside g.row.D.Denot). (player_in y.known c.me.result.number).leaving) same) ∙ c.if-leaving.false in
     let no : admission m.links head ≡ Some c.in-Err.error = ap (λ (y : Inside g.row.D.Denot). admission y.memory.links head) (sym same) ∙ judged in
     let wire : is_of_other_wire c.self.inside.game.now head ≡ false =
     ap (λ (v : PeerValue g.row.D.Denot). is_of_other_wire v.rules head) c.self.view_is ∙ sym c.is_of_other_wire.ensures
-        ∙ c.if-is_of_other_wire.false in
+    ∙ c.if-is_of_other_wire.false in
     let comes = hand_refuses c.self.inside.game.now t k m packet c.in-Err.error (seen_in packet.message) c.requires refl no in
     rw (stays, wire) comes in
     answers g.D.Disk c.args.self.now c.args.self.now.state.memory (Deliver (Ok packet)) (Delivered (Err (refusals.Hand c.in-Err.error)))
-        c.is_down.ensures.sound
+    c.is_down.ensures.sound
     (c.is_down.ensures.value ∙ ap mode_of c.if-is_down.false)
     (outcome_seen c.args.self.now c.self.inside.game.now c.self.inside.room c.self.inside.journal k m c.self.invariant.0 c.self.view_is
-        (Deliver (Ok packet))
+    (Deliver (Ok packet))
     (λ (m : Memory). answered m (Delivered (Err (refusals.Hand c.in-Err.error))))
     (refused _ c.self-inside.view_is c.me.ensures.value c.leaving.ensures c.in-Err.ensures.judged)) refl
 

@@ -23,7 +23,7 @@ note-requires-clause-memory g c =
     let v = c.args.self.now in
     let p = packet_of c.args.datagram.now in
     let comes = comes_to v p verdicts.Nothing c.in-Ok-Nothing.field-0 c.requires.packet c.requires.stays c.requires.wire c.requires.admitted
-        c.in-Ok-Nothing.ensures.judged.0 c.in-Ok-Nothing.field-0-is in
+    c.in-Ok-Nothing.ensures.judged.0 c.in-Ok-Nothing.field-0-is in
     memory_noted g.D.Disk v p (taken (memory_after v.state.memory p) heards.Nothing) c.is_down-down.ensures.sound c.requires.packet comes
 
 pub keep-requires-clause-allowed : goal.keep-requires-clause-allowed
@@ -32,9 +32,9 @@ keep-requires-clause-allowed g c =
     let p = packet_of c.args.datagram.now in
     let r = value_of c.in-Ok-Keep.record in
     let comes = comes_to v p (verdicts.Keep c.in-Ok-Keep.record c.in-Ok-Keep.heard) c.in-Ok-Keep.field-0 c.requires.packet c.requires.stays
-        c.requires.wire c.requires.admitted c.in-Ok-Keep.ensures.judged.0 c.in-Ok-Keep.field-0-is in
+    c.requires.wire c.requires.admitted c.in-Ok-Keep.ensures.judged.0 c.in-Ok-Keep.field-0-is in
     record_allowed g.D.Disk v p (recorded (memory_after v.state.memory p) (Delivered (Ok c.in-Ok-Keep.heard)) r) r
-        c.is_down-down.ensures.sound c.requires.packet comes refl
+    c.is_down-down.ensures.sound c.requires.packet comes refl
 
 pub note-requires-in-Ok-clause-acks : goal.note-requires-in-Ok-clause-acks
 note-requires-in-Ok-clause-acks g c =
@@ -42,11 +42,11 @@ note-requires-in-Ok-clause-acks g c =
     let p = packet_of c.args.datagram.now in
     let r = value_of c.in-Ok-Keep.record in
     let comes = comes_to v p (verdicts.Keep c.in-Ok-Keep.record c.in-Ok-Keep.heard) c.in-Ok-Keep.field-0 c.requires.packet c.requires.stays
-        c.requires.wire c.requires.admitted c.in-Ok-Keep.ensures.judged.0 c.in-Ok-Keep.field-0-is in
+    c.requires.wire c.requires.admitted c.in-Ok-Keep.ensures.judged.0 c.in-Ok-Keep.field-0-is in
     let may = record_allowed g.D.Disk v p (recorded (memory_after v.state.memory p) (Delivered (Ok c.in-Ok-Keep.heard)) r) r
-        c.is_down-down.ensures.sound c.requires.packet comes refl in
+    c.is_down-down.ensures.sound c.requires.packet comes refl in
     subst (λ (x : PeerValue g.row.D.Denot). AcksWithin (known_by x) p.message) (sym c.in-Ok.ensures.ok)
-        (acks_kept g.D.Disk v p.message r c.is_down-down.ensures.sound may c.in-Ok-Keep.ensures.acks)
+    (acks_kept g.D.Disk v p.message r c.is_down-down.ensures.sound may c.in-Ok-Keep.ensures.acks)
 
 pub note-requires-in-Ok-clause-memory : goal.note-requires-in-Ok-clause-memory
 note-requires-in-Ok-clause-memory g c =
@@ -54,17 +54,17 @@ note-requires-in-Ok-clause-memory g c =
     let p = packet_of c.args.datagram.now in
     let r = value_of c.in-Ok-Keep.record in
     let comes = comes_to v p (verdicts.Keep c.in-Ok-Keep.record c.in-Ok-Keep.heard) c.in-Ok-Keep.field-0 c.requires.packet c.requires.stays
-        c.requires.wire c.requires.admitted c.in-Ok-Keep.ensures.judged.0 c.in-Ok-Keep.field-0-is in
+    c.requires.wire c.requires.admitted c.in-Ok-Keep.ensures.judged.0 c.in-Ok-Keep.field-0-is in
     let stays = memory_noted g.D.Disk v p (recorded (memory_after v.state.memory p) (Delivered (Ok c.in-Ok-Keep.heard)) r)
-        c.is_down-down.ensures.sound c.requires.packet comes in
+    c.is_down-down.ensures.sound c.requires.packet comes in
     let sound = c.is_down-down.ensures.sound in
     let may = record_allowed g.D.Disk v p (recorded (memory_after v.state.memory p) (Delivered (Ok c.in-Ok-Keep.heard)) r) r sound
-        c.requires.packet comes refl in
+    c.requires.packet comes refl in
     let later = heard_later (verdicts.Keep c.in-Ok-Keep.record c.in-Ok-Keep.heard) c.in-Ok-Keep.field-0 c.in-Ok-Keep.ensures.judged.1
-        c.in-Ok-Keep.field-0-is in
+    c.in-Ok-Keep.field-0-is in
     subst (λ (x : PeerValue g.row.D.Denot). IsMemory x.rules x.room x.me x.state.journal (memory_after x.state.memory p)) (sym c.in-Ok.ensures.ok)
     (memory_more v.rules v.room v.me v.state.journal r (memory_after v.state.memory p) sound.range sound.plays.0 sound.plays.1
-        (journal_more v.rules v.me v.room v.state.journal r sound.is_journal may) stays
+    (journal_more v.rules v.me v.room v.state.journal r sound.is_journal may) stays
     (saving_play v.rules v.me v.room v.state.journal r sound.range sound.plays.0 sound.plays.1 sound.is_journal may later.0 sound.memory.saving))
 
 pub returns-in-Ok-Nothing : goal.returns-in-Ok-Nothing
@@ -72,17 +72,17 @@ returns-in-Ok-Nothing g c =
     let v = c.args.self.now in
     let p = packet_of c.args.datagram.now in
     let comes = comes_to v p verdicts.Nothing c.in-Ok-Nothing.field-0 c.requires.packet c.requires.stays c.requires.wire c.requires.admitted
-        c.in-Ok-Nothing.ensures.judged.0 c.in-Ok-Nothing.field-0-is in
+    c.in-Ok-Nothing.ensures.judged.0 c.in-Ok-Nothing.field-0-is in
     subst (λ (x : PeerValue g.row.D.Denot). IsAnswered g.D.Disk v (Deliver (Ok p)) (Delivered (Ok heards.Nothing)) x) (sym c.note.ensures)
     (answers g.D.Disk v (memory_after v.state.memory p) (Deliver (Ok p)) (Delivered (Ok heards.Nothing)) c.is_down-down.ensures.sound
-        c.requires.up comes refl)
+    c.requires.up comes refl)
 
 pub returns-in-Ok-Alarm : goal.returns-in-Ok-Alarm
 returns-in-Ok-Alarm g c =
     let v = c.args.self.now in
     let p = packet_of c.args.datagram.now in
     let comes = comes_to v p verdicts.Alarm c.in-Ok-Alarm.field-0 c.requires.packet c.requires.stays c.requires.wire c.requires.admitted
-        c.in-Ok-Alarm.ensures.judged.0 c.in-Ok-Alarm.field-0-is in
+    c.in-Ok-Alarm.ensures.judged.0 c.in-Ok-Alarm.field-0-is in
     subst (λ (x : PeerValue g.row.D.Denot). IsAnswered g.D.Disk v (Deliver (Ok p)) (Delivered (Err refusals.Desync)) x) (sym c.raise_alarm.ensures)
     (answers g.D.Disk v _ (Deliver (Ok p)) (Delivered (Err refusals.Desync)) c.is_down-down.ensures.sound c.requires.up comes refl)
 
@@ -93,21 +93,21 @@ returns-in-Ok g c =
     let r = value_of c.in-Ok-Keep.record in
     let noted = memory_after v.state.memory p in
     let comes = comes_to v p (verdicts.Keep c.in-Ok-Keep.record c.in-Ok-Keep.heard) c.in-Ok-Keep.field-0 c.requires.packet c.requires.stays
-        c.requires.wire c.requires.admitted c.in-Ok-Keep.ensures.judged.0 c.in-Ok-Keep.field-0-is in
+    c.requires.wire c.requires.admitted c.in-Ok-Keep.ensures.judged.0 c.in-Ok-Keep.field-0-is in
     let leaves = subst (LeavesJournal g.D.Disk) c.in-Ok.ensures.ok c.in-Ok.ensures.journal in
     let kept : Kept g.D.Disk v r (Ok tt) c.keep.new.self.disk =
     record { any_moment = c.in-Ok.ensures.any_moment; changes = c.in-Ok.ensures.changes; same = c.in-Ok.ensures.same; asks = c.in-Ok.ensures.asks } in
     let ran = c.keep.new.self.last_run in
     let later = heard_later (verdicts.Keep c.in-Ok-Keep.record c.in-Ok-Keep.heard) c.in-Ok-Keep.field-0 c.in-Ok-Keep.ensures.judged.1
-        c.in-Ok-Keep.field-0-is in
+    c.in-Ok-Keep.field-0-is in
     let runs : RunsFrames v.rules.window (known_by v) (known_of v.rules v.me (v.state.journal ++ r ∷ [])) ran =
     subst (λ (entry : Bool). RunsFrames (if entry then v.rules.window + 1 else v.rules.window) (known_by v)
-        (known_of v.rules v.me (v.state.journal ++ r ∷ [])) ran) later.1 c.in-Ok.ensures.ran in
+    (known_of v.rules v.me (v.state.journal ++ r ∷ [])) ran) later.1 c.in-Ok.ensures.ran in
     let done : IsAnswered g.D.Disk v (Deliver (Ok p)) (Delivered (Ok c.in-Ok-Keep.heard)) (with_record g.D.Disk v c.keep.new.self.disk r noted ran) =
     records g.D.Disk v c.keep.new.self.disk noted ran (Deliver (Ok p)) (Delivered (Ok c.in-Ok-Keep.heard)) r c.requires.up comes refl kept
-        runs leaves in
+    runs leaves in
     subst (λ (x : PeerValue g.row.D.Denot). IsAnswered g.D.Disk v (Deliver (Ok p)) (Delivered (Ok c.in-Ok-Keep.heard)) x)
-        (sym (c.note-in-Ok.ensures ∙ rw c.in-Ok.ensures.ok refl)) done
+    (sym (c.note-in-Ok.ensures ∙ rw c.in-Ok.ensures.ok refl)) done
 
 pub returns-in-Err-keep : goal.returns-in-Err-keep
 returns-in-Err-keep g c =
@@ -117,14 +117,18 @@ returns-in-Err-keep g c =
     let why = c.in-Err-keep.error in
     let is = c.in-Err-keep.ensures.err in
     let comes = comes_to v p (verdicts.Keep c.in-Ok-Keep.record c.in-Ok-Keep.heard) c.in-Ok-Keep.field-0 c.requires.packet c.requires.stays
-        c.requires.wire c.requires.admitted c.in-Ok-Keep.ensures.judged.0 c.in-Ok-Keep.field-0-is in
+    c.requires.wire c.requires.admitted c.in-Ok-Keep.ensures.judged.0 c.in-Ok-Keep.field-0-is in
     let leaves = subst (LeavesJournal g.D.Disk) is c.in-Err-keep.ensures.journal in
     let kept : Kept g.D.Disk v r (Err why) c.keep.new.self.disk =
-    record { any_moment = c.in-Err-keep.ensures.any_moment; changes = c.in-Err-keep.ensures.changes; same = c.in-Err-keep.ensures.same;
-        asks = c.in-Err-keep.ensures.asks } in
+    record {
+      any_moment = c.in-Err-keep.ensures.any_moment;
+      changes = c.in-Err-keep.ensures.changes;
+      same = c.in-Err-keep.ensures.same;
+      asks = c.in-Err-keep.ensures.asks;
+    } in
     subst (λ (x : PeerValue g.row.D.Denot). IsAnswered g.D.Disk v (Deliver (Ok p)) (Delivered (Err (refusals.Disk why))) x) (sym is)
     (is_refused g.D.Disk v c.keep.new.self.disk (memory_after v.state.memory p) (Deliver (Ok p)) (Delivered (Err (refusals.Disk why)))
-        (Delivered (Ok c.in-Ok-Keep.heard)) r why c.requires.up comes refl refl kept
+    (Delivered (Ok c.in-Ok-Keep.heard)) r why c.requires.up comes refl refl kept
     (cause_of g.D.Disk v (without_record g.D.Disk v c.keep.new.self.disk r) why c.in-Err-keep.ensures.failed c.in-Err-keep.ensures.full) leaves)
 
 pub returns-in-Err : goal.returns-in-Err
@@ -133,4 +137,4 @@ returns-in-Err g c =
     let p = packet_of c.args.datagram.now in
     let comes = heard_is v p c.requires.packet c.requires.stays c.requires.wire c.requires.admitted ∙ c.in-Err.ensures.judged.0 in
     answers g.D.Disk v v.state.memory (Deliver (Ok p)) (Delivered (Err c.in-Err.error)) c.is_down-down.ensures.sound c.requires.up comes
-        c.in-Err.ensures.judged.1
+    c.in-Err.ensures.judged.1

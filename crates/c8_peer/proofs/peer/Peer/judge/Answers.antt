@@ -18,7 +18,7 @@ pub judge-requires-clause-plays : goal.judge-requires-clause-plays
 judge-requires-clause-plays g c =
     subst (λ (known : KnownValue). Plays known c.args.sender.number)
     (sym (known_is c.args.self.now c.self.inside.game.now c.self.inside.room c.self.inside.journal c.self.inside.known c.self.inside.memory
-        c.self.view_is c.self.invariant.0)) c.requires.plays
+    c.self.view_is c.self.invariant.0)) c.requires.plays
 
 pub returns-clause-judged : goal.returns-clause-judged
 unfolding told_of
@@ -31,6 +31,6 @@ returns-clause-judged g c =
     let marks = c.marks.ensures ∙ roll_marks game (begun_at game journal) c.self.inside.known (seen c.self.inside.roll) c.self.invariant.1.roll
     ∙ ap (λ (k : KnownValue). marks_since game (begun_at game journal) k (confirmed k)) c.self.invariant.0.known in
     subst (λ (x : PeerValue g.row.D.Denot). Judges (hear_message x.rules (told_by x) (known_by x) x.state.memory p.head p.message)
-        x.state.memory (memory_after x.state.memory p) c.judge.result) c.self.view_is
+    x.state.memory (memory_after x.state.memory p) c.judge.result) c.self.view_is
     (subst (λ (known : KnownValue). Judges (hear_message game t known m p.head p.message) m (memory_after m p) c.judge.result)
-        c.self.invariant.0.known (c.judge.ensures.judged game t m marks))
+    c.self.invariant.0.known (c.judge.ensures.judged game t m marks))

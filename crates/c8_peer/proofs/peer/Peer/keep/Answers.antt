@@ -16,8 +16,8 @@ use Rattle.c8_peer.specs.Peer.{PeerValue}
 use Rattle.c8_peer.specs.checked.Held.{IsRolled, IsPlanned}
 use Rattle.c8_peer.specs.checked.TrueCheckLaws.{play_checks, play_begins}
 use Rattle.c8_peer.proofs.CheckpointLemmas.{saving_play, planned_play}
-use Rattle.c8_peer.proofs.PeerLemmas.{is_up, same_epoch, rolled_more, peer_refused, can_follow, peer_more, was_roll, runs_few, runs_anew,
-  runs_frames, allowed_inside, view_refused, view_more, leaves_records, asks_records, one_body_more}
+use Rattle.c8_peer.proofs.PeerLemmas.{is_up, same_epoch, rolled_more, peer_refused, can_follow, peer_more, was_roll, runs_few, runs_anew}
+use Rattle.c8_peer.proofs.PeerLemmas.{runs_frames, allowed_inside, view_refused, view_more, leaves_records, asks_records, one_body_more}
 use Rattle.c8_peer.proofs.WindowLemmas.{is_within, roll_within}
 use Rattle.c8_peer.proofs.peer.Peer.keep.Goals as goal
 
@@ -44,7 +44,7 @@ returns-in-Err-clause-err g c =
     let may = allowed_inside r c.self.view_is c.requires.allowed in
     let is = c.in-Err.ensures.err in
     view_refused c.args.self.now c.self.inside.game.now c.self.inside.room c.self.inside.known.me (last_run_of c.self.inside.roll)
-        c.self.inside.journal c.append.new.self c.self.inside.memory r c.body_of.result c.self.view_is
+    c.self.inside.journal c.append.new.self c.self.inside.memory r c.body_of.result c.self.view_is
     (ap (λ (j : JournalValue g.row.D.Denot). j.bodies) is)
     (ap (λ (j : JournalValue g.row.D.Denot). j.pending) is)
     (ap (λ (j : JournalValue g.row.D.Denot). j.is_down) is)
@@ -53,19 +53,19 @@ returns-in-Err-clause-err g c =
 pub returns-in-Err-clause-any_moment : goal.returns-in-Err-clause-any_moment
 returns-in-Err-clause-any_moment g c =
     leaves_records g.D.Disk c.args.self.now c.self.inside.game.now c.self.inside.room c.self.inside.known.me c.self.inside.journal
-        c.append.new.self.disk c.self.inside.memory (value_of c.args.lent.now) c.body_of.result
+    c.append.new.self.disk c.self.inside.memory (value_of c.args.lent.now) c.body_of.result
     c.self.view_is c.self.invariant.0.bodies c.body_of.ensures.body c.append.ensures.any_moment
 
 pub make_known-requires : goal.make_known-requires
 make_known-requires g c =
     let r = value_of c.args.lent.now in
     can_follow c.self.inside.game.now c.self.inside.room c.self.inside.journal c.self.inside.known c.self.inside.memory r c.self.invariant.0
-        (allowed_inside r c.self.view_is c.requires.allowed)
+    (allowed_inside r c.self.view_is c.requires.allowed)
 
 pub go_on-requires : goal.go_on-requires
 go_on-requires g c =
     was_roll c.self.inside.game.now (records_of c.self.inside.journal.bodies) (seen c.self.inside.roll) (checked c.self.inside.checks)
-        c.self.inside.known c.make_known.new.known (value_of c.args.lent.now) (last_run_of c.self.inside.roll)
+    c.self.inside.known c.make_known.new.known (value_of c.args.lent.now) (last_run_of c.self.inside.roll)
     c.self.invariant.1 c.make_known.ensures.value c.make_known.ensures.still
 
 pub invariant_of-self : goal.invariant_of-self
@@ -76,7 +76,7 @@ invariant_of-self g c =
     let may = allowed_inside r c.self.view_is c.requires.allowed in
     let within = roll_within rules (begun_at rules journal) c.self.inside.known (seen c.self.inside.roll) c.self.invariant.1.roll
     (is_within c.journals_stay_within_the_window.ensures rules c.self.inside.room c.self.inside.journal c.self.inside.known
-        c.self.inside.memory c.self.invariant.0) in
+    c.self.inside.memory c.self.invariant.0) in
     let is = c.in-Ok.ensures.ok in
     let held = c.self.invariant.0 in
     let me = c.self.inside.known.me in
@@ -89,21 +89,21 @@ invariant_of-self g c =
           may (same_epoch journal r c.requires.play)
           (saving_play rules me room journal r held.range held.from_one held.in_game held.bodies.journal may c.requires.play held.memory.saving)
           (ap (λ (j : JournalValue g.row.D.Denot). j.bodies) is
-              ∙ ap (λ (body : List ℕ). c.self.inside.journal.bodies ++ body ∷ []) c.body_of.ensures.body)
+          ∙ ap (λ (body : List ℕ). c.self.inside.journal.bodies ++ body ∷ []) c.body_of.ensures.body)
           (ap (λ (j : JournalValue g.row.D.Denot). j.pending) is
-              ∙ c.is_down-up.ensures.up (is_up c.self.inside.journal.is_down
-              (subst (λ (x : PeerValue g.row.D.Denot). x.state.mode ≡ Open) (sym c.self.view_is) c.requires.up)))
+          ∙ c.is_down-up.ensures.up (is_up c.self.inside.journal.is_down
+          (subst (λ (x : PeerValue g.row.D.Denot). x.state.mode ≡ Open) (sym c.self.view_is) c.requires.up)))
           c.make_known.ensures.value c.make_known.ensures.still.me,
       rolled_more rules journal (records_of c.append.new.self.bodies) (checked c.self.inside.checks) (checked c.self.inside.checks)
           (seen c.self.inside.roll) (seen c.go_on.new.roll) c.self.inside.known c.make_known.new.known r (last_run_of c.self.inside.roll)
           (last_run_of c.go_on.new.roll) c.self.invariant.1 (play_begins rules journal r c.requires.play)
-              (c.self.invariant.1.checks_are ∙ sym (play_checks journal r c.requires.play)) longer
+          (c.self.invariant.1.checks_are ∙ sym (play_checks journal r c.requires.play)) longer
           c.make_known.ensures.still c.go_on.ensures.grown (c.go_on.ensures.bound within),
       subst (λ (x : Rules). KeepsRows x.window c.make_known.new.known (rows_run c.go_on.new.roll))
           (roll_rules rules (begun_at rules journal) c.self.inside.known (seen c.self.inside.roll) c.self.invariant.1.roll) c.go_on.ensures.kept,
       rw (c.make_known.ensures.still.me, longer)
           (planned_play rules me room journal r c.self.inside.checks held.range held.from_one held.in_game held.bodies.journal may
-              c.requires.play c.self.invariant.1.checks_are c.self.invariant.3),
+          c.requires.play c.self.invariant.1.checks_are c.self.invariant.3),
     )
 
 pub returns-in-Ok-clause-ok : goal.returns-in-Ok-clause-ok
@@ -112,10 +112,10 @@ returns-in-Ok-clause-ok g c =
     let may = allowed_inside r c.self.view_is c.requires.allowed in
     let is = c.in-Ok.ensures.ok in
     view_more c.args.self.now c.self.inside.game.now c.self.inside.room c.self.inside.known.me c.make_known.new.known.me
-        (last_run_of c.self.inside.roll) (last_run_of c.go_on.new.roll) c.self.inside.journal c.append.new.self c.self.inside.memory r c.self.view_is
+    (last_run_of c.self.inside.roll) (last_run_of c.go_on.new.roll) c.self.inside.journal c.append.new.self c.self.inside.memory r c.self.view_is
     (ap (λ (j : JournalValue g.row.D.Denot). records_of j.bodies) is
-        ∙ ap (λ (body : List ℕ). records_of (c.self.inside.journal.bodies ++ body ∷ [])) c.body_of.ensures.body
-        ∙ one_body_more c.self.inside.journal.bodies r may.spelled)
+    ∙ ap (λ (body : List ℕ). records_of (c.self.inside.journal.bodies ++ body ∷ [])) c.body_of.ensures.body
+    ∙ one_body_more c.self.inside.journal.bodies r may.spelled)
     (ap (λ (j : JournalValue g.row.D.Denot). j.pending) is)
     (ap (λ (j : JournalValue g.row.D.Denot). j.is_down) is)
     c.make_known.ensures.still.me
@@ -123,7 +123,7 @@ returns-in-Ok-clause-ok g c =
 pub returns-in-Ok-clause-any_moment : goal.returns-in-Ok-clause-any_moment
 returns-in-Ok-clause-any_moment g c =
     leaves_records g.D.Disk c.args.self.now c.self.inside.game.now c.self.inside.room c.self.inside.known.me c.self.inside.journal
-        c.append.new.self.disk c.self.inside.memory (value_of c.args.lent.now) c.body_of.result
+    c.append.new.self.disk c.self.inside.memory (value_of c.args.lent.now) c.body_of.result
     c.self.view_is c.self.invariant.0.bodies c.body_of.ensures.body c.append.ensures.any_moment
 
 pub returns-in-Ok-clause-ran : goal.returns-in-Ok-clause-ran
@@ -134,33 +134,33 @@ returns-in-Ok-clause-ran g c =
     let from = begun_at rules (records_of c.self.inside.journal.bodies) in
     let within = roll_within rules from c.self.inside.known v c.self.invariant.1.roll
     (is_within c.journals_stay_within_the_window.ensures rules c.self.inside.room c.self.inside.journal c.self.inside.known
-        c.self.inside.memory c.self.invariant.0) in
+    c.self.inside.memory c.self.invariant.0) in
     let game : v.rules ≡ rules = roll_rules rules from c.self.inside.known v c.self.invariant.1.roll in
     let ticks = roll_ticks rules from c.self.inside.known v c.self.invariant.1.roll in
     let most : last_run_of c.go_on.new.roll ≤ rules.window + 1 =
-        subst (λ (x : Rules). last_run_of c.go_on.new.roll ≤ x.window + 1) game (c.go_on.ensures.bound within) in
+    subst (λ (x : Rules). last_run_of c.go_on.new.roll ≤ x.window + 1) game (c.go_on.ensures.bound within) in
     let settled : c.make_known.new.known.ticks ≤ c.self.inside.known.ticks → last_run_of c.go_on.new.roll ≤ rules.window = λ same.
     subst (λ (x : Rules). last_run_of c.go_on.new.roll ≤ x.window) game (c.go_on.ensures.settled within (omega (arith, same, ticks))) in
     let few = runs_few rules c.self.inside.known c.make_known.new.known r (last_run_of c.go_on.new.roll) c.make_known.ensures.value most settled in
     let again = runs_anew rules (records_of c.self.inside.journal.bodies) v (checked c.self.inside.checks) (rows_run c.self.inside.roll)
-        c.self.inside.known c.make_known.new.known (last_run_of c.self.inside.roll) (last_run_of c.go_on.new.roll) c.self.invariant.1
-        c.self.invariant.2 within c.go_on.ensures.again in
+    c.self.inside.known c.make_known.new.known (last_run_of c.self.inside.roll) (last_run_of c.go_on.new.roll) c.self.invariant.1
+    c.self.invariant.2 within c.go_on.ensures.again in
     runs_frames c.args.self.now rules c.self.inside.room c.self.inside.journal c.self.inside.known c.make_known.new.known
-        c.self.inside.memory r (last_run_of c.go_on.new.roll) c.self.view_is c.self.invariant.0
+    c.self.inside.memory r (last_run_of c.go_on.new.roll) c.self.view_is c.self.invariant.0
     (allowed_inside r c.self.view_is c.requires.allowed) c.make_known.ensures.value few again
 
 pub returns-in-Err-clause-asks : goal.returns-in-Err-clause-asks
 returns-in-Err-clause-asks g c =
     asks_records g.D.Disk c.args.self.now c.self.inside.game.now c.self.inside.room c.self.inside.known.me c.self.inside.journal
-        c.append.new.self.disk c.self.inside.memory (value_of c.args.lent.now) c.body_of.result
+    c.append.new.self.disk c.self.inside.memory (value_of c.args.lent.now) c.body_of.result
     (Err c.in-Err.error) c.self.view_is c.body_of.ensures.body
     (asks_as g.D.Disk (AppendWithin (g.D.Disk.capacity c.self.inside.journal.disk) (length c.self.inside.journal.bodies) c.body_of.result)
-        c.self.inside.journal.disk c.append.new.self.disk c.append.result (Err c.in-Err.error) c.in-Err.is c.append.ensures.asks)
+    c.self.inside.journal.disk c.append.new.self.disk c.append.result (Err c.in-Err.error) c.in-Err.is c.append.ensures.asks)
 
 pub returns-in-Ok-clause-asks : goal.returns-in-Ok-clause-asks
 returns-in-Ok-clause-asks g c =
     asks_records g.D.Disk c.args.self.now c.self.inside.game.now c.self.inside.room c.self.inside.known.me c.self.inside.journal
-        c.append.new.self.disk c.self.inside.memory (value_of c.args.lent.now) c.body_of.result
+    c.append.new.self.disk c.self.inside.memory (value_of c.args.lent.now) c.body_of.result
     (Ok tt) c.self.view_is c.body_of.ensures.body
     (asks_as g.D.Disk (AppendWithin (g.D.Disk.capacity c.self.inside.journal.disk) (length c.self.inside.journal.bodies) c.body_of.result)
-        c.self.inside.journal.disk c.append.new.self.disk c.append.result (Ok tt) c.in-Ok.is c.append.ensures.asks)
+    c.self.inside.journal.disk c.append.new.self.disk c.append.result (Ok tt) c.in-Ok.is c.append.ensures.asks)

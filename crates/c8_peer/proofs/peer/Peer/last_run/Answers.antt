@@ -13,20 +13,20 @@ use Rattle.c8_peer.proofs.peer.Peer.last_run.Goals as goal
 pub returns-clause-ahead : goal.returns-clause-ahead
 returns-clause-ahead g c =
     let known = known_is c.args.self.now c.self.inside.game.now c.self.inside.room c.self.inside.journal c.self.inside.known
-        c.self.inside.memory c.self.view_is c.self.invariant.0 in
+    c.self.inside.memory c.self.view_is c.self.invariant.0 in
     let few = is_within c.journals_stay_within_the_window.ensures c.self.inside.game.now c.self.inside.room c.self.inside.journal
-        c.self.inside.known c.self.inside.memory c.self.invariant.0 in
+    c.self.inside.known c.self.inside.memory c.self.invariant.0 in
     subst (λ (rules : Rules). (known_by c.args.self.now).ticks ≤ confirmed (known_by c.args.self.now) + rules.window)
-        (ap (λ (x : PeerValue g.row.D.Denot). x.rules) c.self.view_is)
+    (ap (λ (x : PeerValue g.row.D.Denot). x.rules) c.self.view_is)
     (subst (λ (k : KnownValue). k.ticks ≤ confirmed k + c.self.inside.game.now.window) known few)
 
 pub returns-clause-bound : goal.returns-clause-bound
 returns-clause-bound g c =
     let known = known_is c.args.self.now c.self.inside.game.now c.self.inside.room c.self.inside.journal c.self.inside.known
-        c.self.inside.memory c.self.view_is c.self.invariant.0 in
+    c.self.inside.memory c.self.view_is c.self.invariant.0 in
     let ran = last_run_of c.self.inside.roll in
     rw c.last_run.ensures
     (subst (λ (x : PeerValue g.row.D.Denot). (ran ≤ x.rules.window + 1) ⊎ (ran + (begun_by x).frames ≡ (known_by c.args.self.now).ticks))
-        c.self.view_is
+    c.self.view_is
     (subst (λ (k : KnownValue). (ran ≤ c.self.inside.game.now.window + 1)
-        ⊎ (ran + (begun_at c.self.inside.game.now (records_of c.self.inside.journal.bodies)).frames ≡ k.ticks)) known c.self.invariant.1.bound))
+    ⊎ (ran + (begun_at c.self.inside.game.now (records_of c.self.inside.journal.bodies)).frames ≡ k.ticks)) known c.self.invariant.1.bound))

@@ -10,5 +10,5 @@ keep-requires-clause-allowed g c =
     let r : Record = records.Leave c.args.leaver.number in
     allowed_outside r c.self.view_is
     (may_record c.self.inside.game.now c.self.inside.room c.self.inside.journal c.self.inside.known c.self.inside.memory c.self.invariant.0
-        (Leave c.args.leaver.number) tt c.self.inside.memory (Left (Ok tt)) r
+    (Leave c.args.leaver.number) tt c.self.inside.memory (Left (Ok tt)) r
     (c.in_ok-judge_leave.ensures.judged c.self.inside.memory))

@@ -14,6 +14,6 @@ unfolding told_of
 returns g c =
     let marks = c.marks.ensures ∙ roll_marks c.args.self.now.rules (begun_by c.args.self.now) (known_by c.args.self.now) (seen c.self.inside.roll)
     (roll_is c.args.self.now c.self.inside.game.now c.self.inside.room c.self.inside.journal c.self.inside.known c.self.inside.memory
-        (seen c.self.inside.roll) c.self.view_is c.self.invariant.0 c.self.invariant.1) in
+    (seen c.self.inside.roll) c.self.view_is c.self.invariant.0 c.self.invariant.1) in
     c.unwrap_or.ensures ∙ ap (λ (found : Option FrameMark). unwrap_or found (record { frame = 0; mark = replicate 8 0 }))
-        (c.newest.ensures ∙ ap newest_of marks)
+    (c.newest.ensures ∙ ap newest_of marks)

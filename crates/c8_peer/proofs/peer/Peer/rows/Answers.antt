@@ -4,9 +4,9 @@ use Rattle.c8_peer.proofs.peer.Peer.rows.Goals as goal
 pub returns-clause-known : goal.returns-clause-known
 returns-clause-known g c =
     known_is c.args.self.now c.self.inside.game.now c.self.inside.room c.self.inside.journal c.self.inside.known c.self.inside.memory
-        c.self.view_is c.self.invariant.0
+    c.self.view_is c.self.invariant.0
 
 pub returns-clause-players : goal.returns-clause-players
 returns-clause-players g c =
     players_are c.args.self.now c.self.inside.game.now c.self.inside.room c.self.inside.journal c.self.inside.known c.self.inside.memory
-        c.self.view_is c.self.invariant.0
+    c.self.view_is c.self.invariant.0

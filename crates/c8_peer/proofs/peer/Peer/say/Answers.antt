@@ -15,7 +15,7 @@ write-requires g c =
     let t = told_of game c.self.inside.known.me (records_of c.self.inside.journal.bodies) in
     let newest = subst (λ (x : PeerValue g.row.D.Denot). c.newest_mark.result ≡ newest_mark (told_by x)) (sym c.self.view_is) c.newest_mark.ensures in
     let written = may_say game c.self.inside.room c.self.inside.journal c.self.inside.known c.self.inside.memory c.args.to.number
-        c.args.kind (head_value c.head-head.result) (message_of c.message-body.result)
+    c.args.kind (head_value c.head-head.result) (message_of c.message-body.result)
     c.self.invariant.0 (c.in_ok-judge_saying.ensures.judged game t) c.head-head.ensures (c.message-body.ensures game t newest c.wire.ensures) in
     record { kind = written.kind; message = written.message_is; room = written.room }
 
@@ -25,10 +25,10 @@ returns-clause-said g c =
     let t = told_of game c.self.inside.known.me (records_of c.self.inside.journal.bodies) in
     let newest = subst (λ (x : PeerValue g.row.D.Denot). c.newest_mark.result ≡ newest_mark (told_by x)) (sym c.self.view_is) c.newest_mark.ensures in
     let written = may_say game c.self.inside.room c.self.inside.journal c.self.inside.known c.self.inside.memory c.args.to.number
-        c.args.kind (head_value c.head-head.result) (message_of c.message-body.result)
+    c.args.kind (head_value c.head-head.result) (message_of c.message-body.result)
     c.self.invariant.0 (c.in_ok-judge_saying.ensures.judged game t) c.head-head.ensures (c.message-body.ensures game t newest c.wire.ensures) in
     is_said c.args.self.now game c.self.inside.room c.self.inside.journal c.self.inside.known c.self.inside.memory c.args.to.number
-        (saying_of c.args.kind) (take c.write.result c.write.new.out)
+    (saying_of c.args.kind) (take c.write.result c.write.new.out)
     (packet game t c.self.inside.known c.self.inside.memory c.args.to.number (saying_of c.args.kind)) c.self.view_is c.self.invariant.0
     (c.is_down.ensures.value ∙ ap mode_of c.if-is_down.false) (c.in_ok-judge_saying.ensures.judged game t)
     (subst (Spells (take c.write.result c.write.new.out)) written.is c.write.ensures.spelled)

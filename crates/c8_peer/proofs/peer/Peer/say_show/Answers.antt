@@ -21,7 +21,7 @@ returns-then-not-is_chair-clause-refused g c =
     let mine : c.me.result.number ≡ k.me = c.me.ensures.value ∙ ap (λ (y : Inside g.row.D.Denot). y.known.me) c.self-inside.view_is in
     let other : k.me ≢ 1 = λ one. eqb-false c.me.result.number 1 (sym c.is_chair.ensures ∙ c.if-not-is_chair.true) (mine ∙ one) in
     show_refused c.args.self.now c.self.inside.game.now c.self.inside.room c.self.inside.journal k c.self.inside.memory
-        c.args.watcher.number c.self.view_is c.self.invariant.0
+    c.args.watcher.number c.self.view_is c.self.invariant.0
     (c.is_down.ensures.value ∙ ap mode_of c.if-is_down.false) other
 
 pub write-requires : goal.write-requires
@@ -34,15 +34,15 @@ write-requires g c =
     let one : k.me ≡ 1 = sym mine ∙ eqb-true c.me.result.number 1 (sym c.is_chair.ensures ∙ c.if-not-is_chair.false) in
     let rows : c.as_slice.result.now ≡ take most_rows (drop c.rows-start.result (confirmed_rows k)) =
     c.as_slice.ensures.value ∙ c.rows_from-rows.ensures
-        ∙ ap (λ (y : Inside g.row.D.Denot). take most_rows (drop c.rows-start.result (confirmed_rows y.known))) c.self-inside.view_is in
+    ∙ ap (λ (y : Inside g.row.D.Denot). take most_rows (drop c.rows-start.result (confirmed_rows y.known))) c.self-inside.view_is in
     let start : c.rows-start.result ≡ seen_by m.seen n =
-        c.rows-start.ensures ∙ ap (λ (y : Inside g.row.D.Denot). seen_by y.memory.seen n) c.self-inside.view_is in
+    c.rows-start.ensures ∙ ap (λ (y : Inside g.row.D.Denot). seen_by y.memory.seen n) c.self-inside.view_is in
     let body : ◌≡◌ {A = Message} (packets.Show (record { start = c.rows-start.result; rows = c.as_slice.result.now })) (rows_for k m n) =
     ap (λ shown. packets.Show (record { start = c.rows-start.result; rows = shown })) rows
     ∙ ap (λ start. packets.Show (record { start = start; rows = take most_rows (drop start (confirmed_rows k)) })) start in
     let written = may_show c.self.inside.game.now c.self.inside.room c.self.inside.journal k m n (head_value c.show_head-head.result)
     (packets.Show (record { start = c.rows-start.result; rows = c.as_slice.result.now })) c.self.invariant.0 watches one
-        c.show_head-head.ensures body in
+    c.show_head-head.ensures body in
     record { kind = written.kind; message = written.message_is; room = written.room }
 
 pub returns-clause-said : goal.returns-clause-said
@@ -55,16 +55,16 @@ returns-clause-said g c =
     let one : k.me ≡ 1 = sym mine ∙ eqb-true c.me.result.number 1 (sym c.is_chair.ensures ∙ c.if-not-is_chair.false) in
     let rows : c.as_slice.result.now ≡ take most_rows (drop c.rows-start.result (confirmed_rows k)) =
     c.as_slice.ensures.value ∙ c.rows_from-rows.ensures
-        ∙ ap (λ (y : Inside g.row.D.Denot). take most_rows (drop c.rows-start.result (confirmed_rows y.known))) c.self-inside.view_is in
+    ∙ ap (λ (y : Inside g.row.D.Denot). take most_rows (drop c.rows-start.result (confirmed_rows y.known))) c.self-inside.view_is in
     let start : c.rows-start.result ≡ seen_by m.seen n =
-        c.rows-start.ensures ∙ ap (λ (y : Inside g.row.D.Denot). seen_by y.memory.seen n) c.self-inside.view_is in
+    c.rows-start.ensures ∙ ap (λ (y : Inside g.row.D.Denot). seen_by y.memory.seen n) c.self-inside.view_is in
     let body : ◌≡◌ {A = Message} (packets.Show (record { start = c.rows-start.result; rows = c.as_slice.result.now })) (rows_for k m n) =
     ap (λ shown. packets.Show (record { start = c.rows-start.result; rows = shown })) rows
     ∙ ap (λ start. packets.Show (record { start = start; rows = take most_rows (drop start (confirmed_rows k)) })) start in
     let written = may_show c.self.inside.game.now c.self.inside.room c.self.inside.journal k m n (head_value c.show_head-head.result)
     (packets.Show (record { start = c.rows-start.result; rows = c.as_slice.result.now })) c.self.invariant.0 watches one
-        c.show_head-head.ensures body in
+    c.show_head-head.ensures body in
     is_shown c.args.self.now c.self.inside.game.now c.self.inside.room c.self.inside.journal k m n (take c.write.result c.write.new.out)
-        c.self.view_is c.self.invariant.0
+    c.self.view_is c.self.invariant.0
     (c.is_down.ensures.value ∙ ap mode_of c.if-is_down.false) watches one
-        (subst (Spells (take c.write.result c.write.new.out)) written.is c.write.ensures.spelled)
+    (subst (Spells (take c.write.result c.write.new.out)) written.is c.write.ensures.spelled)

@@ -10,12 +10,12 @@ pub returns-clause-value : goal.returns-clause-value
 returns-clause-value g c =
     c.shown.ensures ∙ roll_shown c.args.self.now.rules (begun_by c.args.self.now) (known_by c.args.self.now) (seen c.self.inside.roll)
     (roll_is c.args.self.now c.self.inside.game.now c.self.inside.room c.self.inside.journal c.self.inside.known c.self.inside.memory
-        (seen c.self.inside.roll) c.self.view_is c.self.invariant.0 c.self.invariant.1)
+    (seen c.self.inside.roll) c.self.view_is c.self.invariant.0 c.self.invariant.1)
 
 pub returns-clause-serial : goal.returns-clause-serial
 unfolding roll_of
 returns-clause-serial g c = λ true_checks.
     c.shown.ensures ∙ ap (λ (v : RollValue). v.shown)
-        (true_roll c.args.self.now (seen c.self.inside.roll)
-        (roll_is c.args.self.now c.self.inside.game.now c.self.inside.room c.self.inside.journal c.self.inside.known c.self.inside.memory
-        (seen c.self.inside.roll) c.self.view_is c.self.invariant.0 c.self.invariant.1) true_checks)
+    (true_roll c.args.self.now (seen c.self.inside.roll)
+    (roll_is c.args.self.now c.self.inside.game.now c.self.inside.room c.self.inside.journal c.self.inside.known c.self.inside.memory
+    (seen c.self.inside.roll) c.self.view_is c.self.invariant.0 c.self.invariant.1) true_checks)

@@ -12,5 +12,5 @@ keep-requires-clause-allowed g c =
     let fits : c.args.keys.0 < 2 ^ 16 = omega arith in
     allowed_outside r c.self.view_is
     (may_record c.self.inside.game.now c.self.inside.room c.self.inside.journal c.self.inside.known c.self.inside.memory c.self.invariant.0
-        (Tick c.args.keys.0) fits c.self.inside.memory (Ticked (Ok tt)) r
+    (Tick c.args.keys.0) fits c.self.inside.memory (Ticked (Ok tt)) r
     (comes ∙ λ i. recorded c.self.inside.memory (Ticked (Ok tt)) (Own (sym c.me-player.ensures.value i) (sym count i) c.args.keys.0)))

@@ -11,8 +11,8 @@ use Rattle.c8_check.specs.Seen.{value_of as checked}
 use Rattle.c8_roll.specs.Seen.{value_of as seen, last_run_of}
 use Rattle.c8_peer.specs.State.{fresh_memory}
 use Rattle.c8_peer.specs.checked.OpenedParts.{BeginRun, IsBegun, IsNotBegun, BeginningLeaves}
-use Rattle.c8_peer.proofs.OpenLemmas.{begins_confirmed, rolled_opened, refused_beginning, begin_run, begun_there, leaves_opening,
-  peer_opened, opened_peer}
+use Rattle.c8_peer.proofs.OpenLemmas.{begins_confirmed, rolled_opened, refused_beginning, begin_run, begun_there, leaves_opening}
+use Rattle.c8_peer.proofs.OpenLemmas.{peer_opened, opened_peer}
 use Rattle.c8_peer.proofs.peer.open.open_in.Goals as goal
 
 pub returns-in_err-journal-clause-refused : goal.returns-in_err-journal-clause-refused
@@ -21,10 +21,10 @@ returns-in_err-journal-clause-refused g c =
     let left = c.in_err-journal.field-0.0 in
     rw (error.1, error.2)
     (refused_beginning g.D.Disk c.args.disk c.in_ok-log.log.disk c.args.game.now c.args.room c.args.known.me c.in_ok-log.ensures.read.same
-        left.1 left.0 c.in_ok-log.ensures.read.bodies c.in_ok-log.ensures.read.settled c.in_ok-log.ensures.same
+    left.1 left.0 c.in_ok-log.ensures.read.bodies c.in_ok-log.ensures.read.settled c.in_ok-log.ensures.same
     c.in_ok-log.ensures.read.unfailed c.in_ok-log.ensures.read.asks
     (subst (λ (me : ℕ). IsNotBegun g.D.Disk c.in_ok-log.log.disk c.args.game.now c.args.room me left.0 left.1) c.me-me.ensures.value
-        c.in_err-journal.ensures.refused))
+    c.in_err-journal.ensures.refused))
 
 pub returns-in_err-journal-clause-any_moment : goal.returns-in_err-journal-clause-any_moment
 returns-in_err-journal-clause-any_moment g c =
@@ -33,9 +33,9 @@ returns-in_err-journal-clause-any_moment g c =
     let left = c.in_err-journal.field-0.0.1 in
     rw (error.1, error.2)
     (leaves_opening g.D.Disk c.args.disk mid c.args.game.now c.args.room c.args.known.me c.in_ok-log.ensures.read.same
-        g.met.D.Disk.reads_now left c.in_ok-log.ensures.any_moment
+    g.met.D.Disk.reads_now left c.in_ok-log.ensures.any_moment
     (subst (λ (me : ℕ). LeavesOnly g.D.Disk mid left (BeginningLeaves g.D.Disk mid c.args.game.now c.args.room me)) c.me-me.ensures.value
-        c.in_err-journal.ensures.any_moment))
+    c.in_err-journal.ensures.any_moment))
 
 pub over-roll-requires-clause-confirmed : goal.over-roll-requires-clause-confirmed
 over-roll-requires-clause-confirmed g c =
@@ -44,9 +44,9 @@ over-roll-requires-clause-confirmed g c =
     let read = c.in_ok-log.ensures.read in
     let from_one : 1 ≤ me = subst (λ (me : ℕ). 1 ≤ me) c.me-me.ensures.value c.me-me.result.from_one in
     begins_confirmed g.D.Disk c.args.disk rules c.args.room me c.read_journal.new.known (checked c.read_journal.new.checks) c.in_ok-log.log
-        c.in_ok-log.last (origin_of c.beginning.result) read c.beginning.ensures
+    c.in_ok-log.last (origin_of c.beginning.result) read c.beginning.ensures
     (c.checkpoints_are_in_order.ensures.checks rules me c.args.room (records_of (bodies_found g.D.Disk c.args.disk)) c.in_range.ensures
-        from_one c.requires.player read.bodies.journal)
+    from_one c.requires.player read.bodies.journal)
 
 pub invariant_of-peer : goal.invariant_of-peer
 invariant_of-peer g c =
@@ -57,7 +57,7 @@ invariant_of-peer g c =
     let number = c.in_ok-journal.epoch in
     let begun = begun_there g.D.Disk c.args.disk c.in_ok-log.log.disk rules c.args.room me read.same c.in_ok-journal.journal number
     (subst (λ (me : ℕ). IsBegun g.D.Disk c.in_ok-log.log.disk rules c.args.room me c.in_ok-journal.journal number) own
-        c.in_ok-journal.ensures.begun) in
+    c.in_ok-journal.ensures.begun) in
     let fresh = c.new-memory.ensures ∙ ap (λ (me : ℕ). fresh_memory rules c.args.room me number) own in
     let from_one : 1 ≤ c.args.known.me = subst (λ (me : ℕ). 1 ≤ me) own c.me-me.result.from_one in (
       peer_opened g.D.Disk c.args.disk rules c.args.room me c.in_range.ensures from_one c.requires.player c.ranges.room.fits
@@ -68,9 +68,9 @@ invariant_of-peer g c =
           begun c.new-memory.result fresh
           (checked c.open.new.self) (seen c.over-roll.result) (origin_of c.beginning.result) (last_run_of c.over-roll.result) c.beginning.ensures
           (begins_confirmed g.D.Disk c.args.disk rules c.args.room me c.read_journal.new.known (checked c.read_journal.new.checks)
-              c.in_ok-log.log c.in_ok-log.last (origin_of c.beginning.result) read c.beginning.ensures
+          c.in_ok-log.log c.in_ok-log.last (origin_of c.beginning.result) read c.beginning.ensures
           (c.checkpoints_are_in_order.ensures.checks rules me c.args.room (records_of (bodies_found g.D.Disk c.args.disk))
-              c.in_range.ensures from_one c.requires.player read.bodies.journal))
+          c.in_range.ensures from_one c.requires.player read.bodies.journal))
           c.open.ensures.value c.over-roll.ensures.roll c.over-roll.ensures.ran,
       c.over-roll.ensures.kept,
       λ some. absurd (some c.open.ensures.none),
@@ -85,27 +85,27 @@ returns-clause-opened g c =
     let number = c.in_ok-journal.epoch in
     let begun = begun_there g.D.Disk c.args.disk c.in_ok-log.log.disk rules c.args.room me read.same c.in_ok-journal.journal number
     (subst (λ (me : ℕ). IsBegun g.D.Disk c.in_ok-log.log.disk rules c.args.room me c.in_ok-journal.journal number) own
-        c.in_ok-journal.ensures.begun) in
+    c.in_ok-journal.ensures.begun) in
     let fresh = c.new-memory.ensures ∙ ap (λ (me : ℕ). fresh_memory rules c.args.room me number) own in
     let from_one : 1 ≤ c.args.known.me = subst (λ (me : ℕ). 1 ≤ me) own c.me-me.result.from_one in
     opened_peer g.D.Disk c.args.disk rules c.args.room me c.in_range.ensures from_one c.requires.player c.ranges.room.fits
-        c.read_journal.new.known (checked c.read_journal.new.checks) c.in_ok-log.log c.in_ok-log.last read c.in_ok-journal.journal number
-        begun c.new-memory.result fresh
+    c.read_journal.new.known (checked c.read_journal.new.checks) c.in_ok-log.log c.in_ok-log.last read c.in_ok-journal.journal number
+    begun c.new-memory.result fresh
     (origin_of c.beginning.result) (last_run_of c.over-roll.result) c.beginning.ensures c.over-roll.ensures.ran
     c.is_down-down.ensures.sound
     (same_then g.D.Disk c.args.disk c.in_ok-log.log.disk c.in_ok-journal.journal.disk c.in_ok-log.ensures.same c.in_ok-journal.ensures.same)
     (asks_after g.D.Disk (AllRead g.D.Disk c.args.disk rules c.args.room me) (BeginRun g.D.Disk c.args.disk rules c.args.room me)
-        c.args.disk c.in_ok-log.log.disk c.in_ok-journal.journal.disk (Ok tt) read.asks
+    c.args.disk c.in_ok-log.log.disk c.in_ok-journal.journal.disk (Ok tt) read.asks
     (begin_run g.D.Disk c.args.disk c.in_ok-log.log.disk rules c.args.room me read.same c.in_ok-journal.journal.disk (Ok tt)
-        c.in_ok-log.ensures.same.capacity
+    c.in_ok-log.ensures.same.capacity
     (subst (λ (m : ℕ). Asks g.D.Disk (BeginRun g.D.Disk c.in_ok-log.log.disk rules c.args.room m) (Ok tt) c.in_ok-log.log.disk
-        c.in_ok-journal.journal.disk) own c.in_ok-journal.ensures.asks)))
+    c.in_ok-journal.journal.disk) own c.in_ok-journal.ensures.asks)))
 
 pub returns-clause-any_moment : goal.returns-clause-any_moment
 returns-clause-any_moment g c =
     let mid = c.in_ok-log.log.disk in
     let left = c.in_ok-journal.journal.disk in
     leaves_opening g.D.Disk c.args.disk mid c.args.game.now c.args.room c.args.known.me c.in_ok-log.ensures.read.same g.met.D.Disk.reads_now
-        left c.in_ok-log.ensures.any_moment
+    left c.in_ok-log.ensures.any_moment
     (subst (λ (me : ℕ). LeavesOnly g.D.Disk mid left (BeginningLeaves g.D.Disk mid c.args.game.now c.args.room me)) c.me-me.ensures.value
-        c.in_ok-journal.ensures.any_moment)
+    c.in_ok-journal.ensures.any_moment)

@@ -20,9 +20,9 @@ returns-in-Err-clause-refused g c =
     rw (c.refused_as.ensures, c.close.ensures)
     (refused_reading g.D.Disk g.met.D.Disk.reads_now c.args.disk c.in-Ok.log.disk c.replay.new.log.disk rules c.args.room me c.replay.new.known
     c.in-Ok.ensures.kept c.in-Ok.ensures.repaired (c.in-Ok.ensures.at_rest).durable c.in-Ok.ensures.same c.replay.ensures.reads
-        (value_of c.replay.new.checks) c.in-Err.error
+    (value_of c.replay.new.checks) c.in-Err.error
     (read_run g.D.Disk c.args.disk rules c.args.room me c.in-Ok.log.disk c.replay.new.log.disk (Err c.in-Err.error)
-        (told_by (Err c.in-Err.error)) c.in-Ok.ensures.asks c.in-Ok.ensures.kept c.in-Err.ensures.asks)
+    (told_by (Err c.in-Err.error)) c.in-Ok.ensures.asks c.in-Ok.ensures.kept c.in-Err.ensures.asks)
     c.in-Err.ensures.failed c.in-Err.ensures.replayed)
 
 pub returns-in-Err-Failed-default-clause-refused : goal.returns-in-Err-Failed-default-clause-refused
@@ -31,7 +31,7 @@ returns-in-Err-Failed-default-clause-refused g c = inl (
   search rules,
   open_refused g.D.Disk c.args.disk c.args.game.now c.args.room c.args.known.now.me c.in-Err-Failed-default.disk Failed
       (asks_as g.D.Disk (OpenLog g.D.Disk.lends (g.D.Disk.seen c.args.disk)) c.args.disk c.in-Err-Failed-default.disk _ (Err Failed)
-          (ap (λ (e : LogError). told_by_log {T = Unit {0}} (Err e)) c.in-Err-Failed-default.field-0-0-is)
+      (ap (λ (e : LogError). told_by_log {T = Unit {0}} (Err e)) c.in-Err-Failed-default.field-0-0-is)
       c.in-Err-Failed-default.ensures.asks),
 )
 
@@ -41,7 +41,7 @@ returns-in-Err-Full-default-clause-refused g c = inl (
   search rules,
   open_refused g.D.Disk c.args.disk c.args.game.now c.args.room c.args.known.now.me c.in-Err-Full-default.disk Full
       (asks_as g.D.Disk (OpenLog g.D.Disk.lends (g.D.Disk.seen c.args.disk)) c.args.disk c.in-Err-Full-default.disk _ (Err Full)
-          (ap (λ (e : LogError). told_by_log {T = Unit {0}} (Err e)) c.in-Err-Full-default.field-0-0-is)
+      (ap (λ (e : LogError). told_by_log {T = Unit {0}} (Err e)) c.in-Err-Full-default.field-0-0-is)
       c.in-Err-Full-default.ensures.asks),
 )
 
@@ -59,11 +59,11 @@ returns-in-Ok-replay-clause-read g c = record {
       c.args.disk c.replay.new.log.disk)
       (c.in-Ok-replay.ensures.replayed.2 ∙ ap (λ (bodies : List (List ℕ)). epoch (records_of bodies)) c.in-Ok.ensures.kept)
       (read_run g.D.Disk c.args.disk c.args.game.now c.args.room c.args.known.now.me c.in-Ok.log.disk c.replay.new.log.disk
-          (Ok c.in-Ok-replay.last) (Ok tt) c.in-Ok.ensures.asks c.in-Ok.ensures.kept
+      (Ok c.in-Ok-replay.last) (Ok tt) c.in-Ok.ensures.asks c.in-Ok.ensures.kept
       c.in-Ok-replay.ensures.asks);
 }
 
 pub returns-in-Err-clause-any_moment : goal.returns-in-Err-clause-any_moment
 returns-in-Err-clause-any_moment g c =
     rw c.close.ensures (then_reads g.D.Disk g.met.D.Disk.counts_now c.args.disk c.in-Ok.log.disk c.replay.new.log.disk _
-        c.in-Ok.ensures.any_moment c.replay.ensures.reads)
+    c.in-Ok.ensures.any_moment c.replay.ensures.reads)

@@ -8,5 +8,5 @@ pub returns-then-eq-clause-read : goal.returns-then-eq-clause-read
 returns-then-eq-clause-read g c =
     let came = c.read_waiting.new.self in
     inr (paused_after (typing g.C.Console c.args.self.now) (typing g.C.Console came)
-        (typing g.C.Console (record came { decoder = c.pause.new.self })) (c.read_waiting.ensures.none c.if-read_waiting.false) refl
-        c.pause.ensures.next refl (λ key. refl))
+    (typing g.C.Console (record came { decoder = c.pause.new.self })) (c.read_waiting.ensures.none c.if-read_waiting.false) refl
+    c.pause.ensures.next refl (λ key. refl))

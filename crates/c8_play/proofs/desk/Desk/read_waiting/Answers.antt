@@ -13,8 +13,12 @@ loop-preserved g c =
       bytes = before.bytes ++ bytes;
       came = come_joined before.bytes bytes (typing g.C.Console c.args.self.now) (typing g.C.Console c.loop.self)
           (typing g.C.Console c.take.new.self) before.came
-          (record { typed = ap g.C.Console.typed c.take.ensures.console ∙ c.in-Ok.ensures.typed; read = c.take.ensures.read;
-              hold = c.take.ensures.hold; press = c.take.ensures.press });
+          (record {
+            typed = ap g.C.Console.typed c.take.ensures.console ∙ c.in-Ok.ensures.typed;
+            read = c.take.ensures.read;
+            hold = c.take.ensures.hold;
+            press = c.take.ensures.press;
+          });
       none = λ no. cc no;
       seen = forgets_more c.args.self.now c.loop.self c.take.new.self before.seen c.take.ensures.seen;
       drawn = ap g.C.Console.drawn c.take.ensures.console ∙ c.in-Ok.ensures.drawn ∙ before.drawn;

@@ -34,7 +34,7 @@ returns-clause-fair c =
     let same : c.self.inside.seats ≡ c.args.self.now.members = ap (λ (s : Standing). s.members) c.self.view_is in
     let Sent : List (Sender × Seated) → Address → Type 0 = λ m to. Shares m c.args.from c.args.route to in
     let Paid : List (Sender × Seated) → Type 0 =
-        λ m. IsPaid c.args.now m c.route.new.self (record { address = c.args.from; lane = c.args.route.lane }) in
+    λ m. IsPaid c.args.now m c.route.new.self (record { address = c.args.from; lane = c.args.route.lane }) in
     let Lost : List (Sender × Seated) → Cause → Type 0 = λ m cause. IsLost c.args.now m c.args.from c.args.route cause in
     elim c.match-route.branch [
       | in-Ok w ↦ subst Q (sym w.result-is) (
@@ -42,5 +42,5 @@ returns-clause-fair c =
         subst Paid same (of_ok (λ (_ : Address). Paid c.self.inside.seats) _ w.in-Ok.to c.route.ensures.paid w.in-Ok.is),
       )
       | in-Err w ↦ subst Q (sym w.result-is) (subst (λ m. Lost m w.in-Err.cause) same
-      (of_err (Lost c.self.inside.seats) _ w.in-Err.cause c.route.ensures.lost w.in-Err.is))
+          (of_err (Lost c.self.inside.seats) _ w.in-Err.cause c.route.ensures.lost w.in-Err.is))
     ]

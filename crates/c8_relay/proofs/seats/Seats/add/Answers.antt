@@ -10,8 +10,8 @@ use Rattle.c8_relay.proofs.seats.Seats.add.Goals as goal
 pub invariant_of-self-2 : goal.invariant_of-self-2
 invariant_of-self-2 c =
     let P : Place → Type 0 = λ w. (p : Place)
-        → lookup (same_place p) c.insert-2.new.self.entries
-        ≡ cond (same_place w p) (Some c.args.sender.address) (lookup (same_place p) c.self.inside.places.entries) in
+    → lookup (same_place p) c.insert-2.new.self.entries
+    ≡ cond (same_place w p) (Some c.args.sender.address) (lookup (same_place p) c.self.inside.places.entries) in
     let Q : List (Sender × Seated) → Type 0 = λ members. IsHolder members (place_of c.args.sender c.args.seated) None in
     index_added _ _ _ _ c.args.sender c.args.seated c.self.invariant (subst Q (sym c.self.view_is) c.requires.free)
-        c.in-Ok.ensures.updates.0 (subst P c.place-place.ensures c.in-Ok-insert.ensures.updates.0)
+    c.in-Ok.ensures.updates.0 (subst P c.place-place.ensures c.in-Ok-insert.ensures.updates.0)

@@ -12,8 +12,8 @@ use Rattle.c8_relay.proofs.seats.Seats.route.Goals as goal
 pub returns-clause-shared : goal.returns-clause-shared
 returns-clause-shared c = if_ok _ _ (λ to is.
     let P : Address → Type 0 = λ x. (c.listener-listener.result ≡ Some x)
-        × (c.charge-result.new.self.full_at ≡ max c.in-Some.mine.bucket.full_at c.args.now + 1_000)
-        × Pass c.in-Some.mine.bucket.full_at (c.args.now ∷ []) in
+    × (c.charge-result.new.self.full_at ≡ max c.in-Some.mine.bucket.full_at c.args.now + 1_000)
+    × Pass c.in-Some.mine.bucket.full_at (c.args.now ∷ []) in
     let Q : Address → Type 0 = λ x. Listens c.args.now c.args.self.now x (target c.args.route c.in-Some.mine.name) in
     let paid : P to = of_ok P _ to c.charge-result.ensures.paid is in
     let listens : Q to = of_some Q _ to c.listener-listener.ensures.listens paid.0 in
@@ -29,7 +29,7 @@ returns-clause-served c = λ to served.
 pub returns-clause-lost : goal.returns-clause-lost
 returns-clause-lost c = if_err _ _ (λ cause is.
     let P : Cause → Type 0 = λ it. ((c.listener-listener.result ≡ None) × (it ≡ Nobody))
-        ⊎ ((it ≡ TooFast) × (c.args.now + 128_000 < c.in-Some.mine.bucket.full_at + 1_000)) in
+    ⊎ ((it ≡ TooFast) × (c.args.now + 128_000 < c.in-Some.mine.bucket.full_at + 1_000)) in
     let Q : Cause → Type 0 = IsLost c.args.now c.args.self.now c.args.from c.args.route in
     let sits : c.in-Some.mine.seat ≡ c.args.route.from = search rules in
     elim (of_err P _ cause c.charge-result.ensures.lost is) [

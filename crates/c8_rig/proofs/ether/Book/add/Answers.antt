@@ -15,5 +15,5 @@ invariant_of-self-2 g c =
     let from_one : 1 ≤ player_of note.act = search rules in
     let in_game : player_of note.act ≤ g.B.Room.players = search rules in
     let now = book_with g.B.Room.players LONGEST_DATAGRAM c.self.inside.notes.items _ c.self.inside.said.items _ note more also was.1 was.2
-        was.3 from_one in_game (search rules) (search rules) in
+    was.3 from_one in_game (search rules) (search rules) in
     (search rules, now.0, now.1, now.2)

@@ -5,4 +5,4 @@ use Rattle.c8_rig.proofs.ether.Book.pick.Goals as goal
 pub returns-then-count-eq0-clause-none : goal.returns-then-count-eq0-clause-none
 returns-then-count-eq0-clause-none g c =
     nobody_said c.args.part.player c.self.inside.notes.items c.args.part.notes c.self.inside.said.items (search rules) c.self.invariant.1
-        (search rules)
+    (search rules)

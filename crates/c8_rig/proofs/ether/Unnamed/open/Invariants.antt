@@ -5,5 +5,5 @@ use Rattle.c8_rig.proofs.ether.Unnamed.open.Given as goal
 abbrev pub invariant-loop-number : goal.invariant-loop-number
 invariant-loop-number l =
     (l.keeper ≡ record { ether = l.initial.keeper.ether; players = l.number; log = [] })
-        × (l.initial.keeper.ether ≡ l.tokens-inside.table.shared.table_id) × (l.tokens-inside.table.shared.table_id.words ≡ 1)
+    × (l.initial.keeper.ether ≡ l.tokens-inside.table.shared.table_id) × (l.tokens-inside.table.shared.table_id.words ≡ 1)
     × (l.entries.items ≡ first_entries l.initial.keeper.ether l.number)

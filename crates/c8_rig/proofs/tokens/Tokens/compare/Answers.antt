@@ -3,9 +3,13 @@ use Rattle.c8_rig.proofs.TokenMoves.{joins_as, joined_is, compares_as, parts_as}
 use Rattle.c8_rig.proofs.tokens.Tokens.compare.Goals as goal
 
 pub join_seat-requires : goal.join_seat-requires
-join_seat-requires c =
-    (search rules, search rules, search rules, search rules,
-        joins_as _ c.keeper.inside.seat.me _ c.part.inside.seat.me c.keeper.invariant c.part.invariant)
+join_seat-requires c = (
+  search rules,
+  search rules,
+  search rules,
+  search rules,
+  joins_as _ c.keeper.inside.seat.me _ c.part.inside.seat.me c.keeper.invariant c.part.invariant,
+)
 
 pub load-word-requires : goal.load-word-requires
 load-word-requires c =

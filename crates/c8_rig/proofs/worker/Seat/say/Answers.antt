@@ -8,5 +8,5 @@ returns-in-Ok g c =
     let seat = c.args.self.now in
     noted _ seat.entry seat.peer _ _ c.post.result
     (c.peers_play_on.ensures.says seat.entry seat.peer c.me.result.number c.args.to.number (saying_of c.args.kind)
-        (take c.in-Ok.size c.say.new.out) c.in-Ok.ensures.said)
+    (take c.in-Ok.size c.say.new.out) c.in-Ok.ensures.said)
     c.post.ensures.ok c.post.ensures.err

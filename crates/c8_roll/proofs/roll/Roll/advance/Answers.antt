@@ -6,6 +6,6 @@ use Rattle.c8_roll.proofs.roll.Roll.advance.Goals as goal
 pub returns-clause-ran : goal.returns-clause-ran
 returns-clause-ran c = λ all oldest is.
     let same = one_oldest (rows_run c.args.self.now) c.args.self.now.timeline.first c.args.self.now.timeline.ticks c.args.known.now
-        c.run.result oldest (c.run.ensures.oldest all) is in
+    c.run.result oldest (c.run.ensures.oldest all) is in
     let ran = c.run.ensures.ran in
     omega (arith, same, ran)

@@ -38,7 +38,7 @@ returns-clause-kept c =
     let k = c.args.known.now in
     let begun = c.confirm_all.ensures.run (from_of c) (new_run c.args.game.now (from_of c) k c.new-timeline.result c.new-timeline.ensures) in
     keeps c.args.game.now (from_of c) k c.run_on.new.self (c.run_on.ensures.rules ∙ rules_are c) c.run_on.ensures.is
-        (c.run_on.ensures.run (from_of c) begun) (first_is c) (c.run_on.ensures.ticks (ticks_within c))
+    (c.run_on.ensures.run (from_of c) begun) (first_is c) (c.run_on.ensures.ticks (ticks_within c))
 
 pub returns-clause-ran : goal.returns-clause-ran
 returns-clause-ran c =
@@ -62,7 +62,7 @@ returns-clause-roll c =
     c.read.ensures ∙ ap (λ (marks : List FrameMark). kept (marks ++ from.marks)) c.buffers.invariant.0
     ∙ first_marks c.new-timeline.result.rules from k ∙ ap (λ (n : ℕ). marks_since c.new-timeline.result.rules from k n) (sym new.first) in
     let noted = c.confirm_all.ensures.marks from run (omega (arith, starts, c.requires.confirmed)) first
-        ∙ ap (λ (r : Rules). marks_since r from k (confirmed k)) new.rules in
+    ∙ ap (λ (r : Rules). marks_since r from k (confirmed k)) new.rules in
     let seen = c.run_on.ensures.shown from begun (ticks_within c) ∙ ap (λ (r : Rules). run_since r from (best_rows k)) (rules_are c) in
     rolled rules from k c.run_on.new.self c.confirm_all.new.marks (c.run_on.ensures.rules ∙ rules_are c) (first_is c)
-        (c.run_on.ensures.ticks (ticks_within c)) (c.run_on.ensures.run from begun) seen noted
+    (c.run_on.ensures.ticks (ticks_within c)) (c.run_on.ensures.run from begun) seen noted

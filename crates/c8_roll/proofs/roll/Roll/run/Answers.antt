@@ -53,13 +53,13 @@ returns-clause-oldest c = λ ahead.
     ⊎_elim was.all (λ (full : c.args.self.now.timeline.room ≤ length c.args.self.now.timeline.snapshots). omega (arith, ahead, fits, room, full))
     (cases_lt (length c.args.self.now.timeline.snapshots) c.args.self.now.timeline.room) in
     oldest c.args.self.now.timeline c.go_back-oldest.new.self c.args.known.now c.go_back-oldest.result all c.go_back-oldest.ensures.back
-        c.go_back-oldest.ensures.within
+    c.go_back-oldest.ensures.within
     c.go_back-oldest.ensures.best c.go_back-oldest.ensures.answer c.go_back-oldest.ensures.wrong
 
 pub returns-clause-again : goal.returns-clause-again
 returns-clause-again c = λ from before was keeps all.
     runs_from (value_of c.args.self.now) (rows_run c.args.self.now) before c.args.known.now c.go_back-oldest.result
-        c.run_on.new.self.last_run from was keeps all
+    c.run_on.new.self.last_run from was keeps all
     (returns-clause-oldest c all) (returns-clause-ran c)
 
 pub returns-clause-oldest_or_last : goal.returns-clause-oldest_or_last
@@ -68,7 +68,7 @@ returns-clause-oldest_or_last c = λ lacks.
     let fits = was.fits in
     let room = was.room in
     oldest_or_last c.args.self.now.timeline c.go_back-oldest.new.self c.args.known.now c.go_back-oldest.result
-        (omega (arith, lacks, fits, room)) c.go_back-oldest.ensures.back
+    (omega (arith, lacks, fits, room)) c.go_back-oldest.ensures.back
     c.go_back-oldest.ensures.within c.go_back-oldest.ensures.best c.go_back-oldest.ensures.answer c.go_back-oldest.ensures.wrong
 
 pub returns-clause-ahead : goal.returns-clause-ahead
@@ -92,7 +92,7 @@ begun : (c : After-run_on) (from : Origin) → IsStill c.args.self.now.timeline.
     → IsRunOf from c.args.known.now c.go_back-oldest.new.self
 begun c from still =
     back_of c.args.self.now.timeline.rules from c.args.known.now c.args.self.now.timeline c.go_back-oldest.new.self c.args.self.now.marks
-        refl still c.go_back-oldest.ensures.back
+    refl still c.go_back-oldest.ensures.back
     c.go_back-oldest.ensures.within c.go_back-oldest.ensures.best
 
 sure : (c : After-run_on) (from : Origin) → IsStill c.args.self.now.timeline.rules from c.args.known.now (value_of c.args.self.now)
@@ -120,8 +120,8 @@ returns-clause-grows c = λ from before was known.
     let marks : c.args.self.now.marks ≡ marks_since c.go_back-oldest.new.self.rules from k c.go_back-oldest.new.self.first =
     still.marks ∙ ap (λ (t : TimelineValue). marks_since t.rules from k t.first) (sym c.go_back-oldest.ensures.back) in
     let noted = c.confirm_all.ensures.marks from (begun c from still) (sure c from still) marks
-        ∙ ap (λ (r : Rules). marks_since r from k (confirmed k)) same in
+    ∙ ap (λ (r : Rules). marks_since r from k (confirmed k)) same in
     let seen = c.run_on.ensures.shown from run (ticks_within c) ∙ ap (λ (r : Rules). run_since r from (best_rows k)) (back_rules c) in
     rolled rules from k c.run_on.new.self c.confirm_all.new.marks (c.run_on.ensures.rules ∙ back_rules c)
-        (c.run_on.ensures.first ∙ c.confirm_all.ensures.first (sure c from still))
+    (c.run_on.ensures.first ∙ c.confirm_all.ensures.first (sure c from still))
     (c.run_on.ensures.ticks (ticks_within c)) (c.run_on.ensures.run from run) seen noted

@@ -12,11 +12,14 @@ invariant_of-self c =
     let all = subst IsAll (sym c.self.view_is) c.requires.all in
     elim c.if-kept-gt0.branch [
       | else-kept-gt0 w ↦ rw w.self-inside-is (extended_is _ w.frame.new.self c.self.invariant all
-      (omega (arith, w.if-kept-gt0.false, c.len-kept.ensures.len))).0
+          (omega (arith, w.if-kept-gt0.false, c.len-kept.ensures.len))).0
       | then-kept-gt0 w ↦
           let some : length c.self.inside.snapshots.items ≢ 0 = omega (arith, w.if-kept-gt0.true, c.len-kept.ensures.len) in
-          rw (w.self-inside-is, w.truncate_front.ensures,
-              last_but_one c.self.inside.snapshots.items c.len-kept.result c.len-kept.ensures.len some) (dropped_is _ c.self.invariant all some).0
+          rw (
+            w.self-inside-is,
+            w.truncate_front.ensures,
+            last_but_one c.self.inside.snapshots.items c.len-kept.result c.len-kept.ensures.len some,
+          ) (dropped_is _ c.self.invariant all some).0
     ]
 
 pub returns-clause-run : goal.returns-clause-run
@@ -31,7 +34,10 @@ returns-clause-run c = λ from k run best.
           (best ∙ ap (λ (t : TimelineValue). best_row k t.first) (sym c.self.view_is)) ran)
       | then-kept-gt0 w ↦
           let some : length c.self.inside.snapshots.items ≢ 0 = omega (arith, w.if-kept-gt0.true, c.len-kept.ensures.len) in
-          rw (w.self-inside-is, w.truncate_front.ensures,
-              last_but_one c.self.inside.snapshots.items c.len-kept.result c.len-kept.ensures.len some)
-              (dropped_run from k _ c.self.invariant all some ran)
+          rw (
+            w.self-inside-is,
+            w.truncate_front.ensures,
+            last_but_one c.self.inside.snapshots.items c.len-kept.result c.len-kept.ensures.len some,
+          )
+          (dropped_run from k _ c.self.invariant all some ran)
     ]

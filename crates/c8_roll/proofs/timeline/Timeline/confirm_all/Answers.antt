@@ -20,7 +20,7 @@ loop-frame-preserved c =
     let inv = c.loop-frame.invariant in
     let best = c.best.ensures.value ∙ ap (best_row k) (sym inv.first) in
     let run : (from : Origin) → IsRunOf from k c.args.self.now → IsRunOf from k c.confirm.new.self =
-        λ from run. c.confirm.ensures.run from k (inv.run from run) best in
+    λ from run. c.confirm.ensures.run from k (inv.run from run) best in
     let counted = inv.counted in
     let more = c.confirm.ensures.counted in
     let later = inv.later in
@@ -40,12 +40,12 @@ loop-frame-preserved c =
           let starts = (inv.run from ran).starts in
           let before = inv.marks from ran (omega (arith, sure)) marked in
           let base : state_at c.confirm.new.self 0 ≡ run_since rules from (rows_below k (frame + 1)) =
-              base_is rules from k c.confirm.new.self (frame + 1) (run from ran) (c.confirm.ensures.rules ∙ inv.rules)
-              (c.confirm.ensures.first ∙ ap (λ (n : ℕ). n + 1) inv.first) sure in
+          base_is rules from k c.confirm.new.self (frame + 1) (run from ran) (c.confirm.ensures.rules ∙ inv.rules)
+          (c.confirm.ensures.first ∙ ap (λ (n : ℕ). n + 1) inv.first) sure in
           elim c.if-frame-eq0.branch [
             | then-frame-eq0 w ↦
                 w.marks-is ∙ w.put_of.ensures ∙ ap (λ (marks : List FrameMark). kept
-                    (marks ++ record { frame = frame + 1; mark = mark_of (state w.base.result.now) } ∷ [])) before
+                (marks ++ record { frame = frame + 1; mark = mark_of (state w.base.result.now) } ∷ [])) before
                 ∙ ap (λ (mark : List ℕ). kept (marks_since rules from k frame ++ record { frame = frame + 1; mark = mark } ∷ []))
                 (ap mark_of (w.base.ensures ∙ base))
                 ∙ sym (next_mark c.marks_are_the_last_sixteen.ensures.last rules from k frame (omega (arith, starts, first)) w.if-frame-eq0.true)

@@ -20,4 +20,4 @@ invariant_of-self-2 c =
     let shown : machine_at t place ≡ c.in-Some.snapshot.now.machine = ap (machine_or t.shown) (sym c.get.ensures ∙ ap option_copied c.in-Some.is) in
     let few : place < length t.snapshots = c.in_ok-place.ensures.none.0 in
     rw c.truncate_back.ensures (subst (λ (m : Machine). IsTimeline (record (back_at t place) { shown = m })) shown
-        (back_is t place c.self.invariant (omega (arith, few)) (inl few)))
+    (back_is t place c.self.invariant (omega (arith, few)) (inl few)))

@@ -12,18 +12,18 @@ use Rattle.c8_roll.proofs.timeline.Timeline.run.Goals.{then-len-capacity, else-l
 pub invariant_of-self : goal.invariant_of-self
 invariant_of-self c =
     let went : state c.frame.new.self ≡ frame_of c.if-len-capacity.self-inside.game.now
-        (joined c.if-len-capacity.self-inside.game.now c.args.row) (state c.if-len-capacity.self-inside.shown) =
+    (joined c.if-len-capacity.self-inside.game.now c.args.row) (state c.if-len-capacity.self-inside.shown) =
     c.frame.ensures.function ∙ ap (λ (keys : ℕ). frame_of c.if-len-capacity.self-inside.game.now keys
-        (state c.if-len-capacity.self-inside.shown)) c.joined.ensures in
+    (state c.if-len-capacity.self-inside.shown)) c.joined.ensures in
     elim c.if-len-capacity.branch [
       | then-len-capacity w ↦
           let few : length c.self.inside.snapshots.items < c.self.inside.snapshots.capacity =
-              omega (arith, w.if-len-capacity.true, c.len.ensures.len, c.capacity.ensures) in
+          omega (arith, w.if-len-capacity.true, c.len.ensures.len, c.capacity.ensures) in
           rw (w.self-inside-is, w.push_back-none.ensures.items, all_of_more c.self.inside.snapshots.items _ c.self.inside.snapshots.capacity few)
           (snapped_is _ c.args.row c.frame.new.self c.self.invariant (c.self.invariant.all few) few
           (subst (λ (x : Inside). state c.frame.new.self ≡ frame_of x.game.now (joined x.game.now c.args.row) (state x.shown)) w.self-inside-is went))
       | else-len-capacity w ↦ rw w.self-inside-is
-      (passed_is _ c.frame.new.self c.self.invariant (omega (arith, w.if-len-capacity.false, c.len.ensures.len, c.capacity.ensures)))
+          (passed_is _ c.frame.new.self c.self.invariant (omega (arith, w.if-len-capacity.false, c.len.ensures.len, c.capacity.ensures)))
     ]
 
 pub returns-clause-run : goal.returns-clause-run
@@ -32,12 +32,12 @@ returns-clause-run c = λ from k run best.
     elim c.if-len-capacity.branch [
       | then-len-capacity w ↦
           let few : length c.self.inside.snapshots.items < c.self.inside.snapshots.capacity =
-              omega (arith, w.if-len-capacity.true, c.len.ensures.len, c.capacity.ensures) in
+          omega (arith, w.if-len-capacity.true, c.len.ensures.len, c.capacity.ensures) in
           rw (w.self-inside-is, w.push_back-none.ensures.items, all_of_more c.self.inside.snapshots.items _ c.self.inside.snapshots.capacity few)
           (snapped_run from k _ c.args.row c.frame.new.self (c.self.invariant.all few)
-              (best ∙ ap (λ (t : TimelineValue). best_row k t.ticks) (sym c.self.view_is)) ran)
+          (best ∙ ap (λ (t : TimelineValue). best_row k t.ticks) (sym c.self.view_is)) ran)
       | else-len-capacity w ↦ rw w.self-inside-is
-      (passed_run from k _ c.frame.new.self c.self.invariant (omega (arith, w.if-len-capacity.false, c.len.ensures.len, c.capacity.ensures)) ran)
+          (passed_run from k _ c.frame.new.self c.self.invariant (omega (arith, w.if-len-capacity.false, c.len.ensures.len, c.capacity.ensures)) ran)
     ]
 
 pub returns-clause-is : goal.returns-clause-is

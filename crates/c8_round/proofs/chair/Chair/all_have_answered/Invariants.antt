@@ -8,4 +8,4 @@ use Rattle.c8_round.proofs.chair.Chair.all_have_answered.Given as goal
 abbrev pub invariant-loop-number : goal.invariant-loop-number
 invariant-loop-number l =
     list_all (λ q. not (is_stayer l.known q) || has_answered (count_in l.known l.leaver.number) (report_of l.self l.leaver.number q))
-        (range_with_len 1 (l.number - 1)) ≡ true
+    (range_with_len 1 (l.number - 1)) ≡ true

@@ -22,7 +22,7 @@ parts (one ∷ two ∷ []) d many = absurd (omega arith)
 parts (one ∷ two ∷ three ∷ []) d many = absurd (omega arith)
 parts (verb ∷ one ∷ other ∷ what ∷ more) d many =
     ap (λ rest. saying_in verb.now one.now other.now what.now (map (λ word. word.now) rest))
-        (sym (take_all (length (verb ∷ one ∷ other ∷ what ∷ more) - 4) more (omega arith)))
+    (sym (take_all (length (verb ∷ one ∷ other ∷ what ∷ more) - 4) more (omega arith)))
 
 pub returns-in-len4-up : goal.returns-in-len4-up
 returns-in-len4-up c = c.saying_in.ensures ∙ sym (parts c.args.words.now _ c.in-len4-up.len_at_least)

@@ -19,8 +19,14 @@ returns-in_err-number c =
 pub loop-byte-preserved : goal.loop-byte-preserved
 loop-byte-preserved c = record {
   digits = digits_next c.args.word.now c.loop-byte.byte-index c.loop-byte-test.true c.loop-byte.invariant.digits (search rules);
-  number = omega (arith, c.in_ok-number.ensures, c.in_ok-checked_mul.ensures, c.from.ensures, c.loop-byte.invariant.number,
-      number_next c.args.word.now c.loop-byte.byte-index c.loop-byte-test.true);
+  number = omega (
+    arith,
+    c.in_ok-number.ensures,
+    c.in_ok-checked_mul.ensures,
+    c.from.ensures,
+    c.loop-byte.invariant.number,
+    number_next c.args.word.now c.loop-byte.byte-index c.loop-byte-test.true,
+  );
   fits = omega (arith, c.in_ok-number.ensures);
 }
 
@@ -28,4 +34,4 @@ pub returns : goal.returns
 returns c =
     let whole = take_all c.loop-byte.byte-index c.args.word.now c.loop-byte-test.false in
     sym (its_number c.args.word.now c.loop-byte.number (sym c.if-is_empty.ensures) c.if-word-gt20.false
-        (rw whole at c.loop-byte.invariant.digits) (c.loop-byte.invariant.number ∙ ap decimal_number whole) c.loop-byte.invariant.fits)
+    (rw whole at c.loop-byte.invariant.digits) (c.loop-byte.invariant.number ∙ ap decimal_number whole) c.loop-byte.invariant.fits)

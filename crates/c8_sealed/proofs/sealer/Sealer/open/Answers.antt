@@ -19,7 +19,7 @@ pub returns-in_default-sender_of-clause-taken : goal.returns-in_default-sender_o
 returns-in_default-sender_of-clause-taken c = (
   subst (λ (old : SealerValue). (given : GivenValue) → IsFor old.seal c.args.packet.now given → ⊥) c.self.view_is
       (λ given is. c.in_default-sender_of.ensures given.from
-          (subst (IsAddressed _ _ given.from) (same_datagram _ c.args.packet.now _ _ _ _ is.sealing c.in-Some.ensures) is.addressed)),
+      (subst (IsAddressed _ _ given.from) (same_datagram _ c.args.packet.now _ _ _ _ is.sealing c.in-Some.ensures) is.addressed)),
   refl,
 )
 
@@ -27,12 +27,12 @@ pub returns-in_default-take_from-clause-taken : goal.returns-in_default-take_fro
 returns-in_default-take_from-clause-taken c = (
   subst (λ (old : SealerValue). (given : GivenValue) × IsFor old.seal c.args.packet.now given
       × (IsNew (counters_of given.from old.taken) given.counter → ⊥)) c.self.view_is (
-    record { from = c.in-Some-sender_of.from.number; counter = c.in-Some.opened.counter; datagram = c.in-Some.opened.datagram.now },
-    record { sealing = c.in-Some.ensures; addressed = c.in-Some-sender_of.ensures },
-    λ new. c.in_default-take_from.ensures.taken.0
-        (subst (λ (taken : List ℕ). IsNew taken c.in-Some.opened.counter)
-        (sym (c.self.invariant.seen_are c.in-Some-sender_of.from.number c.in-Some-sender_of.from.from_one c.in-Some-sender_of.from.to_six)) new),
-  ),
+        record { from = c.in-Some-sender_of.from.number; counter = c.in-Some.opened.counter; datagram = c.in-Some.opened.datagram.now },
+        record { sealing = c.in-Some.ensures; addressed = c.in-Some-sender_of.ensures },
+        λ new. c.in_default-take_from.ensures.taken.0
+            (subst (λ (taken : List ℕ). IsNew taken c.in-Some.opened.counter)
+            (sym (c.self.invariant.seen_are c.in-Some-sender_of.from.number c.in-Some-sender_of.from.from_one c.in-Some-sender_of.from.to_six)) new),
+      ),
   c.self.view_is,
 )
 
@@ -54,13 +54,17 @@ returns-clause-taken c =
     let from = c.in-Some-sender_of.from in
     let given : GivenValue = record { from = from.number; counter = c.in-Some.opened.counter; datagram = c.in-Some.opened.datagram.now } in
     subst (λ (old : SealerValue). IsTaking old c.args.packet.now (Ok given)
-        (record { seal = c.self.inside.seal; next = c.self.inside.counters.next; left = c.self.inside.counters.left;
-        taken = c.and-self-inside.result.items }))
+    (record {
+      seal = c.self.inside.seal;
+      next = c.self.inside.counters.next;
+      left = c.self.inside.counters.left;
+      taken = c.and-self-inside.result.items;
+    }))
     c.self.view_is
     (takes (the_view c.self.inside) c.args.packet.now given c.and-self-inside.result.items
     (record { sealing = c.in-Some.ensures; addressed = c.in-Some-sender_of.ensures })
     (subst (λ (taken : List ℕ). IsNew taken c.in-Some.opened.counter) (c.self.invariant.seen_are from.number from.from_one from.to_six)
-        c.in-Some-take_from.ensures.taken.0)
+    c.in-Some-take_from.ensures.taken.0)
     (c.and-self-inside.ensures ∙ ap (λ (g : GivenValue). c.self.inside.taken.items ++ g ∷ []) c.of-given.ensures))
 
 pub returns-clause-newest : goal.returns-clause-newest

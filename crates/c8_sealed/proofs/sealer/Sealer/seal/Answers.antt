@@ -10,8 +10,12 @@ returns-clause-sealed c =
     let some = c.if-self-eq0.false in
     let within = c.self.invariant.within in
     subst (λ (old : SealerValue). HasSealed old c.args.datagram.now c.seal-size.new.out c.seal-size.result
-        (record { seal = c.self.inside.seal; next = c.rest-self-inside.result.next; left = c.rest-self-inside.result.left;
-        taken = c.self.inside.taken.items }))
+    (record {
+      seal = c.self.inside.seal;
+      next = c.rest-self-inside.result.next;
+      left = c.rest-self-inside.result.left;
+      taken = c.self.inside.taken.items;
+    }))
     c.self.view_is
     (record {
       key = c.in-Some.key.now;

@@ -3,9 +3,11 @@ use Rattle.c8_sealed.specs.Counters.{IsNew}
 use Rattle.c8_sealed.proofs.seen.Seen.take.Goals as goal
 
 pub returns-in_default : goal.returns-in_default
-returns-in_default c =
-    (subst (λ (taken : List ℕ). IsNew taken c.args.counter → ⊥) c.self.view_is
-        (c.in_default.ensures.room c.self.inside.taken.items c.self.invariant), c.self.view_is)
+returns-in_default c = (
+  subst (λ (taken : List ℕ). IsNew taken c.args.counter → ⊥) c.self.view_is
+      (c.in_default.ensures.room c.self.inside.taken.items c.self.invariant),
+  c.self.view_is,
+)
 
 pub returns : goal.returns
 returns c = (

@@ -16,8 +16,18 @@ add-requires c =
     let long : length rows ≡ length (show_of c.args.show.now).rows = ap (λ (all : List Row). length all) c.rows-rows.ensures.rows in
     has_room c.loop-place.self c.args.self.now (drop c.loop-place.place rows) (drop first rows) c.loop-place.invariant
     (omega (arith, length-drop c.loop-place.place rows, c.loop-place-test.true, c.len-place-end.ensures.count))
-    (omega (arith, length-drop first rows, held, long, c.loop-place-test.true, c.len-place-end.ensures.count, c.loop-place.auto.place,
-        c.requires.after, c.requires.within, c.start.ensures.value))
+    (omega (
+      arith,
+      length-drop first rows,
+      held,
+      long,
+      c.loop-place-test.true,
+      c.len-place-end.ensures.count,
+      c.loop-place.auto.place,
+      c.requires.after,
+      c.requires.within,
+      c.start.ensures.value,
+    ))
 
 pub loop-place-preserved : goal.loop-place-preserved
 loop-place-preserved c =
@@ -34,4 +44,4 @@ returns-then-first-len-clause-taken c =
     let held : c.len.result ≡ length c.args.self.now.rows = omega (arith, c.len.ensures, viewed) in
     let long : length (shown c.rows-rows.result) ≡ length m.rows = ap (λ (all : List Row). length all) c.rows-rows.ensures.rows in
     sym (taken_some (length c.args.self.now.rows - m.start) m.rows
-        (omega (arith, held, long, c.if-first-len.true, c.len-2.ensures.count, c.start.ensures.value)))
+    (omega (arith, held, long, c.if-first-len.true, c.len-2.ensures.count, c.start.ensures.value)))

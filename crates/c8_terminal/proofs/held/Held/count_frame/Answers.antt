@@ -16,7 +16,7 @@ loop-key-preserved c =
     changed ps i c.after_frame.result after_frame within c.after_frame.ensures in
     let apart : (k : ℕ) → k ≢ i → known (slice_set ps i c.after_frame.result) k ≡ known ps k =
     λ k differs. let no : (i == k) ≡ false = grind (arith, nat_tests, differs) in
-        by k ∙ ap (λ (b : Bool). cond b (after_frame (known ps k)) (known ps k)) no in
+    by k ∙ ap (λ (b : Bool). cond b (after_frame (known ps k)) (known ps k)) no in
     record {
       hold = search rules;
       size = search rules;
@@ -27,7 +27,7 @@ loop-key-preserved c =
             | inr here ↦
                 let same : i ≡ k = omega (arith, here, below) in
                 by k ∙ ap (λ (b : Bool). cond b (after_frame (known ps k)) (known ps k)) (eq-eqb i k same)
-                    ∙ ap after_frame (c.loop-key.invariant.after k (omega (arith, here)))
+                ∙ ap after_frame (c.loop-key.invariant.after k (omega (arith, here)))
           ];
       after = λ k above. apart k (omega (arith, above)) ∙ c.loop-key.invariant.after k (omega (arith, above));
     }

@@ -12,8 +12,8 @@ loop-key-preserved c =
     elim c.if-is_held.branch [
       | then-is_held w ↦
           subst (KeysBelow passes (key + 1)) (sym w.keys-is)
-              (added passes key c.loop-key.keys c.loop-key.invariant c.loop-key-test.true (sym c.is_held.ensures ∙ w.if-is_held.true))
+          (added passes key c.loop-key.keys c.loop-key.invariant c.loop-key-test.true (sym c.is_held.ensures ∙ w.if-is_held.true))
       | else-is_held w ↦
           subst (KeysBelow passes (key + 1)) (sym w.keys-is)
-              (left_out passes key c.loop-key.keys c.loop-key.invariant (sym c.is_held.ensures ∙ w.if-is_held.false))
+          (left_out passes key c.loop-key.keys c.loop-key.invariant (sym c.is_held.ensures ∙ w.if-is_held.false))
     ]

@@ -24,7 +24,7 @@ returns-in-Struck-clause-presses c = λ k below.
     let within : i < length ps = omega (arith, key) in
     let says : noted hold c.args.signal k (known ps k) ≡ cond (i == k) (struck hold (known ps k)) (known ps k) =
     ap (λ (s : Signal). noted hold s k (known ps k)) c.in-Struck.is
-        ∙ ap (λ (j : ℕ). cond (j == k) (struck hold (known ps k)) (known ps k)) (sym c.from-key.ensures) in
+    ∙ ap (λ (j : ℕ). cond (j == k) (struck hold (known ps k)) (known ps k)) (sym c.from-key.ensures) in
     one_key c.args.signal ps hold i k c.struck.result (struck hold) within c.struck.ensures says
 
 pub returns-in-Down-clause-presses : goal.returns-in-Down-clause-presses
@@ -36,7 +36,7 @@ returns-in-Down-clause-presses c = λ k below.
     let within : i < length ps = omega (arith, key) in
     let says : noted hold c.args.signal k (known ps k) ≡ cond (i == k) (pressed (known ps k)) (known ps k) =
     ap (λ (s : Signal). noted hold s k (known ps k)) c.in-Down.is
-        ∙ ap (λ (j : ℕ). cond (j == k) (pressed (known ps k)) (known ps k)) (sym c.from-key-in-Down.ensures) in
+    ∙ ap (λ (j : ℕ). cond (j == k) (pressed (known ps k)) (known ps k)) (sym c.from-key-in-Down.ensures) in
     one_key c.args.signal ps hold i k c.pressed.result (pressed) within c.pressed.ensures says
 
 pub returns-in-Up-clause-presses : goal.returns-in-Up-clause-presses
@@ -48,5 +48,5 @@ returns-in-Up-clause-presses c = λ k below.
     let within : i < length ps = omega (arith, key) in
     let says : noted hold c.args.signal k (known ps k) ≡ cond (i == k) (released (known ps k)) (known ps k) =
     ap (λ (s : Signal). noted hold s k (known ps k)) c.in-Up.is
-        ∙ ap (λ (j : ℕ). cond (j == k) (released (known ps k)) (known ps k)) (sym c.from-key-in-Up.ensures) in
+    ∙ ap (λ (j : ℕ). cond (j == k) (released (known ps k)) (known ps k)) (sym c.from-key-in-Up.ensures) in
     one_key c.args.signal ps hold i k c.released.result (released) within c.released.ensures says

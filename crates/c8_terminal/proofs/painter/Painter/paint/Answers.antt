@@ -14,7 +14,7 @@ loop-y-preserved c =
     let points : Points = points_of c.args.screen.now in
     let y : ℕ = c.loop-y.y in
     let due : c.is_due.result ≡ is_due known points y =
-        c.is_due.ensures ∙ ap (λ (shown : Option Screen). is_due (seen shown) points y) c.loop-y.invariant.shown in
+    c.is_due.ensures ∙ ap (λ (shown : Option Screen). is_due (seen shown) points y) c.loop-y.invariant.shown in
     elim c.if-is_due.branch [
       | then-is_due w ↦ rw w.self-is (record {
         items =

@@ -10,4 +10,4 @@ returns-clause-pending c =
     let own = rw c.me-me.ensures.value at c.inputs.ensures in
     let count = rw c.me-me.ensures.value at c.count-count.ensures.value in
     own ∙ part_is held (acked_of c.args.self.now c.args.player.number) 64 c.count-count.result c.min-from.result c.min-to.result count
-        (rw c.acked.ensures at c.min-from.ensures) c.min-to.ensures
+    (rw c.acked.ensures at c.min-from.ensures) c.min-to.ensures

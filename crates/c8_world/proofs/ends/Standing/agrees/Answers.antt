@@ -10,10 +10,13 @@ returns-then-not-is_same c = (
       let frames = c.loop-frame.invariant.frames in
       let within : c.loop-frame.frame < both (known_at c.args.self.now) (known_at c.args.other.now) = omega (arith, frames) in
       sym c.if-not-is_same.true ∙ c.is_same.ensures.1
-          (c.row.ensures ∙ same_row_of (known_at c.args.self.now) (known_at c.args.other.now) c.loop-frame.frame same within
-          ∙ sym c.row-in-loop-frame.ensures),
+      (c.row.ensures ∙ same_row_of (known_at c.args.self.now) (known_at c.args.other.now) c.loop-frame.frame same within
+      ∙ sym c.row-in-loop-frame.ensures),
 )
 
 pub returns : goal.returns
-returns c = (λ yes. same_rows (known_at c.args.self.now) (known_at c.args.other.now) c.min-frames.result c.loop-frame.invariant.frames
-    (λ frame within. c.loop-frame.invariant.same frame (omega (arith, within))), λ same. refl)
+returns c = (
+  λ yes. same_rows (known_at c.args.self.now) (known_at c.args.other.now) c.min-frames.result c.loop-frame.invariant.frames
+      (λ frame within. c.loop-frame.invariant.same frame (omega (arith, within))),
+  λ same. refl,
+)

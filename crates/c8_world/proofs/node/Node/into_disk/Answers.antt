@@ -13,4 +13,4 @@ returns-in-Held-clause-tells c rules room p s is image left =
     let held = subst (λ (node : Node). IsNode rules room p node s) c.in-Held.is is in
     let now = subst (λ (disk : MemDisk). images_of disk image) c.close.ensures.disk left in
     subst (λ (x : State). (finds : Bool) × Keeps (found x finds) image) held.state_is
-        (c.what_disks_tell.ensures.bodies c.in-Held.peer image c.close.ensures.sound now)
+    (c.what_disks_tell.ensures.bodies c.in-Held.peer image c.close.ensures.sound now)

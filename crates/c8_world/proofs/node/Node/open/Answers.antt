@@ -28,20 +28,24 @@ returns-in-Ok-clause-opened c s plays is journals =
     let peer = c.in-Ok.peer in
     let now = found_now s disk (c.into_disk-disk.ensures.tells rules room p s is) in
     let read : records_of (kept (bytes_of disk)) ≡ found s now.0 =
-        ap records_of now.1 ∙ c.bodies_are_the_spellings.ensures.records rules p room (found s now.0) (journals now.0) in
+    ap records_of now.1 ∙ c.bodies_are_the_spellings.ensures.records rules p room (found s now.0) (journals now.0) in
     let shut : s.mode ≢ Open = λ up. both_ways c.is_up.result c.if-is_up.false ((c.is_up.ensures rules room p s is).1 up) in
     let is_opened = c.in-Ok.ensures.opened in
     let deed = c.openings_are_deeds.ensures.opened disk rules room p s now.0 peer is_opened shut read in
     let same = subst (λ (journal : List Record). stepped (Opened (Ok (epoch peer.state.journal))) peer
-        ≡ opened rules room p s journal Stands) read (is_opened.opening s) in
+    ≡ opened rules room p s journal Stands) read (is_opened.opening s) in
     record {
       not_open = shut;
       finds = now.0;
       opening = Stands;
       may = deed.may.1;
       replies = sym (ap (λ (t : Stepped). t.reply) same) ∙ ap (λ (n : ℕ). Opened (Ok n)) (sym c.epoch-epoch.ensures);
-      node_is = record { rules_are = is_opened.rules_are; room_is = is_opened.room_is; me_is = is_opened.me_is;
-          state_is = ap (λ (t : Stepped). t.state) same };
+      node_is = record {
+        rules_are = is_opened.rules_are;
+        room_is = is_opened.room_is;
+        me_is = is_opened.me_is;
+        state_is = ap (λ (t : Stepped). t.state) same;
+      };
     }
 
 pub returns-in-Err-clause-opened : goal.returns-in-Err-clause-opened
@@ -53,10 +57,10 @@ returns-in-Err-clause-opened c s plays is journals =
     let tells = c.into_disk-disk.ensures.tells rules room p s is in
     let now = found_now s disk tells in
     let read : records_of (kept (bytes_of disk)) ≡ found s now.0 =
-        ap records_of now.1 ∙ c.bodies_are_the_spellings.ensures.records rules p room (found s now.0) (journals now.0) in
+    ap records_of now.1 ∙ c.bodies_are_the_spellings.ensures.records rules p room (found s now.0) (journals now.0) in
     let shut : s.mode ≢ Open = λ up. both_ways c.is_up.result c.if-is_up.false ((c.is_up.ensures rules room p s is).1 up) in
     let refused = c.openings_are_deeds.ensures.refused disk c.in-Err.disk rules room p s now.0 c.in-Err.error c.in-Err.ensures.refused shut
-        now.1 read tells in
+    now.1 read tells in
     let replies = ap (λ (a : After). reply_in a.answer) refused.deed.is in
     record {
       not_open = shut;
@@ -68,19 +72,21 @@ returns-in-Err-clause-opened c s plays is journals =
     }
 
 pub returns-in-Ok-clause-turn : goal.returns-in-Ok-clause-turn
-returns-in-Ok-clause-turn c =
-    (subst (λ (disk : MemDisk). IsOpened ghosts disk c.args.game.now c.args.room c.args.player.number c.in-Ok.peer)
-        c.into_disk-disk.ensures.disk c.in-Ok.ensures.opened, c.epoch-epoch.ensures)
+returns-in-Ok-clause-turn c = (
+  subst (λ (disk : MemDisk). IsOpened ghosts disk c.args.game.now c.args.room c.args.player.number c.in-Ok.peer)
+      c.into_disk-disk.ensures.disk c.in-Ok.ensures.opened,
+  c.epoch-epoch.ensures,
+)
 
 pub returns-in-Err-clause-turn : goal.returns-in-Err-clause-turn
 returns-in-Err-clause-turn c =
     subst (λ (disk : MemDisk). IsRefusedOpening ghosts disk c.args.game.now c.args.room c.args.player.number c.in-Err.error c.in-Err.disk)
-        c.into_disk-disk.ensures.disk c.in-Err.ensures.refused
+    c.into_disk-disk.ensures.disk c.in-Err.ensures.refused
 
 pub returns-in-Err-clause-spared : goal.returns-in-Err-clause-spared
 returns-in-Err-clause-spared c memory =
     let is : c.in-Err.error ≡ opens.Memory = cc in
     let left = opening_spared ghosts c.into_disk-disk.result c.in-Err.disk c.args.game.now c.args.room c.args.player.number
-        (subst (λ (e : OpenError). IsRefusedOpening ghosts c.into_disk-disk.result c.args.game.now c.args.room c.args.player.number e
-        c.in-Err.disk) is c.in-Err.ensures.refused) in
+    (subst (λ (e : OpenError). IsRefusedOpening ghosts c.into_disk-disk.result c.args.game.now c.args.room c.args.player.number e
+    c.in-Err.disk) is c.in-Err.ensures.refused) in
     inr (ap nodes.Away (left ∙ c.into_disk-disk.ensures.disk))

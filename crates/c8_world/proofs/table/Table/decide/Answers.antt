@@ -9,6 +9,6 @@ pub returns-clause-happened : goal.returns-clause-happened
 returns-clause-happened c =
     let plays : IsPlayer c.self.inside.game.now 1 = record { from_one = omega arith; in_game = omega arith } in
     asked_happens _ c.args.self.now c.place.result 1 c.in-Some.node c.decide.new.self c.index_mut.result.now (Decide c.args.leaver.number)
-        (states.Decide c.args.leaver.number) c.decide.result
+    (states.Decide c.args.leaver.number) c.decide.result
     c.self.view_is (decide_call c.args.leaver.number c.self.inside.game.now c.self.inside.room) c.place.ensures.next (omega arith) plays
-        c.index_mut.ensures.value c.in-Some.is c.decide.ensures.asked
+    c.index_mut.ensures.value c.in-Some.is c.decide.ensures.asked

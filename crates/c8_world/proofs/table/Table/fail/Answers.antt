@@ -16,7 +16,7 @@ returns-clause-happened c =
     with_ok _ _ c.act-result.result
     (λ answer happens w holds. happened_till old acted new w (Do (act_of c.args.act)) answer
     (happened_from old armed acted w (Do (act_of c.args.act)) answer c.arm.ensures.same (happens w (c.arm.ensures.armed.holds w holds)))
-        c.arm-2.ensures.armed.holds)
+    c.arm-2.ensures.armed.holds)
     c.act-result.ensures.happened
 
 pub returns-clause-memory : goal.returns-clause-memory
@@ -27,7 +27,7 @@ returns-clause-memory c =
     let new = c.arm-2.new.self in
     with_err _ _ c.act-result.result
     (λ refused lacks w holds. unhappened_from old armed acted new w (act_of c.args.act) c.arm.ensures.same
-        (lacks w (c.arm.ensures.armed.holds w holds)) c.arm-2.ensures.armed.holds)
+    (lacks w (c.arm.ensures.armed.holds w holds)) c.arm-2.ensures.armed.holds)
     c.act-result.ensures.memory
 
 pub returns-clause-disks : goal.returns-clause-disks
@@ -38,5 +38,5 @@ returns-clause-disks c =
     let new = c.arm-2.new.self in
     are_armed_round old armed acted new _ (arms.Once c.args.calls) arms.Off c.arm.ensures.same c.act-result.ensures.same
     (subst (λ (p : ℕ). AreArmed (for_player p (arms.Once c.args.calls ∷ [])) old armed) c.seat-player.ensures c.arm.ensures.disks)
-        c.act-result.ensures.disks
+    c.act-result.ensures.disks
     (subst (λ (p : ℕ). AreArmed (for_player p (arms.Off ∷ [])) acted new) c.seat-player.ensures c.arm-2.ensures.disks)

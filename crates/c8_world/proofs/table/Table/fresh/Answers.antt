@@ -7,11 +7,11 @@ pub returns-then-watcher-eq5-clause-happened : goal.returns-then-watcher-eq5-cla
 returns-then-watcher-eq5-clause-happened c =
     let n = c.args.watcher.number in
     fresh_five _ c.args.self.now n c.begin_again.new.self (sits n c.args.watcher.from_five c.args.watcher.to_six) (omega arith)
-        c.self.view_is (ap (λ (v : WatchValue). v.rows) c.begin_again.ensures)
+    c.self.view_is (ap (λ (v : WatchValue). v.rows) c.begin_again.ensures)
 
 pub returns-else-watcher-eq5-clause-happened : goal.returns-else-watcher-eq5-clause-happened
 returns-else-watcher-eq5-clause-happened c =
     let n = c.args.watcher.number in
     fresh_six _ c.args.self.now n c.begin_again-else-watcher-eq5.new.self (sits n c.args.watcher.from_five c.args.watcher.to_six)
-        (omega arith) c.self.view_is
+    (omega arith) c.self.view_is
     (ap (λ (v : WatchValue). v.rows) c.begin_again-else-watcher-eq5.ensures)

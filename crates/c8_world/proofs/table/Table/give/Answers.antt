@@ -15,9 +15,9 @@ pub returns-clause-happened : goal.returns-clause-happened
 returns-clause-happened c =
     let plays : IsPlayer c.self.inside.game.now c.args.player.number = record { from_one = omega arith; in_game = omega arith } in
     given_happens _ c.args.self.now c.args.number c.place.result c.args.player.number c.in-Some.bytes.now c.in-Some-index_mut.node
-        c.deliver.new.self c.index_mut.result.now c.deliver.result
+    c.deliver.new.self c.index_mut.result.now c.deliver.result
     c.self.view_is c.in-Some.ensures
     (λ w holds packet n at. c.what_is_spelled_is_read.ensures.read (spelling packet) packet
     (c.what_was_said_is_true.ensures.spelled c.self.inside.game.now c.self.inside.room w packet c.in_range.ensures (omega arith)
-        holds.reached (n, at)))
+    holds.reached (n, at)))
     c.place.ensures.next (omega arith) plays c.index_mut.ensures.value c.in-Some-index_mut.is c.deliver.ensures.asked

@@ -12,6 +12,6 @@ returns-clause-happened c =
     let size = c.seen-length.result in
     let spells = subst (λ (v : WatchValue). Spells (take size bytes) (seen v)) c.watcher.ensures c.seen-length.ensures.spelled in
     seen_happens _ c.args.self.now n c.len-number.result size bytes c.push.new.self (sits n c.args.watcher.from_five c.args.watcher.to_six)
-        c.self.view_is c.len-number.ensures c.in_ok-push.ensures.ok
+    c.self.view_is c.len-number.ensures c.in_ok-push.ensures.ok
     (subst (λ (t : TableValue). Spells (take size bytes) (seen (watch_in t n))) (sym c.self.view_is) spells)
-        (omega (arith, c.seen-length.ensures.length, c.seen-length.array_long))
+    (omega (arith, c.seen-length.ensures.length, c.seen-length.array_long))

@@ -9,7 +9,7 @@ returns c =
     let same : c.self.inside.game.now.players ≡ c.args.self.now.rules.players = ap (λ (t : TableValue). t.rules.players) c.self.view_is in
     let plays : IsPlayer c.self.inside.game.now c.args.player.number = record { from_one = omega arith; in_game = omega (arith, same) } in
     standing_at _ c.args.self.now c.place.result c.args.player.number c.index.result.now c.in-Some.node c.standing.result c.self.view_is
-        c.place.ensures.next (omega (arith, same)) plays c.index.ensures c.in-Some.is
+    c.place.ensures.next (omega (arith, same)) plays c.index.ensures c.in-Some.is
     (λ w holds finds. c.openings_find_journals.ensures.journals c.self.inside.game.now c.self.inside.room w c.args.player.number finds
-        c.in_range.ensures (omega arith) holds.reached plays)
+    c.in_range.ensures (omega arith) holds.reached plays)
     c.standing.ensures

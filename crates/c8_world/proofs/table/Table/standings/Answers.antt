@@ -12,8 +12,8 @@ loop-number-preserved c = record {
   room = omega arith;
   known = λ w holds.
       standings_more c.args.self.now w c.loop-number.standings.items c.push_reserved.new.self.items c.in_ok-standing.standing
-          c.loop-number.number (omega arith) c.push_reserved.ensures.items
+      c.loop-number.number (omega arith) c.push_reserved.ensures.items
       (c.loop-number.invariant.known w holds)
       (subst (λ (p : ℕ). IsStanding c.args.self.now.rules p (peer_of w p) (node_of c.args.self.now p) c.in_ok-standing.standing)
-          c.player_of-player.ensures (c.in_ok-standing.ensures w holds));
+      c.player_of-player.ensures (c.in_ok-standing.ensures w holds));
 }

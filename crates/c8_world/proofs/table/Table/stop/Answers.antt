@@ -12,11 +12,11 @@ pub returns-in-Ok-clause-happened : goal.returns-in-Ok-clause-happened
 returns-in-Ok-clause-happened c w holds =
     let armed = c.arm.ensures.armed.holds w holds in
     let crashes = subst (λ (p : ℕ). (v : World) → Holds c.act.new.self v → HasCrashed c.act.new.self v p c.crash.new.self)
-        c.seat-player.ensures c.crash.ensures.crashed.crashed in
+    c.seat-player.ensures c.crash.ensures.crashed.crashed in
     happened_from c.args.self.now c.arm.new.self c.crash.new.self w (Stop (act_of c.args.act) c.args.calls c.args.pick) answers.Stopped
-        c.arm.ensures.same
+    c.arm.ensures.same
     (stop_happens c.arm.new.self c.act.new.self c.crash.new.self w (act_of c.args.act) c.args.calls c.args.pick c.in-Ok.field-0 armed
-        c.act.ensures.same c.crash.ensures.same
+    c.act.ensures.same c.crash.ensures.same
     (c.in-Ok.ensures.happened w armed) crashes)
 
 pub returns-in-Err-clause-memory : goal.returns-in-Err-clause-memory

@@ -9,13 +9,13 @@ pub returns-then-player-players-clause-happened : goal.returns-then-player-playe
 returns-then-player-players-clause-happened c =
     let fits : c.args.keys.0 < 2 ^ 16 = omega arith in
     absent_happens _ c.args.self.now c.args.player.number (Tick c.args.player.number c.args.keys.0) (states.Tick c.args.keys.0)
-        c.self.view_is (tick_call c.args.player.number c.args.keys.0 fits c.self.inside.game.now c.self.inside.room) (omega arith)
+    c.self.view_is (tick_call c.args.player.number c.args.keys.0 fits c.self.inside.game.now c.self.inside.room) (omega arith)
 
 pub returns-clause-happened : goal.returns-clause-happened
 returns-clause-happened c =
     let fits : c.args.keys.0 < 2 ^ 16 = omega arith in
     let plays : IsPlayer c.self.inside.game.now c.args.player.number = record { from_one = omega arith; in_game = omega arith } in
     asked_happens _ c.args.self.now c.place.result c.args.player.number c.in-Some.node c.tick.new.self c.index_mut.result.now
-        (Tick c.args.player.number c.args.keys.0) (states.Tick c.args.keys.0) c.tick.result
+    (Tick c.args.player.number c.args.keys.0) (states.Tick c.args.keys.0) c.tick.result
     c.self.view_is (tick_call c.args.player.number c.args.keys.0 fits c.self.inside.game.now c.self.inside.room) c.place.ensures.next
-        (omega arith) plays c.index_mut.ensures.value c.in-Some.is c.tick.ensures.asked
+    (omega arith) plays c.index_mut.ensures.value c.in-Some.is c.tick.ensures.asked

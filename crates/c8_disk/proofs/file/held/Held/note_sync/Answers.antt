@@ -18,17 +18,17 @@ pub returns-clause-durable : goal.returns-clause-durable
 returns-clause-durable c image left =
     let h = c.args.self.now in
     only_synced h.first.value.items h.calls.items image
-        (subst (λ (l : List Call). IsImage h.first.value.items l image) c.and-self.ensures left) ∙ sym h.replayed
+    (subst (λ (l : List Call). IsImage h.first.value.items l image) c.and-self.ensures left) ∙ sym h.replayed
 
 pub returns-clause-crash : goal.returns-clause-crash
 returns-clause-crash c image left =
     let h = c.args.self.now in
     sync_adds_none h.first.value.items h.calls.items h.lawful image
-        (subst (λ (l : List Call). IsImage h.first.value.items l image) c.and-self.ensures left)
+    (subst (λ (l : List Call). IsImage h.first.value.items l image) c.and-self.ensures left)
 
 pub returns-clause-time : goal.returns-clause-time
 returns-clause-time c =
     let first = c.args.self.now.first.value.items in
     let calls = c.args.self.now.calls.items in
     subst (λ (l : List Call). Elapses (length calls) (length l) (LeftSince first calls) (LeftSince first l) (IsImage first l))
-        (sym c.and-self.ensures) (elapses_push first calls Sync)
+    (sym c.and-self.ensures) (elapses_push first calls Sync)

@@ -9,9 +9,9 @@ pub invariant_of-self-clause-lawful : goal.invariant_of-self-clause-lawful
 invariant_of-self-clause-lawful c =
     let h = c.args.self.now in
     let within : c.args.at ≤ length (content h.first.value.items h.calls.items) =
-        subst (λ (l : List ℕ). c.args.at ≤ length l) h.replayed c.requires.place in
+    subst (λ (l : List ℕ). c.args.at ≤ length l) h.replayed c.requires.place in
     ap (are_lawful h.first.value.items) c.and-self.ensures
-        ∙ lawful_write h.first.value.items h.calls.items c.args.at c.args.bytes.now c.write_call.result c.write_call.ensures h.lawful within
+    ∙ lawful_write h.first.value.items h.calls.items c.args.at c.args.bytes.now c.write_call.result c.write_call.ensures h.lawful within
 
 pub invariant_of-self-clause-replayed : goal.invariant_of-self-clause-replayed
 invariant_of-self-clause-replayed c =
@@ -24,11 +24,11 @@ pub returns-clause-crash : goal.returns-clause-crash
 returns-clause-crash c image left =
     let h = c.args.self.now in
     tears_write h.first.value.items h.calls.items c.args.at c.args.bytes.now c.write_call.result c.write_call.ensures image
-        (subst (λ (l : List Call). IsImage h.first.value.items l image) c.and-self.ensures left)
+    (subst (λ (l : List Call). IsImage h.first.value.items l image) c.and-self.ensures left)
 
 pub returns-clause-time : goal.returns-clause-time
 returns-clause-time c =
     let first = c.args.self.now.first.value.items in
     let calls = c.args.self.now.calls.items in
     subst (λ (l : List Call). Elapses (length calls) (length l) (LeftSince first calls) (LeftSince first l) (IsImage first l))
-        (sym c.and-self.ensures) (elapses_push first calls c.write_call.result)
+    (sym c.and-self.ensures) (elapses_push first calls c.write_call.result)

@@ -16,9 +16,9 @@ returns-then-eq c =
     let value : c.in-Some.value.now ≡ value_in c.args.line.now = c.in-Some.ensures.value in
     let coded : bytes_eq (name_in c.args.line.now) (codes "code") ≡ true =
     ap (λ n. bytes_eq n (codes "code")) (sym name) ∙ ap (λ word. bytes_eq c.in-Some.name.now word) (sym c.as_slice.ensures)
-        ∙ sym c.eq.ensures ∙ c.if-eq.true in
+    ∙ sym c.eq.ensures ∙ c.if-eq.true in
     coded_line c.args.self.now c.add_code.new.self c.args.line.now c.add_code.result said c.in-Some.ensures.some coded
-        (rw value at c.add_code.ensures.code) (rw value at c.add_code.ensures.program) c.add_code.ensures.values
+    (rw value at c.add_code.ensures.code) (rw value at c.add_code.ensures.program) c.add_code.ensures.values
     (rw value at c.add_code.ensures.fault)
 
 pub returns-in-Some-named : goal.returns-in-Some-named
@@ -28,7 +28,7 @@ returns-in-Some-named c =
     let value : c.in-Some.value.now ≡ value_in c.args.line.now = c.in-Some.ensures.value in
     let uncoded : bytes_eq (name_in c.args.line.now) (codes "code") ≡ false =
     ap (λ n. bytes_eq n (codes "code")) (sym name) ∙ ap (λ word. bytes_eq c.in-Some.name.now word) (sym c.as_slice.ensures)
-        ∙ sym c.eq.ensures ∙ c.if-eq.false in
+    ∙ sym c.eq.ensures ∙ c.if-eq.false in
     named_line c.args.self.now c.add_field.new.self c.args.line.now c.in-Some-named.field c.add_field.result (omega arith) said
-        c.in-Some.ensures.some uncoded (ap field_named (sym name) ∙ sym c.named.ensures ∙ c.in-Some-named.is)
+    c.in-Some.ensures.some uncoded (ap field_named (sym name) ∙ sym c.named.ensures ∙ c.in-Some-named.is)
     (rw value at c.add_field.ensures.fault) (rw value at c.add_field.ensures.values) c.add_field.ensures.program

@@ -4,8 +4,9 @@ use Rattle.std.proofs.lemmas.Bool.{eqb-true}
 use Rattle.c8_game.specs.declared.text.field.Field.TheVariants.{Players, Ipf, Frames, Delay, Window, Seed, Wire}
 use Rattle.c8_game.specs.Rules.{most_program}
 use Rattle.c8_game.proofs.DraftLemmas.{first_same, four_same, some_bytes, finds_missing, finds_range, finds_none}
-use Rattle.c8_game.proofs.text.draft.Draft.finish.Goals.{then-lacks-via-then-lacks, then-lacks-via-else-lacks+then-is_empty,
-  then-len-gt-MOST_PROGRAM-via-then-len-gt-MOST_PROGRAM, then-len-gt-MOST_PROGRAM-via-else-len-gt-MOST_PROGRAM+then-strays}
+use Rattle.c8_game.proofs.text.draft.Draft.finish.Goals.{then-lacks-via-then-lacks, then-lacks-via-else-lacks+then-is_empty}
+use Rattle.c8_game.proofs.text.draft.Draft.finish.Goals.{then-len-gt-MOST_PROGRAM-via-then-len-gt-MOST_PROGRAM}
+use Rattle.c8_game.proofs.text.draft.Draft.finish.Goals.{then-len-gt-MOST_PROGRAM-via-else-len-gt-MOST_PROGRAM+then-strays}
 use Rattle.c8_game.proofs.text.draft.Draft.finish.Goals as goal
 
 pub returns-then-lacks : goal.returns-then-lacks
@@ -14,7 +15,7 @@ returns-then-lacks c =
     (elim c.then-lacks.branch [
       | then-lacks-via-then-lacks w ↦ inl w.if-lacks.true
       | then-lacks-via-else-lacks+then-is_empty w ↦ let empty =
-      eqb-true (vec_len c.args.self.program) 0 (sym w.is_empty.ensures ∙ w.if-is_empty.true) in inr (omega (arith, c.args.self.program.ok.0))
+          eqb-true (vec_len c.args.self.program) 0 (sym w.is_empty.ensures ∙ w.if-is_empty.true) in inr (omega (arith, c.args.self.program.ok.0))
     ])
 
 pub returns-then-len-gt-MOST_PROGRAM : goal.returns-then-len-gt-MOST_PROGRAM
@@ -25,11 +26,11 @@ returns-then-len-gt-MOST_PROGRAM c =
     (elim c.then-len-gt-MOST_PROGRAM.branch [
       | then-len-gt-MOST_PROGRAM-via-then-len-gt-MOST_PROGRAM w ↦
           finds_range c.args.self items c.told-players.result c.lacks.result c.lacks.result holds c.told-players.ensures.value
-              c.lacks.ensures c.if-lacks.false some
+          c.lacks.ensures c.if-lacks.false some
           (inl (omega (arith, w.if-len-gt-MOST_PROGRAM.true, c.len.ensures, c.args.self.program.ok.0)))
       | then-len-gt-MOST_PROGRAM-via-else-len-gt-MOST_PROGRAM+then-strays w ↦
           finds_range c.args.self items c.told-players.result c.lacks.result w.strays.result holds c.told-players.ensures.value
-              c.lacks.ensures c.if-lacks.false some (inr (w.strays.ensures, w.if-strays.true))
+          c.lacks.ensures c.if-lacks.false some (inr (w.strays.ensures, w.if-strays.true))
     ])
 
 pub returns : goal.returns
@@ -38,7 +39,7 @@ returns c =
     let full = some_bytes (vec_len c.args.self.program) (sym c.is_empty.ensures ∙ c.if-is_empty.false) in
     let some : 0 < length c.args.self.program.items = omega (arith, c.args.self.program.ok.0) in
     let fits : length c.args.self.program.items ≤ most_program =
-        omega (arith, c.if-len-gt-MOST_PROGRAM.false, c.len.ensures, c.args.self.program.ok.0) in (
+    omega (arith, c.if-len-gt-MOST_PROGRAM.false, c.len.ensures, c.args.self.program.ok.0) in (
       finds_none c.args.self items c.told-players.result c.lacks.result c.strays.result holds c.told-players.ensures.value c.lacks.ensures
           c.if-lacks.false some fits c.strays.ensures c.if-strays.false,
       record {
