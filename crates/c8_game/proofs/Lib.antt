@@ -1,3 +1,4 @@
+-- A text spells one game, which `read` gives, or is refused for its first fault; begin with TextLaws.
 pub mod LineLemmas
 pub mod ByteLemmas
 pub mod FieldLemmas

@@ -1,3 +1,4 @@
+-- No acknowledged body is lost: a crash inside an append leaves the others, with the new one or without.
 mod Asked
 mod Blocks
 mod Crash

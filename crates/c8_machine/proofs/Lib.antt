@@ -1,3 +1,4 @@
+-- A machine has one frame for the keys that are down, and each of its parts keeps its range.
 pub mod KeyLemmas
 pub mod ChainLemmas
 pub mod MemoryLemmas

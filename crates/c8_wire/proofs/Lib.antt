@@ -1,3 +1,4 @@
+-- Bytes are read as the one packet that they spell, or refused by the table; begin with PacketLemmas.
 pub mod TableLemmas
 pub mod HeadLemmas
 pub mod RunLemmas

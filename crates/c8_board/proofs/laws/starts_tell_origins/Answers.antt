@@ -1,3 +1,4 @@
+-- The machine reads back from its bytes, so a start gives back the whole origin.
 use Rattle.c8_board.proofs.laws.starts_tell_origins.Goals as goal
 
 pub returns : goal.returns

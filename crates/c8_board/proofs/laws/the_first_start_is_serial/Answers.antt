@@ -1,3 +1,4 @@
+-- The first machine reads back from the start's bytes, so rows from there run serially.
 use Rattle.std.proofs.Common.{ap, fold}
 use Rattle.c8_game.specs.Rules.{joined}
 use Rattle.c8_machine.specs.State.{State, first_state}

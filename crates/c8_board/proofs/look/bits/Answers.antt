@@ -1,3 +1,4 @@
+-- The first five bytes of a machine's mark, as a number, are the first 40 bits of its digest.
 use Rattle.std.proofs.Common.{rules, ◌∙◌}
 use Rattle.c8_machine.specs.State.{state}
 use Rattle.c8_board.proofs.WordLemmas.{bits_are}

@@ -1,3 +1,4 @@
+-- The parts after the memory are appended one by one, in the order of a state's bytes.
 use Rattle.std.proofs.Common.{List, ℕ, [], ◌∷◌, ◌++◌, length, refl, ap, ◌∙◌}
 use Rattle.std.specs.List.{flat_map}
 use Rattle.std.specs.Int.{to_be_bytes, w16}

@@ -1,3 +1,4 @@
+-- The memory's 4096 bytes are what a state has at the addresses from 0 on.
 use Rattle.std.proofs.Common.{List, ℕ, ◌++◌, refl, sym, ap, ◌∙◌}
 use Rattle.std.specs.Prelude.{slice_index}
 use Rattle.c8_digest.proofs.StateLemmas.{memory_is}

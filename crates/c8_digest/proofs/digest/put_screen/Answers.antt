@@ -1,3 +1,4 @@
+-- The bytes of a row of the screen are those of the number that its columns spell.
 use Rattle.std.proofs.Common.{List, ℕ, ◌++◌, ap, ◌∙◌, length, arith}
 use Rattle.std.specs.List.{flat_map, range_with_len}
 use Rattle.std.specs.Int.{to_be_bytes, w64}

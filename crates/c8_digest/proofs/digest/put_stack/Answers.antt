@@ -1,3 +1,4 @@
+-- The next place of the stack is appended: its return address, or 0 if it is not in use.
 use Rattle.std.proofs.Common.{length, ap, arith}
 use Rattle.c8_digest.proofs.StackLemmas.{stack_more}
 use Rattle.c8_digest.proofs.digest.put_stack.Goals as goal

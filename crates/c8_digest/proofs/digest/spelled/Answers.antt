@@ -1,3 +1,4 @@
+-- The bytes of a state are its memory and then the parts after it.
 use Rattle.std.proofs.Common.{List, ℕ, ◌++◌, map, sym, ap, ◌∙◌}
 use Rattle.std.specs.Prelude.{slice_index}
 use Rattle.std.specs.List.{range_with_len}

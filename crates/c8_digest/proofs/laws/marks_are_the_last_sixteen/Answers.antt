@@ -1,3 +1,4 @@
+-- At most sixteen marks are kept, and the newest of those that were put is the last.
 use Rattle.c8_digest.proofs.MarkLemmas.{few, newest}
 use Rattle.c8_digest.proofs.laws.marks_are_the_last_sixteen.Goals as goal
 

@@ -1,3 +1,4 @@
+-- Each part is the number or the bytes at its place, and the screen is lit where its rows have a bit.
 use Rattle.std.proofs.Common.{refl, ap, ◌∙◌}
 use Rattle.std.specs.Int.{from_be_bytes, w16, w64}
 use Rattle.c8_digest.proofs.ReadLemmas.{screen_read}

@@ -1,3 +1,4 @@
+-- Place `k` of the stack is read from its two bytes, and the places before it stay.
 use Rattle.std.proofs.Common.{ap, ◌∙◌, arith}
 use Rattle.std.proofs.lemmas.List.{length-set}
 use Rattle.std.specs.Int.{from_be_bytes, w16}

@@ -1,3 +1,4 @@
+-- The first `k` places of the stack are those in the bytes.
 use Rattle.std.proofs.Common.{◌≡◌, ℕ, ◌<◌, length}
 use Rattle.std.specs.Prelude.{slice_index}
 use Rattle.c8_digest.specs.Reading.{place_at}

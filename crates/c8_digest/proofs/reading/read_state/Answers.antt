@@ -1,3 +1,4 @@
+-- Bytes that some machine's state has give that state, so bytes that are refused are those of none.
 use Rattle.std.proofs.Common.{sym, ap, ◌∙◌, arith}
 use Rattle.std.proofs.lemmas.Bool.{both_ways}
 use Rattle.std.specs.Cmp.Lexicographic.{bytes_decides}

@@ -1,3 +1,4 @@
+-- Row `y` of the screen is read from its eight bytes, and the rows above it stay.
 use Rattle.std.proofs.Common.{ap, ◌∙◌, arith}
 use Rattle.std.proofs.lemmas.List.{length-set}
 use Rattle.std.specs.Int.{from_be_bytes, w64}

@@ -1,3 +1,4 @@
+-- The first `y` rows of the screen are those in the bytes.
 use Rattle.std.proofs.Common.{◌≡◌, ℕ, ◌<◌, length}
 use Rattle.std.specs.Prelude.{slice_index}
 use Rattle.c8_digest.specs.Reading.{row_at}

@@ -1,3 +1,4 @@
+-- Each byte that is written widens the torn range by one; to stop early counts as torn over the whole range.
 use Rattle.std.proofs.Common.{length, arith}
 use Rattle.c8_disk.specs.checked.TornLaws.{torn_wider}
 use Rattle.c8_disk.proofs.Tear.{torn_more}

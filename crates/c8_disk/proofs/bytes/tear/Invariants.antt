@@ -1,3 +1,4 @@
+-- The bytes so far are the first ones after a torn write of `i` bytes.
 use Rattle.std.proofs.Common.{◌+◌, ◌≤◌, vec_len, vec_capacity}
 use Rattle.c8_disk.specs.Disk.{Torn}
 use Rattle.c8_disk.proofs.bytes.tear.Given as goal

@@ -1,3 +1,4 @@
+-- With a sync all calls up to it are synced; with a write no more than before.
 use Rattle.std.proofs.Common.{◌∙◌, sym}
 use Rattle.c8_disk.proofs.Calls.{passed_write, passed_sync}
 use Rattle.c8_disk.proofs.call.count_synced.Goals as goal

@@ -1,3 +1,4 @@
+-- The calls that are left make of the bytes so far what all calls make of the first bytes.
 use Rattle.std.proofs.Common.{◌≡◌, ◌≤◌, drop, true, vec_capacity}
 use Rattle.c8_disk.specs.Past.{content, are_lawful, fit}
 use Rattle.c8_disk.proofs.call.replay.Given as goal

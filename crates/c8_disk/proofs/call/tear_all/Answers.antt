@@ -1,3 +1,4 @@
+-- One more call, torn, and then those left, torn, are the calls left before, torn.
 use Rattle.std.proofs.Common.{◌≡◌, ◌+◌, ◌∷◌, [], List, drop, get_or, vec_capacity, refl, sym, ◌∙◌, ap, subst, arith}
 use Rattle.c8_disk.specs.Past.{fit, TornBy}
 use Rattle.c8_disk.specs.declared.call.Call.{Call}

@@ -1,3 +1,4 @@
+-- What the calls left may make of the bytes, if a crash tears them, all calls may make of the first bytes.
 use Rattle.std.proofs.Common.{◌≡◌, ◌≤◌, List, ℕ, drop, true, vec_capacity}
 use Rattle.c8_disk.specs.Past.{fit, TornBy}
 use Rattle.c8_disk.proofs.call.tear_all.Given as goal

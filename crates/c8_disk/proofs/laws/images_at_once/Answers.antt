@@ -1,3 +1,4 @@
+-- Call by call or at once, the images are the same: any bytes where a write since the last sync was.
 use Rattle.c8_disk.specs.checked.AtOnceLaws.{between, each_between}
 use Rattle.c8_disk.proofs.laws.images_at_once.Goals as goal
 

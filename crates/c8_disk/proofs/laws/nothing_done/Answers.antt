@@ -1,3 +1,4 @@
+-- From the present moment on, a crash can only have left what it may leave now.
 use Rattle.c8_disk.specs.checked.RunLaws.{nothing_done}
 use Rattle.c8_disk.proofs.laws.nothing_done.Goals as goal
 

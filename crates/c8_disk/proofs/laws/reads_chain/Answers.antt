@@ -1,3 +1,4 @@
+-- A run that only reads adds no image, so it may follow any run, and another such run.
 use Rattle.c8_disk.specs.checked.RunLaws.{reads_then, then_reads}
 use Rattle.c8_disk.proofs.laws.reads_chain.Goals as goal
 

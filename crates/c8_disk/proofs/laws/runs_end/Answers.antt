@@ -1,3 +1,4 @@
+-- What a read gives after a run, and what a crash leaves after it, are images of the run.
 use Rattle.c8_disk.specs.checked.RunLaws.{at_the_end}
 use Rattle.c8_disk.proofs.laws.runs_end.Goals as goal
 

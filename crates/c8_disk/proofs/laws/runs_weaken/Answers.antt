@@ -1,3 +1,4 @@
+-- Each image of a run has what follows from a property that all of them have.
 use Rattle.c8_disk.specs.checked.RunLaws.{weaker}
 use Rattle.c8_disk.proofs.laws.runs_weaken.Goals as goal
 

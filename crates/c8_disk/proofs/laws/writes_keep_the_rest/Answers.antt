@@ -1,3 +1,4 @@
+-- A whole write changes nothing outside its range and counts as torn; so does no write at all.
 use Rattle.c8_disk.specs.checked.TornLaws.{overwritten_is, untouched}
 use Rattle.c8_disk.proofs.laws.writes_keep_the_rest.Goals as goal
 

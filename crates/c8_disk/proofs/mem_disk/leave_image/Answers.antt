@@ -1,3 +1,4 @@
+-- What a read gives, what was last synced, and this with the later writes torn are images no longer than a read's.
 use Rattle.std.proofs.Common.{◌≡◌, ◌≤◌, List, ℕ, length, take, drop, vec_capacity, true, sym, ◌∙◌, ap, subst, arith}
 use Rattle.c8_disk.specs.Past.{content, synced, synced_count, are_lawful, fit, IsImage, TornBy}
 use Rattle.c8_disk.specs.checked.PastLaws.{reads_image, image_within}

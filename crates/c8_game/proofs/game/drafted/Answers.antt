@@ -1,3 +1,4 @@
+-- Each line is one more that the draft holds, or it is the first with a fault.
 use Rattle.std.proofs.Common.{ap, ◌∙◌, arith}
 use Rattle.std.specs.Str.Lines.{lines}
 use Rattle.c8_game.specs.Lines.{lines_left}

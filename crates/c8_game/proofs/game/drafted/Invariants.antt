@@ -1,3 +1,4 @@
+-- The draft says what the lines before `place` say, and these have no fault.
 use Rattle.std.specs.Str.Lines.{lines}
 use Rattle.c8_game.specs.Lines.{lines_left}
 use Rattle.c8_game.proofs.ReadLemmas.{HasRead}

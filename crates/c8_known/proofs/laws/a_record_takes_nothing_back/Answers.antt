@@ -1,3 +1,4 @@
+-- Each kind of record only adds to what is known, as long as no inputs follow a cut.
 use Rattle.c8_known.specs.checked.KnownLaws.{own_still, got_still, freeze_still, leave_still, cut_still}
 use Rattle.c8_known.proofs.laws.a_record_takes_nothing_back.Goals as goal
 

@@ -1,3 +1,4 @@
+-- Settled inputs keep their values, so confirmed frames keep their rows and only more are confirmed.
 use Rattle.c8_known.specs.checked.ConfirmedLaws.{input_stays, confirmed_rises, row_stays, rows_stay}
 use Rattle.c8_known.specs.Known.{player_in}
 use Rattle.c8_known.proofs.laws.confirmed_rows_stay.Goals as goal

@@ -1,3 +1,4 @@
+-- What an empty journal makes known is sound, and each record that a call of `Known` adds keeps it so.
 use Rattle.c8_known.specs.checked.KnownLaws.{cut_known, freeze_known, got_known, leave_known, own_known}
 use Rattle.c8_known.specs.checked.StartLaws.{known_at_start}
 use Rattle.c8_known.proofs.laws.what_is_known_stays_sound.Goals as goal

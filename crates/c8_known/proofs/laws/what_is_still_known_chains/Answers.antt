@@ -1,3 +1,4 @@
+-- What is still known after one step and after the next is still known after both.
 use Rattle.c8_known.specs.checked.KnownLaws.{still_same, still_more}
 use Rattle.c8_known.proofs.laws.what_is_still_known_chains.Goals as goal
 

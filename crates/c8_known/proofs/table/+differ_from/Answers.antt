@@ -1,3 +1,4 @@
+-- Where the run ends, no input is left that could differ.
 use Rattle.std.proofs.Common.{sym, ap, ◌∙◌}
 use Rattle.c8_known.specs.Fresh.{differ}
 use Rattle.c8_known.proofs.ListLemmas.{differ_none}

@@ -1,3 +1,4 @@
+-- Each input that is compared leaves fewer held ones.
 use Rattle.std.proofs.Common.{length}
 use Rattle.c8_known.proofs.table.+differ_from.Given as goal
 

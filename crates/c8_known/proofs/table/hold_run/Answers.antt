@@ -1,3 +1,4 @@
+-- Each input of the run has reserved room, and at the end all of the run is held.
 use Rattle.std.proofs.Common.{◌++◌, ◌∷◌, [], List, ℕ, length, sym, ap, ◌∙◌, append_assoc, length-append, arith}
 use Rattle.std.proofs.lemmas.List.{append-nil}
 use Rattle.c8_wire.specs.Lent.{words, words_left}

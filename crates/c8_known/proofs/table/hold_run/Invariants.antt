@@ -1,3 +1,4 @@
+-- The held inputs with those left of the run are the old ones with the whole run, and no room is lost.
 use Rattle.std.proofs.Common.{◌≡◌, ◌≤◌, ◌++◌, vec_capacity}
 use Rattle.c8_wire.specs.Lent.{words, words_left}
 use Rattle.c8_known.proofs.table.hold_run.Given as goal

@@ -1,3 +1,4 @@
+-- With one more player the least reach is the lesser of the least so far and this player's.
 use Rattle.std.proofs.Common.{ℕ, map, min, take, sym, ap, ◌∙◌}
 use Rattle.c8_known.specs.Tables.{table_value, least_of}
 use Rattle.c8_known.proofs.ReachLemmas.{least_more}

@@ -1,3 +1,4 @@
+-- The body stands behind a closed gate until its own opens, so a crash keeps the others, with it or without.
 use Rattle.std.proofs.Common.{◌≡◌, inl, inr, ◌+◌, ◌*◌, ◌++◌, [], ◌∷◌, ℕ, List, length, Ok, Err, OnOk, IsErrOf, rules, ap, ◌∙◌, subst, arith}
 use Rattle.std.proofs.Common.{length-append}
 use Rattle.c8_disk.specs.Disk.{overwritten, Only, Torn}

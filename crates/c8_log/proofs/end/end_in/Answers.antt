@@ -1,3 +1,4 @@
+-- One read gives the block, and its bytes tell where its kept slots end.
 use Rattle.std.proofs.Common.{◌≡◌, ◌-◌, min, ℕ, length, take, drop, Ok, Err, rules, ap, ◌∙◌}
 use Rattle.std.proofs.lemmas.Result.{err_from_is_err_and}
 use Rattle.c8_disk.specs.checked.AsksLaws.{asks_read}

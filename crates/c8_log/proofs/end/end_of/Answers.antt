@@ -1,3 +1,4 @@
+-- The gate after the kept slots is closed if it is among the bytes and is not the open one.
 use Rattle.std.proofs.Common.{◌*◌, ◌&&◌, ◌==◌, not, Bool, length, slice_index, sym, ap, ◌∙◌, arith}
 use Rattle.std.proofs.lemmas.Bool.{lt-ltb, le-ltb}
 use Rattle.c8_log.specs.Log.{has_closed_gate_at}

@@ -1,3 +1,4 @@
+-- A disk that lends its bytes needs no read for the end; any other needs those of `read_end`.
 use Rattle.std.proofs.Common.{◌≡◌, Bool, true, false, Ok, sym, ap, ◌∙◌, subst}
 use Rattle.std.specs.Prelude.{is_some}
 use Rattle.c8_disk.specs.Asks.{Asks, Reads, answer_of}

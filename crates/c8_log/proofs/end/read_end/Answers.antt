@@ -1,3 +1,4 @@
+-- The first block that is not wholly open has the end, so reads stop there; without one all slots are kept.
 use Rattle.std.proofs.Common.{◌≡◌, ◌<◌, ◌≤◌, ◌+◌, ◌*◌, ℕ, List, length, Ok, Err, ◌∙◌, ap, subst, rules, arith}
 use Rattle.std.proofs.lemmas.Result.{err_from_is_err_and}
 use Rattle.c8_disk.specs.checked.RunLaws.{reads_then}

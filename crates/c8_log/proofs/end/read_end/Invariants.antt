@@ -1,3 +1,4 @@
+-- All slots of the blocks read so far are open, and each block took one read.
 use Rattle.std.proofs.Common.{◌≡◌, ◌*◌, Ok}
 use Rattle.c8_disk.specs.Runs.{ReadsOnly}
 use Rattle.c8_disk.specs.Asks.{Asks, Reads}

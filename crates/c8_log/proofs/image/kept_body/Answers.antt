@@ -1,3 +1,4 @@
+-- A slot before the first that is not open is whole, and its body is kept under its number.
 use Rattle.std.proofs.Common.{Some, sym, ◌∙◌, ap, arith}
 use Rattle.c8_log.proofs.Kept.{front_of, kept_at, whole}
 use Rattle.c8_log.proofs.Repair.{length_of_kept}

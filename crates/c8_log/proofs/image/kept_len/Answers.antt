@@ -1,3 +1,4 @@
+-- The first slot that is not open ends the kept ones, or else the last whole slot does.
 use Rattle.std.proofs.Common.{◌/◌, length, sym, ◌∙◌, arith}
 use Rattle.c8_log.specs.Slots.{kept_count}
 use Rattle.c8_log.proofs.Kept.{front_of, front_unique, shut_by_end}

@@ -1,3 +1,4 @@
+-- An append's images keep the bodies before it, which are one of the lists, or these with the new one.
 use Rattle.c8_log.specs.Slots.{kept}
 use Rattle.c8_log.proofs.Lists.{one_list_more}
 use Rattle.c8_log.proofs.laws.appends_add_one_list.Goals as goal

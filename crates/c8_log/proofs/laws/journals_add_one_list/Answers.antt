@@ -1,3 +1,4 @@
+-- All images keep the journal's bodies, so these are one of the lists, and an append adds one more.
 use Rattle.std.proofs.Common.{Contains, subst}
 use Rattle.c8_log.proofs.Lists.{one_list_more}
 use Rattle.c8_log.proofs.laws.journals_add_one_list.Goals as goal

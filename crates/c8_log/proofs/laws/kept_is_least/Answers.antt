@@ -1,3 +1,4 @@
+-- The first slot that is not open tells how many bodies are kept, so no other list of bodies is.
 use Rattle.c8_log.proofs.Kept.{kept_is, only_kept}
 use Rattle.c8_log.proofs.laws.kept_is_least.Goals as goal
 

@@ -1,3 +1,4 @@
+-- An opening or a read leaves only bodies that an image before it kept.
 use Rattle.std.proofs.Common.{⊎_elim, Contains, sym, subst}
 use Rattle.c8_log.proofs.laws.openings_and_reads_add_no_list.Goals as goal
 

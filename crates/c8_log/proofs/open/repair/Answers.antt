@@ -1,3 +1,4 @@
+-- A gate that is not closed is written after the kept slots, and even torn it changes no kept body.
 use Rattle.std.proofs.Common.{◌≡◌, [], ◌∷◌, ⊎_elim, ℕ, ◌*◌, ◌≤◌, List, length, inl, inr, refl, sym, ◌∙◌, ap, subst, arith}
 use Rattle.std.proofs.lemmas.Bool.{true≢false, cond-false}
 use Rattle.c8_disk.specs.Disk.{overwritten, Torn}

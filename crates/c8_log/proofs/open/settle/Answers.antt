@@ -1,3 +1,4 @@
+-- After the sync the disk has one image, so the search and the repair leave no bodies that are new.
 use Rattle.std.proofs.Common.{◌∙◌, ℕ, List, Ok, Err, ap, subst, arith}
 use Rattle.c8_log.specs.Log.{has_closed_gate}
 use Rattle.c8_log.proofs.Disks.{settles}

@@ -1,3 +1,4 @@
+-- A refused write is the only disk call; else the sync is the other, and gives the answer.
 use Rattle.std.proofs.Common.{Ok, Err, refl}
 use Rattle.std.proofs.lemmas.Result.{err_from_is_err_and}
 use Rattle.c8_disk.specs.Asks.{Write, Sync}

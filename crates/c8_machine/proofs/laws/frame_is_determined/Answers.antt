@@ -1,3 +1,4 @@
+-- `frame_of` is a frame of the machine, and each frame of it with these keys is that one.
 use Rattle.c8_machine.proofs.FrameLemmas.{is_frame, frame_once}
 use Rattle.c8_machine.proofs.laws.frame_is_determined.Goals as goal
 

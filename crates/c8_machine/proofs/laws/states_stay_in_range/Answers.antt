@@ -1,3 +1,4 @@
+-- The first machine is in range and each frame keeps it there, so a serial run does.
 use Rattle.c8_machine.proofs.StateLemmas.{first_in, frame_of_in, serial_in}
 use Rattle.c8_machine.proofs.laws.states_stay_in_range.Goals as goal
 

@@ -1,3 +1,4 @@
+-- Patterns and program have places of their own, so memory has both, and 0 elsewhere.
 use Rattle.c8_machine.proofs.MemoryLemmas.{first_memory_is}
 use Rattle.c8_machine.proofs.start.first_memory.Goals as goal
 

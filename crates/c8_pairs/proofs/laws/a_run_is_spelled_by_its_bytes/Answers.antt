@@ -1,3 +1,4 @@
+-- Bytes that pass as a run of `count` inputs are the spelling of these inputs, each of 16 bits.
 use Rattle.c8_pairs.specs.checked.PairLaws.{run_is_spelled, sets_of}
 use Rattle.c8_pairs.proofs.laws.a_run_is_spelled_by_its_bytes.Goals as goal
 

@@ -1,3 +1,4 @@
+-- The pairs of inputs stand for these inputs again, so runs with the same spelling are the same.
 use Rattle.std.proofs.Common.{ap, sym, ◌∙◌}
 use Rattle.c8_pairs.specs.Pairs.{words_in}
 use Rattle.c8_pairs.specs.Reading.{pairs_at}

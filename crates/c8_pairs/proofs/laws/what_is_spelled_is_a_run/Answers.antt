@@ -1,3 +1,4 @@
+-- What is written of a run reads back: its bytes hold its pairs, and these pass as a run of its length.
 use Rattle.c8_pairs.specs.checked.PairLaws.{pairs_at-spelling, spelling_is_run}
 use Rattle.c8_pairs.proofs.laws.what_is_spelled_is_a_run.Goals as goal
 

@@ -1,3 +1,4 @@
+-- To pass a pair that ends by the place changes no input from there on, and the pairs left begin 3 bytes later.
 use Rattle.std.proofs.Common.{◌≡◌, ◌≤◌, ◌<◌, ◌+◌, ◌*◌, ◌^◌, ℕ, List, get_or, drop, ap, sym, subst, ◌∙◌, arith}
 use Rattle.std.proofs.lemmas.List.{drop-drop}
 use Rattle.c8_pairs.specs.declared.pair.Pair.{Pair}

@@ -1,3 +1,4 @@
+-- Each pair that is passed leaves fewer bytes, so the walk to a place ends.
 use Rattle.std.proofs.Common.{length}
 use Rattle.c8_pairs.proofs.run.+begun_at.Given as goal
 

@@ -1,3 +1,4 @@
+-- Where a stretch ends, the inputs end or another key set follows, which begins a pair of its own.
 use Rattle.std.proofs.Common.{arith}
 use Rattle.c8_pairs.specs.checked.PairLaws.{well_nothing, apart_here}
 use Rattle.c8_pairs.proofs.stretches.+same_in_front.Goals as goal

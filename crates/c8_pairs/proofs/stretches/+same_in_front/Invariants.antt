@@ -1,3 +1,4 @@
+-- Each input of the stretch leaves fewer inputs to compare.
 use Rattle.std.proofs.Common.{length}
 use Rattle.c8_pairs.proofs.stretches.+same_in_front.Given as goal
 

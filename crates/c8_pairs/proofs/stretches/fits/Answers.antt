@@ -1,3 +1,4 @@
+-- The pairs that `room_for` counts are those of the inputs, so as many fit as 42 pairs can hold.
 use Rattle.std.proofs.Common.{take, arith}
 use Rattle.c8_pairs.specs.checked.PairLaws.{count_pairs}
 use Rattle.c8_pairs.proofs.stretches.fits.Goals as goal

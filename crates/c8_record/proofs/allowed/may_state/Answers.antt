@@ -1,3 +1,4 @@
+-- The words of a run are bytes, so a STATE of the own player may follow exactly if its piece comes next.
 use Rattle.std.proofs.Common.{rules}
 use Rattle.c8_wire.specs.Lent.{words}
 use Rattle.c8_record.specs.checked.CheckLaws.{words_low}

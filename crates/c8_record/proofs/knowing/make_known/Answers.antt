@@ -1,3 +1,4 @@
+-- A CUT makes known what its inputs and then the end of its player's list make known.
 use Rattle.std.proofs.Common.{[], ◌∙◌, sym, ap, subst, rules}
 use Rattle.c8_known.specs.Journal.{Cut}
 use Rattle.c8_known.specs.Known.{KnownValue, with_record, Plays}

@@ -1,3 +1,4 @@
+-- A record with a spelling reads back from its 143 bytes, and they spell no other record.
 use Rattle.std.proofs.Common.{sym}
 use Rattle.c8_record.specs.checked.BodyLaws.{length_body, read_again, reads_back}
 use Rattle.c8_record.proofs.laws.a_spelling_reads_back.Goals as goal

@@ -1,3 +1,4 @@
+-- A journal's bodies and its records tell each other: the bodies spell the records and read back as them.
 use Rattle.c8_record.specs.checked.BodyLaws.{bodies_back}
 use Rattle.c8_record.specs.checked.RefusalLaws.{journal_back, journal_bodies}
 use Rattle.c8_record.proofs.laws.bodies_are_the_spellings.Goals as goal

@@ -1,3 +1,4 @@
+-- Each checkpoint of a journal, and where its peer's machine begins, is at a confirmed frame and can occur.
 use Rattle.c8_record.specs.checked.CheckLaws.{checks_in_order, begun_confirmed, begun_in_order}
 use Rattle.c8_record.proofs.laws.checkpoints_are_in_order.Goals as goal
 

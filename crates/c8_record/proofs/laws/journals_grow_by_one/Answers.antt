@@ -1,3 +1,4 @@
+-- A journal grows by one allowed record at a time, and says then what it said before and this record.
 use Rattle.c8_record.specs.checked.JournalLaws.{checks_more, journal_none, journal_more, next_allowed, journal_begins, known_more}
 use Rattle.c8_record.proofs.laws.journals_grow_by_one.Goals as goal
 

@@ -1,3 +1,4 @@
+-- An allowed record keeps what is known sound and takes nothing back, so confirmed rows only grow.
 use Rattle.c8_known.specs.checked.ConfirmedLaws.{rows_stay}
 use Rattle.c8_known.specs.Known.{known_of}
 use Rattle.std.proofs.Common.{◌++◌}

@@ -1,3 +1,4 @@
+-- A body whose player, count of inputs or kind is out of range spells no record.
 use Rattle.std.proofs.Common.{arith, ⊎_elim}
 use Rattle.c8_record.specs.checked.BodyLaws.{shaped}
 use Rattle.c8_record.proofs.reading.read.Goals as goal

@@ -1,3 +1,4 @@
+-- A body that spells a record spells the one that `read` finds, so a body that fails a test spells none.
 use Rattle.std.proofs.Common.{rules}
 use Rattle.c8_record.specs.checked.BodyLaws.{complete, spells_lent}
 use Rattle.c8_record.proofs.reading.view.Goals as goal

@@ -1,3 +1,4 @@
+-- After an EPOCH the last epoch is the one that it begins.
 use Rattle.std.proofs.Common.{rules}
 use Rattle.c8_record.proofs.replaying.epoch_after.Goals as goal
 

@@ -1,3 +1,4 @@
+-- Each block has the next bodies; a refused body or a failed read ends the replay with what came before taken.
 use Rattle.std.proofs.Common.{◌≡◌, ◌∙◌, ◌+◌, ◌*◌, ◌/◌, min, ℕ, List, length, Ok, Err, refl, sym, ap, subst, rules, arith}
 use Rattle.std.proofs.lemmas.Result.{err_from_is_err_and}
 use Rattle.c8_disk.specs.checked.RunLaws.{reads_then}

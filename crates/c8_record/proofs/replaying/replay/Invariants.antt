@@ -1,3 +1,4 @@
+-- The bodies of the blocks read so far are taken, and the disk gave one read for each block and wrote nothing.
 use Rattle.std.proofs.Common.{◌≡◌, ◌*◌, min, length, Ok, false}
 use Rattle.c8_disk.specs.Runs.{ReadsOnly}
 use Rattle.c8_disk.specs.Asks.{Asks, Reads}

@@ -1,3 +1,4 @@
+-- The first `n` bodies of the bytes are taken, of as many as the bytes keep.
 use Rattle.std.proofs.Common.{◌≡◌, length}
 use Rattle.c8_log.specs.Slots.{kept}
 use Rattle.c8_check.specs.Seen.{value_of as value_in}

@@ -1,3 +1,4 @@
+-- A body is taken as the record that it spells, or refused for what this record is refused for.
 use Rattle.std.proofs.Common.{◌≡◌, ◌∙◌, sym, ap, subst, rules}
 use Rattle.std.proofs.lemmas.Result.{err_from_is_err_and}
 use Rattle.c8_known.specs.Journal.{Record}

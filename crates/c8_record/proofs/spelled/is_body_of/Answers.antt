@@ -1,3 +1,4 @@
+-- A body with the fields of a complete STATE or CHECK spells it: the words of its run are two bytes each.
 use Rattle.std.proofs.Common.{◌≡◌, ◌%◌, length, rules, arith}
 use Rattle.c8_wire.specs.Lent.{words}
 use Rattle.c8_wire.specs.Spelling.{words_bytes}

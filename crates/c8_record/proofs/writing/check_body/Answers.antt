@@ -1,3 +1,4 @@
+-- What is written of a CHECK spells it if its digest has four words: its other fields are in range.
 use Rattle.c8_wire.specs.Lent.{words}
 use Rattle.c8_record.specs.Body.{body_of}
 use Rattle.c8_record.specs.checked.BodyLaws.{check_spells}

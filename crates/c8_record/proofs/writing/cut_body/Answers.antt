@@ -1,3 +1,4 @@
+-- What is written of a CUT spells it: its numbers have 32 bits and its run has at most 64 inputs.
 use Rattle.c8_wire.specs.Lent.{words}
 use Rattle.c8_record.specs.Body.{body_of}
 use Rattle.c8_record.specs.checked.BodyLaws.{cut_spells}

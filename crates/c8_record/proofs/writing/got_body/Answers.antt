@@ -1,3 +1,4 @@
+-- What is written of a GOT spells it if it has an input.
 use Rattle.c8_wire.specs.Lent.{words}
 use Rattle.c8_record.specs.Body.{body_of}
 use Rattle.c8_record.specs.checked.BodyLaws.{got_spells}

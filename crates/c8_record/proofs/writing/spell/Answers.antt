@@ -1,3 +1,4 @@
+-- Head and run replace the first bytes of an empty body, and the zeros behind them stay.
 use Rattle.std.proofs.Common.{refl, length, ℕ}
 use Rattle.std.proofs.lemmas.List.{drop-replicate}
 use Rattle.c8_record.proofs.writing.spell.Goals as goal

@@ -1,3 +1,4 @@
+-- Two bytes are written for each input and zeros stay behind, as for a run of wire version 1.
 use Rattle.std.proofs.Common.{◌≡◌, ℕ, ◌-◌, ◌*◌, ◌/◌, List, ◌∷◌, ◌++◌, length, drop, replicate, ap, ◌∙◌, arith}
 use Rattle.std.proofs.lemmas.List.{drop-replicate}
 use Rattle.byteorder.specs.Endian.{big_bytes}

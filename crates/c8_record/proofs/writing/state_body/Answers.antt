@@ -1,3 +1,4 @@
+-- What is written of a STATE spells it: the bytes of its run are whole words.
 use Rattle.c8_wire.specs.Lent.{words}
 use Rattle.c8_record.specs.Body.{body_of}
 use Rattle.c8_record.specs.checked.BodyLaws.{state_spells}

@@ -1,3 +1,4 @@
+-- When all rows are drawn that the screen has room for, just the points of the clipped sprite are flipped.
 use Rattle.std.proofs.Common.{◌%◌, arith}
 use Rattle.std.proofs.Math.Facts.{Fits-lt-pow}
 use Rattle.c8_screen.proofs.DrawLemmas.{points_drawn, meets_drawn}

@@ -1,3 +1,4 @@
+-- The first `k` rows of the sprite are flipped, and `met` says whether one of their points was lit.
 use Rattle.c8_screen.proofs.DrawLemmas.{IsDrawn}
 use Rattle.c8_screen.proofs.Screen.draw.Given as goal
 

@@ -1,3 +1,4 @@
+-- Rows of zeros have no lit point.
 use Rattle.c8_screen.proofs.PointLemmas.{points_of-dark}
 use Rattle.c8_screen.proofs.Screen.new.Goals as goal
 

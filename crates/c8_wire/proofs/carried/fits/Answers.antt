@@ -1,3 +1,4 @@
+-- The first 64 inputs, or in version 2 what 42 pairs hold of them, are the longest prefix that fits.
 use Rattle.std.proofs.Common.{ap, sym, ◌∙◌, arith}
 use Rattle.c8_game.specs.declared.wire.WireVersion.{WireVersion}
 use Rattle.c8_wire.specs.Carried.{fits_in}

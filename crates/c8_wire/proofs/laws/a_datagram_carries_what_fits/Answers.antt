@@ -1,3 +1,4 @@
+-- A datagram carries the longest prefix that fits, and one input always fits.
 use Rattle.c8_wire.specs.checked.CarriedLaws.{carried_few, carried_room, carried_most, some_carried, carried_words}
 use Rattle.c8_wire.proofs.laws.a_datagram_carries_what_fits.Goals as goal
 

@@ -1,3 +1,4 @@
+-- No refusal applies to the spelling of a packet, and the packet reads back from it.
 use Rattle.c8_wire.proofs.PacketLemmas.{again}
 use Rattle.c8_wire.proofs.ReadLemmas.{read_spelled}
 use Rattle.c8_wire.proofs.laws.what_is_spelled_is_read.Goals as goal

@@ -1,3 +1,4 @@
+-- Key sets and their bytes, two of each, tell each other; c8_record needs it for its runs.
 use Rattle.c8_wire.specs.checked.WordLaws.{words_of-spelled, spelled_words, length-spelled_words}
 use Rattle.c8_wire.proofs.laws.words_are_their_bytes.Goals as goal
 

@@ -1,3 +1,4 @@
+-- Bytes that nothing refuses have the size, the leaver and the run of their kind, so a datagram may borrow them.
 use Rattle.std.proofs.Common.{◌≡◌, Some, ap, ◌∙◌, arith}
 use Rattle.c8_wire.specs.Packet.{AreBytes}
 use Rattle.c8_wire.specs.declared.kinds.DatagramKind.TheVariants as kinds

@@ -1,3 +1,4 @@
+-- What spells a packet is not refused, and what is not refused is read as the packet of its kind.
 use Rattle.std.proofs.Common.{Ok, rules, ap, sym, ◌∙◌}
 use Rattle.c8_wire.proofs.TableLemmas.{refused_or_not}
 use Rattle.c8_wire.proofs.PacketLemmas.{again, same_kind}

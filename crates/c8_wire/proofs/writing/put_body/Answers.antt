@@ -1,3 +1,4 @@
+-- The body of a FROZEN or CUT is its leaver and then its run, appended one after the other.
 use Rattle.std.proofs.Common.{◌≡◌, ◌++◌, List, ℕ, refl, sym, ap, ◌∙◌}
 use Rattle.std.proofs.lemmas.List.{append_assoc}
 use Rattle.c8_game.specs.declared.wire.WireVersion.{WireVersion}

@@ -1,3 +1,4 @@
+-- The header's fields are appended in order behind the version and the code of the kind, all in range.
 use Rattle.std.proofs.Common.{◌≡◌, ap, rules}
 use Rattle.std.proofs.lemmas.List.{append_assoc}
 use Rattle.c8_wire.specs.Kinds.{ShapeValue}

@@ -1,3 +1,4 @@
+-- Each stretch of equal inputs is appended as one byte and two, and the pairs that are left still have room.
 use Rattle.std.proofs.Common.{◌≡◌, ℕ, ◌+◌, ◌*◌, ◌≤◌, List, [], ◌∷◌, ◌++◌, length, sym, ap, ◌∙◌, length-append, arith}
 use Rattle.std.proofs.lemmas.List.{append_assoc, append-nil}
 use Rattle.c8_pairs.specs.declared.pair.Pair.{Pair}

@@ -1,3 +1,4 @@
+-- What is written, with the bytes of the pairs that are left, is the old bytes and the run's spelling.
 use Rattle.std.proofs.Common.{◌≡◌, ◌++◌}
 use Rattle.c8_pairs.specs.Pairs.{pairs_of, pairs_bytes, spelling}
 use Rattle.c8_wire.proofs.writing.put_pairs.Given as goal

@@ -1,3 +1,4 @@
+-- A row is the key sets of four players, each of 16 bits.
 use Rattle.std.proofs.Common.{◌≡◌, length, rules}
 use Rattle.c8_wire.proofs.ShowLemmas.{row_of_four}
 use Rattle.c8_wire.proofs.writing.put_row.Goals as goal

@@ -1,3 +1,4 @@
+-- Each row is appended as eight bytes, and the rows that are left still have room.
 use Rattle.std.proofs.Common.{◌++◌, [], ◌∷◌, List, ℕ, length, take, get_or, sym, ap, subst, ◌∙◌, arith}
 use Rattle.std.proofs.lemmas.List.{length-append, length-take, take_more, flat_map_more}
 use Rattle.c8_game.specs.declared.row.Row.{Row}

@@ -1,3 +1,4 @@
+-- The rows so far are appended, and each has four key sets of 16 bits.
 use Rattle.std.proofs.Common.{◌≡◌, ◌++◌, take}
 use Rattle.c8_wire.specs.Packet.{AreRows}
 use Rattle.c8_wire.specs.Spelling.{rows_bytes}

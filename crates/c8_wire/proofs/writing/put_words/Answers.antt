@@ -1,3 +1,4 @@
+-- Each input is appended as two bytes, and the inputs that are left still have room.
 use Rattle.std.proofs.Common.{◌++◌, List, ℕ, get_or, take, sym, ap, ◌∙◌, arith, length}
 use Rattle.std.specs.List.{flat_map}
 use Rattle.std.proofs.lemmas.List.{length-append, length-take, flat_map_more, take_more}

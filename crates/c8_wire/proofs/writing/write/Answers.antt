@@ -1,3 +1,4 @@
+-- The header, with the body's length in it, and the body are the packet's spelling, in at most 174 bytes.
 use Rattle.std.proofs.Common.{◌≡◌, ◌++◌, [], ℕ, List, sym, ap, ◌∙◌, arith, length}
 use Rattle.std.proofs.lemmas.Grind.{common_steps}
 use Rattle.std.proofs.lemmas.List.{take_at, length-append}

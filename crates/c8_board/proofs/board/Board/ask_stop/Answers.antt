@@ -1,3 +1,4 @@
+-- A viewer may set the stop word at any moment, and has then asked for the end.
 use Rattle.std.proofs.Common.{rules}
 use Rattle.c8_board.proofs.TokenMoves.{asks_as}
 use Rattle.c8_board.proofs.board.Board.ask_stop.Goals as goal

@@ -1,3 +1,4 @@
+-- The blank seat may store the word of the first rows, and becomes the pen's.
 use Rattle.std.proofs.Common.{rules}
 use Rattle.c8_board.proofs.TokenMoves.{begins_as}
 use Rattle.c8_board.proofs.board.Board.begin.Goals as goal

@@ -1,3 +1,4 @@
+-- A new viewer may be split off the pen: it has seen what the pen published last.
 use Rattle.std.proofs.Common.{rules}
 use Rattle.c8_board.proofs.TokenMoves.{enlists_as}
 use Rattle.c8_board.proofs.board.Board.enlist.Goals as goal

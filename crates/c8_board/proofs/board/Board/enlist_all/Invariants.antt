@@ -1,3 +1,4 @@
+-- The pen is as before, and each viewer so far has seen what the pen published.
 use Rattle.std.proofs.Common.{◌≡◌, length}
 use Rattle.std.specs.List.{All}
 use Rattle.c8_board.specs.Tokens.{new_viewer}

@@ -1,3 +1,4 @@
+-- The word that a viewer finds is that of published rows, which begin with all that it saw before.
 use Rattle.std.proofs.Common.{rules}
 use Rattle.c8_board.proofs.TokenMoves.{looks_as, still_viewer, sees}
 use Rattle.c8_board.proofs.board.Board.look.Goals as goal

@@ -1,3 +1,4 @@
+-- Who holds the pen and a viewer finds the pen's own word, and can part the two again.
 use Rattle.std.proofs.Common.{rules, ◌∙◌}
 use Rattle.c8_board.proofs.TokenMoves.{joins_as, joined_is, compares_as, parts_as, told, look_is, pen_is}
 use Rattle.c8_board.specs.Starts.{origin_from}

@@ -1,3 +1,4 @@
+-- The stored word is that of the rows that the proof of `publish`'s caller picked.
 use Rattle.c8_board.proofs.board.Board.publish.Given as goal
 
 abbrev pub ghosts-store : goal.ghosts-store

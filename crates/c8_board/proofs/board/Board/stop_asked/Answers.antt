@@ -1,3 +1,4 @@
+-- The pen may load the stop word, and knows nothing more after it.
 use Rattle.std.proofs.Common.{rules}
 use Rattle.c8_board.proofs.TokenMoves.{wishes_as}
 use Rattle.c8_board.proofs.board.Board.stop_asked.Goals as goal

@@ -1,3 +1,4 @@
+-- The pen may store the word of rows that begin with those it published last.
 use Rattle.std.proofs.Common.{rules}
 use Rattle.c8_board.proofs.TokenMoves.{publishes_as}
 use Rattle.c8_board.proofs.board.Board.store.Goals as goal

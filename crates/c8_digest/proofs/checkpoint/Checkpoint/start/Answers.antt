@@ -1,3 +1,4 @@
+-- The first checkpoint has the first machine and its mark alone, with zeros behind it.
 use Rattle.std.proofs.Common.{List, ℕ, ◌≡◌, ◌++◌, length, take, ap, sym, ◌∙◌}
 use Rattle.std.specs.Prelude.{replicate}
 use Rattle.c8_machine.specs.State.{first_state}

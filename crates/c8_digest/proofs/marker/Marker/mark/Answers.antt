@@ -1,3 +1,4 @@
+-- The hasher holds the machine's memory, so with the other parts it gives the digest of all state bytes.
 use Rattle.std.proofs.Common.{◌≡◌, ℕ, List, ◌++◌, map, take, sym, ap, subst, ◌∙◌}
 use Rattle.std.specs.List.{range_with_len}
 use Rattle.sha2.specs.Hashers.{Holds256}

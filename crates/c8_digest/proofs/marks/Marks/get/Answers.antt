@@ -1,3 +1,4 @@
+-- A later mark of the frame replaces the one found so far, so the last one is found.
 use Rattle.std.proofs.Common.{◌≡◌, Some, sym, ap, subst, ◌∙◌}
 use Rattle.std.specs.List.{slice_get}
 use Rattle.std.specs.Option.{option_copied}

@@ -1,3 +1,4 @@
+-- Mark k in the bytes is of the k-th of the last multiples of 32, and each is put after those before it.
 use Rattle.std.proofs.Common.{◌≡◌, refl, subst, arith}
 use Rattle.c8_digest.specs.Marks.{marks_in, marks_after}
 use Rattle.c8_digest.proofs.MarkBytesLemmas.{ArePut, one_put, mark_is, next_in, all_put}

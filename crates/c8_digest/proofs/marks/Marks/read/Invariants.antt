@@ -1,3 +1,4 @@
+-- The first `k` marks in the bytes are put.
 use Rattle.c8_digest.specs.Marks.{marks_in}
 use Rattle.c8_digest.proofs.MarkBytesLemmas.{ArePut}
 use Rattle.c8_digest.proofs.marks.Marks.read.Given as goal

@@ -1,3 +1,4 @@
+-- The marks are appended oldest first, 8 bytes each, and zeros fill the rest of the 128 bytes.
 use Rattle.std.proofs.Common.{◌≡◌, Some, length, sym, ap, subst, ◌∙◌, arith}
 use Rattle.std.specs.List.{slice_get}
 use Rattle.std.specs.Option.{option_copied}

@@ -1,3 +1,4 @@
+-- The bytes of the first `n` marks are appended, 8 of each.
 use Rattle.std.proofs.Common.{◌≡◌, ◌*◌, take}
 use Rattle.std.specs.List.{flat_map}
 use Rattle.arrayvec.specs.ArrayVec.{array_vec_len}

@@ -1,3 +1,4 @@
+-- A sync that fails takes the disk down and is not noted: it may have made nothing durable.
 use Rattle.std.proofs.Common.{rules}
 use Rattle.c8_disk.proofs.file.FileDiskDisk.sync.Goals as goal
 

@@ -1,3 +1,4 @@
+-- A write that fails in the file may be torn there, so it is noted as one that succeeds is.
 use Rattle.std.proofs.Common.{rules}
 use Rattle.c8_disk.proofs.file.FileDiskDisk.write_at.Goals as goal
 

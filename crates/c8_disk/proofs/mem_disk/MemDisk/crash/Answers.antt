@@ -1,3 +1,4 @@
+-- A crash leaves an image that the calls allow, one between two syncs, and the disk has room for it.
 use Rattle.std.proofs.Common.{rules, vec_capacity, List, ◌∙◌, ap, subst}
 use Rattle.c8_disk.specs.Past.{fit, IsImage}
 use Rattle.c8_disk.specs.declared.call.Call.{Call}

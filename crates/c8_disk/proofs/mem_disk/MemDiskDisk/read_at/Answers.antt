@@ -1,3 +1,4 @@
+-- A served read uses up a call of the budget, and adds no image and no moment.
 use Rattle.std.proofs.Common.{rules}
 use Rattle.c8_disk.proofs.mem_disk.MemDiskDisk.read_at.Goals as goal
 

@@ -1,3 +1,4 @@
+-- A served sync is one more call, after which a crash leaves what a read gives.
 use Rattle.std.proofs.Common.{List, length, sym, ◌∙◌, ap, subst}
 use Rattle.c8_disk.specs.Disk.{Elapses}
 use Rattle.c8_disk.specs.Past.{content, are_lawful, fit, IsImage, LeftSince}

@@ -1,3 +1,4 @@
+-- A served write is one more call, whole for reads and torn for crashes; a full disk writes nothing.
 use Rattle.std.proofs.Common.{rules, ◌≤◌, List, ℕ, length, sym, ◌∙◌, ap, subst, arith, length-append}
 use Rattle.c8_disk.specs.Disk.{overwritten, Elapses}
 use Rattle.c8_disk.specs.Past.{content, are_lawful, fit, IsImage, LeftSince}

@@ -1,3 +1,4 @@
+-- Reading the lines fails at the first one with a fault, so without a failure no line has one.
 use Rattle.std.proofs.Common.{inl, inr}
 use Rattle.c8_game.proofs.game.Game.faulty_line.Goals.{in-Ok, in-Err+in-Memory, in-Err+in_default}
 use Rattle.c8_game.proofs.game.Game.faulty_line.Goals as goal

@@ -1,3 +1,4 @@
+-- Lines without a fault finish as the game that they spell or with the fault at their end.
 use Rattle.c8_game.proofs.ReadLemmas.{finished, refused_at, spelled_if_ok, refused_if_err}
 use Rattle.c8_game.proofs.game.Game.read.Goals as goal
 

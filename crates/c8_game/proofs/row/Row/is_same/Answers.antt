@@ -1,3 +1,4 @@
+-- Two rows are equal exactly if all their key sets have equal numbers.
 use Rattle.std.proofs.Common.{ℕ, List, ap}
 use Rattle.std.proofs.lemmas.Slice.Eq.{slice_eq-Decides}
 use Rattle.std.proofs.lemmas.Bool.Decides.{Decides-eqb}

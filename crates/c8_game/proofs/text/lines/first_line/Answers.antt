@@ -1,3 +1,4 @@
+-- The first line ends before the first line feed, or with the text if that has none.
 use Rattle.c8_game.proofs.LineLemmas.{lines-fed, lines-unfed}
 use Rattle.c8_game.proofs.text.lines.first_line.Goals as goal
 

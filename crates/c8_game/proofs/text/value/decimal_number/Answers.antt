@@ -1,3 +1,4 @@
+-- One more digit makes the number ten times as great plus the digit; 20 digits need no more than 128 bits.
 use Rattle.std.proofs.Common.{refl, ◌<◌}
 use Rattle.c8_game.proofs.ValueLemmas.{decimal_next, ten_more, digit_small}
 use Rattle.c8_game.proofs.text.value.decimal_number.Goals as goal

@@ -1,3 +1,4 @@
+-- The number is that of the digits so far, and has no more digits than these.
 use Rattle.std.proofs.Common.{◌≡◌, ◌<◌, ◌^◌, take}
 use Rattle.c8_game.specs.Fields.{decimal_number}
 use Rattle.c8_game.proofs.text.value.decimal_number.Given as goal

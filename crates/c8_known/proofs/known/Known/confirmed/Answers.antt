@@ -1,3 +1,4 @@
+-- The least of the ticks and of all players' reaches is how many frames are confirmed.
 use Rattle.std.proofs.Common.{◌≡◌, List, map, ap, subst, ◌∙◌}
 use Rattle.c8_known.specs.declared.table.Table.{Table}
 use Rattle.c8_known.specs.Known.{KnownValue}

@@ -1,3 +1,4 @@
+-- To end a frozen player's list where it is says what a CUT without inputs says, and takes nothing back.
 use Rattle.c8_known.proofs.TableLemmas.{cut_call}
 use Rattle.c8_known.proofs.known.Known.cut.Goals as goal
 

@@ -1,3 +1,4 @@
+-- To mark the player as frozen says what a FREEZE says, and takes nothing back.
 use Rattle.c8_known.proofs.TableLemmas.{freeze_call}
 use Rattle.c8_known.proofs.known.Known.freeze.Goals as goal
 

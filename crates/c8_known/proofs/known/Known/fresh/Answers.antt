@@ -1,3 +1,4 @@
+-- A run is refused for the first reason that applies; else what is past the held inputs is its new part.
 use Rattle.std.proofs.Common.{rules, arith}
 use Rattle.std.proofs.lemmas.Grind.{common_steps}
 use Rattle.c8_known.specs.Fresh.{refusal}

@@ -1,3 +1,4 @@
+-- A player is frozen if its table has a FREEZE or a LEAVE of it.
 use Rattle.std.proofs.Common.{arith}
 use Rattle.std.proofs.lemmas.Grind.{common_steps}
 use Rattle.c8_known.proofs.known.Known.frozen.Goals as goal

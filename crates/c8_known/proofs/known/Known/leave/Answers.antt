@@ -1,3 +1,4 @@
+-- To mark the player as dropped says what a LEAVE says, and takes nothing back.
 use Rattle.c8_known.proofs.TableLemmas.{leave_call}
 use Rattle.c8_known.proofs.known.Known.leave.Goals as goal
 

@@ -1,3 +1,4 @@
+-- Tables that hold only the empty sets of the delay are what an empty journal makes known.
 use Rattle.c8_known.proofs.StartLemmas.{seen_at_start}
 use Rattle.c8_known.proofs.known.Known.new.Goals as goal
 

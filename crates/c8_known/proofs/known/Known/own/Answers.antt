@@ -1,3 +1,4 @@
+-- The own list and the ticks grow by one, which is what an OWN says, and nothing is taken back.
 use Rattle.std.proofs.Common.{◌∙◌, ◌-◌, refl, ap, subst}
 use Rattle.c8_known.specs.Known.{KnownValue, Plays}
 use Rattle.c8_known.proofs.TableLemmas.{own_call}

@@ -1,3 +1,4 @@
+-- Another player's list grows by the run, which is what a GOT says, and nothing is taken back.
 use Rattle.std.proofs.Common.{refl}
 use Rattle.c8_wire.specs.Lent.{words}
 use Rattle.c8_known.proofs.TableLemmas.{take_call}

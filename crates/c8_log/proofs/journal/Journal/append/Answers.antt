@@ -1,3 +1,4 @@
+-- A refused body is pending: each image keeps the journal's bodies, with it after them or without.
 use Rattle.std.proofs.Common.{length, Ok, Err, refl, ap, rules}
 use Rattle.c8_log.proofs.Refused.{leaves, value_is, is_journal}
 use Rattle.c8_disk.specs.checked.AsksLaws.{asks_as}

@@ -1,3 +1,4 @@
+-- Without room no disk call is made, else those of `add`; after `Ok` the log is up and at rest.
 use Rattle.std.proofs.Common.{◌+◌, ℕ, Ok, Err, false, rules, subst}
 use Rattle.c8_log.specs.Log.{log_error}
 use Rattle.c8_log.proofs.Repair.{rests}

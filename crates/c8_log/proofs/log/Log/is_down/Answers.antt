@@ -1,3 +1,4 @@
+-- All of a log that is up is synced, so each image keeps the bodies that it counts.
 use Rattle.std.proofs.Common.{subst}
 use Rattle.c8_log.specs.Log.{IsLog}
 use Rattle.c8_log.proofs.Repair.{rests}

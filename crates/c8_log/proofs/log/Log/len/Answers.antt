@@ -1,3 +1,4 @@
+-- A log that is up counts what a read keeps, and each image keeps the same.
 use Rattle.std.proofs.Common.{subst}
 use Rattle.c8_log.specs.Log.{IsLog}
 use Rattle.c8_log.proofs.Repair.{rests}

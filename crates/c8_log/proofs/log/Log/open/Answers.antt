@@ -1,3 +1,4 @@
+-- A disk that was settled is a log at rest, and the disk calls of an opening are those of `settle`.
 use Rattle.std.proofs.Common.{Ok, Err, false, sym, ap, ◌∙◌}
 use Rattle.c8_log.proofs.Repair.{rests}
 use Rattle.c8_disk.specs.Asks.{answer_of}

@@ -1,3 +1,4 @@
+-- The one slot that is read has the kept body of its number.
 use Rattle.std.proofs.Common.{◌≡◌, ◌+◌, ℕ, List, slice_get, Some, sym, ap, ◌∙◌, arith}
 use Rattle.c8_log.specs.Slots.{kept}
 use Rattle.c8_log.proofs.log.Log.read.Goals as goal

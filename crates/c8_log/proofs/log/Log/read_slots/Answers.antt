@@ -1,3 +1,4 @@
+-- A log that is up makes one disk read, and the slots in it have the kept bodies of their numbers.
 use Rattle.std.proofs.Common.{◌≡◌, ◌<◌, ◌+◌, ℕ, List, Some, Ok, Err, false, rules, sym, ◌∙◌, ap, subst, arith}
 use Rattle.c8_log.specs.Slots.{body_of, kept_count}
 use Rattle.c8_log.proofs.Kept.{kept_at}

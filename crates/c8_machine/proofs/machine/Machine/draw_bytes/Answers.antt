@@ -1,3 +1,4 @@
+-- The bytes loaded from I on are the rows of the sprite in memory, so the same points are flipped and met.
 use Rattle.std.proofs.Common.{◌≡◌, ◌%◌, ap, ◌∙◌, arith}
 use Rattle.c8_screen.specs.Points.{Points, points_of, sprite, clipped, exclusive_or, meets}
 use Rattle.c8_machine.specs.State.{state}

@@ -1,3 +1,4 @@
+-- To perform what the code at the counter decodes to is one step of the machine.
 use Rattle.c8_machine.specs.State.{state}
 use Rattle.c8_machine.proofs.FrameLemmas.{step_at_code}
 use Rattle.c8_machine.proofs.machine.Machine.execute.Goals as goal

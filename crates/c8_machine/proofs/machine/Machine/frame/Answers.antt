@@ -1,3 +1,4 @@
+-- A stopped machine is its own frame; any other gets its one frame, which a serial run has for one more row.
 use Rattle.std.proofs.Common.{rules}
 use Rattle.c8_machine.specs.State.{state}
 use Rattle.c8_machine.proofs.FrameLemmas.{frame_once}

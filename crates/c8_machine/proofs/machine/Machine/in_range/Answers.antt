@@ -1,3 +1,4 @@
+-- The code's types and the machine's invariants keep each part of the state in its range.
 use Rattle.std.proofs.Common.{arith}
 use Rattle.c8_machine.proofs.StateLemmas.{is_state}
 use Rattle.c8_machine.proofs.machine.Machine.in_range.Goals as goal

@@ -1,3 +1,4 @@
+-- Instructions go on one by one, until one draws, waits or stops, or `ipf` of them are done.
 use Rattle.std.proofs.Common.{arith, sym, ◌∙◌}
 use Rattle.c8_machine.specs.State.{state}
 use Rattle.c8_machine.proofs.ChainLemmas.{one_more, ends_early}

@@ -1,3 +1,4 @@
+-- The instructions so far went on, one after another from the state at the beginning.
 use Rattle.std.proofs.Common.{replicate}
 use Rattle.c8_machine.specs.declared.machine.Step.TheVariants.{Went}
 use Rattle.c8_machine.specs.State.{state}

@@ -1,3 +1,4 @@
+-- The lowest bit of the keys that went up is the lowest such key; without a bit there is none.
 use Rattle.std.proofs.Common.{arith}
 use Rattle.c8_machine.proofs.KeyLemmas.{lowest_released-none, lowest_released-some}
 use Rattle.c8_machine.proofs.machine.frames.lowest_released.Goals as goal

@@ -1,3 +1,4 @@
+-- When all bytes are loaded, byte k is the one k addresses on, where 0 follows the last address.
 use Rattle.std.proofs.Common.{◌+◌, ◌%◌, get_or, length, arith}
 use Rattle.std.proofs.lemmas.List.FromFn.{fill_by_all}
 use Rattle.c8_machine.proofs.machine.memory.load.Goals as goal

@@ -1,3 +1,4 @@
+-- The first `k` bytes are loaded, each from its own address modulo 4096.
 use Rattle.std.proofs.Common.{◌≡◌, ℕ, ◌+◌, ◌%◌, ◌<◌, get_or}
 use Rattle.c8_machine.proofs.machine.memory.load.Given as goal
 

@@ -1,3 +1,4 @@
+-- The first `k` bytes are in memory from the address on, and all other addresses are as before.
 use Rattle.c8_machine.proofs.MemoryLemmas.{IsStored}
 use Rattle.c8_machine.proofs.machine.memory.store.Given as goal
 

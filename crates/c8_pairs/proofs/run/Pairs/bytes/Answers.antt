@@ -1,3 +1,4 @@
+-- The pairs that a run touches are well formed, so its bytes are the spelling of all their inputs.
 use Rattle.std.proofs.Common.{◌∙◌, ap, None}
 use Rattle.c8_pairs.specs.Pairs.{pairs_bytes}
 use Rattle.c8_pairs.specs.Reading.{pairs_at}

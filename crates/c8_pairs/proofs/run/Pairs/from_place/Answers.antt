@@ -1,3 +1,4 @@
+-- A place within the run is a place within its pairs, so the part from there on can be lent.
 use Rattle.std.proofs.Common.{arith}
 use Rattle.c8_pairs.specs.Reading.{pairs_at}
 use Rattle.c8_pairs.proofs.RunLemmas.{length_run}

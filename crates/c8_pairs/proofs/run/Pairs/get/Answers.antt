@@ -1,3 +1,4 @@
+-- The input at a place is the key set of the pair that the place lies in.
 use Rattle.std.proofs.Common.{◌≡◌, ◌<◌, List, drop, true, ap, sym, subst, ◌∙◌, arith}
 use Rattle.std.proofs.lemmas.Bool.{ltb-true}
 use Rattle.c8_pairs.specs.declared.pair.Pair.{Pair}

@@ -1,3 +1,4 @@
+-- An iteration begins with what the run has of its first pair; the inputs of the pairs after it follow.
 use Rattle.std.proofs.Common.{◌≡◌, ◌<◌, List, drop, true, ap, sym, subst, ◌∙◌, arith}
 use Rattle.std.proofs.lemmas.Bool.{ltb-true}
 use Rattle.c8_pairs.specs.declared.pair.Pair.{Pair}

@@ -1,3 +1,4 @@
+-- The pairs stand for the skipped inputs and those of the run, so the run has `count` inputs.
 use Rattle.std.proofs.Common.{sym}
 use Rattle.c8_pairs.specs.Reading.{pairs_at}
 use Rattle.c8_pairs.proofs.RunLemmas.{length_run}

@@ -1,3 +1,4 @@
+-- Bytes of well-formed pairs are a run that skips no input, and they are its spelling.
 use Rattle.std.proofs.Common.{◌==◌, None, arith}
 use Rattle.std.proofs.lemmas.Bool.{eqb-true, and_parts}
 use Rattle.c8_pairs.specs.Reading.{pairs_at, well_after, count_in}

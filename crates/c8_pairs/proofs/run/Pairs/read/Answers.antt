@@ -1,3 +1,4 @@
+-- What spells a run of `count` inputs passes the check, so refused bytes spell none.
 use Rattle.std.proofs.Common.{◌≡◌, ℕ, List, length, true, false, ap, sym, ◌∙◌}
 use Rattle.c8_pairs.specs.Reading.{pairs_at, are_run}
 use Rattle.c8_pairs.specs.checked.PairLaws.{spelling_is_run}

@@ -1,3 +1,4 @@
+-- The pairs in the bytes are the pairs of their inputs, so the run begins inside the first of these.
 use Rattle.std.proofs.Common.{◌∙◌, ap, None}
 use Rattle.c8_pairs.specs.Reading.{pairs_at, is_begun}
 use Rattle.c8_pairs.specs.checked.PairLaws.{well_pairs}

@@ -1,3 +1,4 @@
+-- The inputs of a DATA are what its bytes from 46 on spell in its version.
 use Rattle.std.proofs.Common.{rules}
 use Rattle.c8_wire.proofs.data.Data.run.Goals as goal
 

@@ -1,3 +1,4 @@
+-- The fields by value are those that the bytes have, each decoded at its place.
 use Rattle.std.proofs.Common.{rules}
 use Rattle.c8_wire.proofs.header.Header.head.Goals as goal
 

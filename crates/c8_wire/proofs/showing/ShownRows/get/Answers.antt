@@ -1,3 +1,4 @@
+-- The rows of a SHOW stand one after another, so row k is in the eight bytes from 30 + 8 k on.
 use Rattle.std.proofs.Common.{◌<◌, Some, sym, ap, ◌∙◌, arith}
 use Rattle.c8_wire.proofs.ShowLemmas.{length_of_rows, get-rows_at}
 use Rattle.c8_wire.proofs.showing.ShownRows.get.Goals as goal

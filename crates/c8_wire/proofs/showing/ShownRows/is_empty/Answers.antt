@@ -1,3 +1,4 @@
+-- As many rows are decoded as the count says, so there is none exactly if the count is 0.
 use Rattle.std.proofs.Common.{ℕ, sym, ap}
 use Rattle.std.specs.Prelude.{◌==◌}
 use Rattle.c8_wire.proofs.ShowLemmas.{length_of_rows}

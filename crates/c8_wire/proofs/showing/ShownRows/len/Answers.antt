@@ -1,3 +1,4 @@
+-- As many rows are decoded as the count of a SHOW says.
 use Rattle.std.proofs.Common.{sym}
 use Rattle.c8_wire.proofs.ShowLemmas.{length_of_rows}
 use Rattle.c8_wire.proofs.showing.ShownRows.len.Goals as goal

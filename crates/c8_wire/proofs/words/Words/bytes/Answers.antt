@@ -1,3 +1,4 @@
+-- A run in version 1 lends its bytes as they came: the spelling of its inputs, two bytes each.
 use Rattle.std.proofs.Common.{rules, arith}
 use Rattle.c8_wire.specs.checked.WordLaws.{length_of_words}
 use Rattle.c8_wire.proofs.words.Words.bytes.Goals as goal

@@ -1,3 +1,4 @@
+-- An even number of bytes is the spelling of its key sets, which have 16 bits.
 use Rattle.std.proofs.Common.{sym, arith}
 use Rattle.c8_wire.specs.checked.WordLaws.{spelled_words, words_of-lt}
 use Rattle.c8_wire.proofs.words.Words.new.Goals as goal

@@ -1,3 +1,4 @@
+-- Each step gives the key set of the first two bytes and leaves the rest.
 use Rattle.std.proofs.Common.{arith}
 use Rattle.std.proofs.lemmas.Grind.{common_steps}
 use Rattle.c8_wire.specs.Reading.{words_of}

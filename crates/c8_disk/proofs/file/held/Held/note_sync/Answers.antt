@@ -1,3 +1,4 @@
+-- After a noted sync a crash leaves the bytes held and nothing else, and the sync is one more moment.
 use Rattle.std.proofs.Common.{List, length, sym, ◌∙◌, ap, subst}
 use Rattle.c8_disk.specs.Disk.{Elapses}
 use Rattle.c8_disk.specs.Past.{content, are_lawful, IsImage, LeftSince}

@@ -1,3 +1,4 @@
+-- A noted write is whole in the bytes held and torn in each image that a crash may leave.
 use Rattle.std.proofs.Common.{◌≤◌, List, ℕ, length, sym, ◌∙◌, ap, subst}
 use Rattle.c8_disk.specs.Disk.{overwritten, Elapses}
 use Rattle.c8_disk.specs.Past.{content, are_lawful, IsImage, LeftSince}

@@ -1,3 +1,4 @@
+-- A line is skipped, adds bytes of code or a field's number, or has a fault, as its name and its value say.
 use Rattle.std.proofs.Common.{◌≡◌, arith, sym, ◌∙◌, ap, codes, true, false}
 use Rattle.std.specs.Str.{bytes_eq}
 use Rattle.c8_game.specs.Fields.{field_named}

@@ -1,3 +1,4 @@
+-- What hexadecimal digits give are bytes, so the program still has bytes alone.
 use Rattle.std.specs.Prelude.{is_ok}
 use Rattle.c8_game.proofs.ByteLemmas.{bytes_grown, bytes_decoded}
 use Rattle.c8_game.proofs.text.draft.Draft.add_code.Goals as goal

@@ -1,3 +1,4 @@
+-- A number within its field's range leaves all numbers of the draft in theirs.
 use Rattle.std.proofs.Common.{arith}
 use Rattle.c8_game.proofs.FieldLemmas.{ranges_kept}
 use Rattle.c8_game.proofs.text.draft.Draft.add_field.Goals as goal

@@ -1,3 +1,4 @@
+-- A draft is judged at its end as the lines' items are, and the game has what these give for each field.
 use Rattle.std.proofs.Common.{arith, inl, inr, sym, ◌∙◌, ◌<◌, ◌≤◌, length}
 use Rattle.std.specs.Prelude.{vec_len}
 use Rattle.std.proofs.lemmas.Bool.{eqb-true}

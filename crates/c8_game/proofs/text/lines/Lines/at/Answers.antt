@@ -1,3 +1,4 @@
+-- The line that is read after `place` others is the one at that place.
 use Rattle.std.proofs.Common.{ap, ◌∙◌}
 use Rattle.std.specs.List.{slice_get}
 use Rattle.c8_game.proofs.LineLemmas.{line_after}
