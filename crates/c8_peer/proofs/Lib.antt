@@ -1,3 +1,4 @@
+-- A peer's calls are steps of the definitions and keep it sound, and its word stands: `AnswerLemmas`, `RunLemmas`.
 pub mod Tests
 pub mod CheckpointCall
 pub mod CheckpointLemmas

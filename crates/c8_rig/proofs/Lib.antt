@@ -1,3 +1,4 @@
+-- Whatever the threads do, their log is a run of a world with their peers; begin at `Logs` and `Rigging`.
 pub mod Silent
 pub mod Logs
 pub mod Growth

@@ -1,1 +1,2 @@
+-- How the rows of a SHOW are judged and taken one by one; what follows for watchers is in `specs/checked/WatchLaws`.
 mod RowLemmas

@@ -1,3 +1,4 @@
+-- Any two moments of a match agree: `Journals` has the invariant, `Worlds` keeps it, `Moments` draws agreement from it.
 pub mod Journals
 pub mod Moments
 pub mod Records

@@ -1,3 +1,4 @@
+-- The piece of the marks has 128 bytes, all of them the marks', so it is judged by its unused marks.
 use Rattle.std.proofs.Common.{Bool, cond, ap, ◌∙◌, arith}
 use Rattle.std.proofs.lemmas.Bool.{ne_eqb, eq-eqb}
 use Rattle.std.proofs.lemmas.List.{take_all}

@@ -1,3 +1,4 @@
+-- The machine found has the first bytes of the checkpoint; if none is found, no machine has these bytes.
 use Rattle.std.proofs.Common.{sym, ◌∙◌}
 use Rattle.c8_check.proofs.CheckLemmas.{machine_read}
 use Rattle.c8_check.proofs.checks.machine_in.Goals as goal

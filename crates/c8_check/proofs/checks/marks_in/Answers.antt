@@ -1,3 +1,4 @@
+-- Behind the offset of the marks there are exactly their 128 bytes.
 use Rattle.std.proofs.Common.{◌∙◌, arith}
 use Rattle.std.proofs.lemmas.List.{take_all}
 use Rattle.c8_check.proofs.checks.marks_in.Goals as goal

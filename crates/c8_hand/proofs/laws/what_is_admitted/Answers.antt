@@ -1,3 +1,4 @@
+-- What an admitted datagram names: match and seats; a WELCOME the own epoch; later kinds both epochs of an open link.
 use Rattle.c8_hand.specs.checked.LinkLaws.{is_for_me, admitted_players, of_player, of_watcher, admitted_welcome, names_both, comes_by_link}
 use Rattle.c8_hand.proofs.laws.what_is_admitted.Goals as goal
 

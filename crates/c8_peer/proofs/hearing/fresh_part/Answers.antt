@@ -1,3 +1,4 @@
+-- Inputs that the leaver itself brings are ruled out before, so the only refusal is the misfit of the definition.
 use Rattle.std.proofs.Common.{refl}
 use Rattle.c8_wire.specs.Lent.{words}
 use Rattle.c8_known.specs.checked.FreshLaws.{misfit_none, misfit_is}

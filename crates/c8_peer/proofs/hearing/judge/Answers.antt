@@ -1,3 +1,4 @@
+-- Each kind is judged as its own definition says, with the player that the header names as its sender.
 use Rattle.c8_peer.proofs.hearing.judge.Goals as goal
 
 pub returns-in-Welcome-clause-judged : goal.returns-in-Welcome-clause-judged

@@ -1,3 +1,4 @@
+-- Once the FREEZE of another leaver stands, a CUT of player 1 is judged by where it ends the leaver's list.
 use Rattle.std.proofs.Common.{◌≡◌, ◌∙◌, ℕ, true, sym, ap, subst, arith}
 use Rattle.c8_wire.specs.Lent.{cut_of}
 use Rattle.c8_known.specs.Known.{player_in}

@@ -1,3 +1,4 @@
+-- DATA is refused for its acknowledgement, then its inputs, then its mark; what is left brings new inputs or none.
 use Rattle.std.proofs.Common.{rules}
 use Rattle.c8_peer.specs.Hearing.{hear_data, is_desync}
 use Rattle.c8_peer.proofs.hearing.judge_data.Goals as goal

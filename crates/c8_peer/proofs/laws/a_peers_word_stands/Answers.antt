@@ -1,3 +1,4 @@
+-- A run from before the first opening is lawful and its journal only grows, so what was said stays true; for c8_live.
 use Rattle.c8_peer.specs.Runs.{never_opened}
 use Rattle.c8_peer.proofs.RunLemmas.{reached_journal, run_grows, said_stands, run_confirms, run_keeps_rows, never_lawful, never_tells}
 use Rattle.c8_peer.proofs.RunLemmas.{reached_tells, reached_lawful}

@@ -1,3 +1,4 @@
+-- From a lawful state a run stays lawful, true checkpoints stay true, and so does what is said; for c8_embed, c8_live.
 use Rattle.c8_peer.proofs.RunLemmas.{sound_lawful, reached_lawful, run_lawful, said_stands, run_confirms, run_keeps_rows, run_tells}
 use Rattle.c8_peer.specs.checked.TrueCheckLaws.{no_check_true}
 use Rattle.c8_peer.proofs.laws.a_word_stands_from_any_journal.Goals as goal

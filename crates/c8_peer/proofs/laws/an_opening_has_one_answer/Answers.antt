@@ -1,3 +1,4 @@
+-- Two ends of an opening that was served exclude each other, so what was found decides which one it has.
 use Rattle.c8_peer.proofs.OneOpening.{one_opening, would_stand, one_answer}
 use Rattle.c8_peer.proofs.laws.an_opening_has_one_answer.Goals as goal
 

@@ -1,3 +1,4 @@
+-- The answer tells what the disk did with the record, so a call that meets its contract is a deed; for c8_live, c8_rig.
 use Rattle.c8_peer.proofs.RunLemmas.{answered_done, said_done}
 use Rattle.c8_peer.proofs.laws.calls_are_deeds.Goals as goal
 

@@ -1,3 +1,4 @@
+-- Bytes are read as a well-formed packet or as none, and the definitions cover both; for c8_rig and c8_embed.
 use Rattle.std.proofs.Common.{◌≡◌, refl}
 use Rattle.std.specs.Prelude.{Result, Ok, Err}
 use Rattle.c8_wire.specs.declared.error.WireError.{WireError}

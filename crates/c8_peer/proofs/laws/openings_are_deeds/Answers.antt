@@ -1,3 +1,4 @@
+-- An opening finds the journal of the state before, so its success, refusal or stop is a deed; for c8_world and c8_rig.
 use Rattle.std.proofs.Common.{sym, subst}
 use Rattle.c8_peer.specs.Opening.{found}
 use Rattle.c8_peer.specs.Peer.{Keeps}

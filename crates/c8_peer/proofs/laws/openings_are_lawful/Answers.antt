@@ -1,3 +1,4 @@
+-- The rules allow the HEAD or next EPOCH, and what the peer begins with there is in order and true; for c8_world.
 use Rattle.c8_peer.proofs.OpeningLemmas.{opening_allowed, opening_memory, opening_stays}
 use Rattle.c8_peer.proofs.laws.openings_are_lawful.Goals as goal
 

@@ -1,3 +1,4 @@
+-- A plainly refused call has the state before it as its state, Desync that state with the alarm.
 use Rattle.c8_peer.proofs.RefusalLemmas.{refused_stays, desync_alarms}
 use Rattle.c8_peer.proofs.laws.refusals_change_nothing.Goals as goal
 

@@ -1,3 +1,4 @@
+-- Call by call: the rules allow the record, the memory stays in order, what is said is true and spelled; for c8_world.
 use Rattle.c8_peer.proofs.AllowedLemmas.{keeps_allowed}
 use Rattle.c8_peer.proofs.MemoryLemmas.{memory_kept}
 use Rattle.c8_peer.proofs.PlainLemmas.{keeps_true, keeps_memory}

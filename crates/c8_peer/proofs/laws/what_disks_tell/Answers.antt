@@ -1,3 +1,4 @@
+-- A sound peer's disk, read now or left by a crash, keeps the journal with the pending record or without; for c8_world.
 use Rattle.c8_peer.proofs.RunLemmas.{left_bodies, left_records, inside_call}
 use Rattle.c8_peer.proofs.laws.what_disks_tell.Goals as goal
 

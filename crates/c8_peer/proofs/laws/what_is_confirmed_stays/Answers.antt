@@ -1,3 +1,4 @@
+-- A longer journal confirms no fewer frames, and those of before have the same rows.
 use Rattle.c8_peer.specs.checked.TruthLaws.{confirmed_counts, confirmed_stays}
 use Rattle.c8_peer.proofs.laws.what_is_confirmed_stays.Goals as goal
 

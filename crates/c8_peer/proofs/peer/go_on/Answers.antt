@@ -1,3 +1,4 @@
+-- With one more tick the roll advances, with none it settles; a record brings no more than one.
 use Rattle.std.proofs.Common.{arith}
 use Rattle.c8_roll.specs.Seen.{value_of}
 use Rattle.c8_roll.specs.checked.RollLaws.{roll_ticks}

@@ -1,3 +1,4 @@
+-- FROZEN and CUT are built as the definition says, with the leaver that the caller's kind names.
 use Rattle.c8_peer.proofs.saying.message.Goals as goal
 
 pub returns-in-Frozen : goal.returns-in-Frozen

@@ -1,3 +1,4 @@
+-- The rows copied frame by frame are the confirmed rows from `start` on, up to 16 of them, and there is room for these.
 use Rattle.std.proofs.Common.{◌≡◌, ◌+◌, ◌++◌, [], ◌∷◌, length, refl, sym, ap, ◌∙◌, arith}
 use Rattle.std.specs.Prelude.{map}
 use Rattle.std.specs.List.{range_with_len}

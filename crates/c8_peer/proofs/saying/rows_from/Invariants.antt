@@ -1,3 +1,4 @@
+-- The rows so far are those of the first `place` frames from `start` on.
 use Rattle.std.proofs.Common.{◌≡◌}
 use Rattle.std.specs.Prelude.{map}
 use Rattle.std.specs.List.{range_with_len}

@@ -1,3 +1,4 @@
+-- All that is held from `start` on is the rest of the list, and the datagram carries the front of it.
 use Rattle.std.proofs.Common.{drop, ap, ◌∙◌}
 use Rattle.c8_game.specs.declared.wire.WireVersion.{WireVersion}
 use Rattle.c8_wire.specs.Carried.{carried}

@@ -1,3 +1,4 @@
+-- At the end there is a standing of each peer, so the verdict on the standings is one on all peers.
 use Rattle.std.proofs.Common.{◌≡◌, ap, map, take, ◌∙◌, List}
 use Rattle.c8_disk.specs.declared.mem_disk.MemDisk.{MemDisk}
 use Rattle.c8_peer.specs.Peer.{PeerValue, known_by}

@@ -1,3 +1,4 @@
+-- The standings so far know what the peers so far know, and there is room for the rest.
 use Rattle.std.proofs.Common.{◌≡◌, ◌≤◌, length, map, take}
 use Rattle.std.specs.Prelude.{vec_len, vec_capacity}
 use Rattle.c8_peer.specs.Peer.{known_by}

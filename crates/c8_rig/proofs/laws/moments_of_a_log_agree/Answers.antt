@@ -1,3 +1,4 @@
+-- A front of the log leads to a world and the notes behind it to a later one, and two such worlds agree.
 use Rattle.c8_rig.proofs.Logs.{moments_of_log}
 use Rattle.c8_rig.proofs.laws.moments_of_a_log_agree.Goals as goal
 

@@ -1,3 +1,4 @@
+-- Each answered call is a deed of the peer, so its note leads on, and lists of notes join; for the worker.
 use Rattle.std.proofs.Common.{[]}
 use Rattle.c8_wire.specs.checked.Read.{read}
 use Rattle.c8_peer.specs.State as calls

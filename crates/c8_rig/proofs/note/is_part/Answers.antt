@@ -1,3 +1,4 @@
+-- If the notes are the player's part, the log's next note of that player stands where the loop looks for it.
 use Rattle.std.proofs.Common.{rules, ◌≡◌, ◌<◌, Some, ap, sym, subst, ◌∙◌, length, ℕ, List}
 use Rattle.std.specs.List.{slice_get}
 use Rattle.std.proofs.lemmas.Option.{slice_get-get_or}

@@ -1,3 +1,4 @@
+-- If the notes are the player's part, `next` counts the player's notes in the log so far.
 use Rattle.std.proofs.Common.{◌≡◌, ◌≤◌, length, take}
 use Rattle.c8_rig.specs.Log.{part_of}
 use Rattle.c8_rig.proofs.note.is_part.Given as goal

@@ -1,3 +1,4 @@
+-- The jobs so far have the entries in order, and each has a new disk for all turns.
 use Rattle.std.proofs.Common.{◌≡◌, map}
 use Rattle.std.specs.List.{All}
 use Rattle.c8_rig.specs.Rigged.{IsDiskFor}

@@ -1,3 +1,4 @@
+-- The entries and the peers so far are those that the threads returned, in order; no peer was missing.
 use Rattle.std.proofs.Common.{◌≡◌, map, Some}
 use Rattle.c8_rig.proofs.threads.parted.Given as goal
 

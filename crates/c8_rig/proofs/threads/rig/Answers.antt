@@ -1,3 +1,4 @@
+-- The ether has as many players as the game, so at most four.
 use Rattle.std.proofs.Common.{arith}
 use Rattle.c8_rig.proofs.threads.rig.Goals as goal
 

@@ -1,3 +1,4 @@
+-- Each thread begins with the unused entry of its player and a new disk, so what they return can be joined in order.
 use Rattle.std.proofs.Common.{◌≡◌, [], ap, sym, ◌∙◌, subst, length, map, Some, rules}
 use Rattle.c8_rig.specs.Tokens.{EntryValue, first_entries}
 use Rattle.c8_rig.specs.Rigged.{HasWorked, IsDiskFor}

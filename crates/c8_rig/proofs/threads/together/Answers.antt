@@ -1,3 +1,4 @@
+-- All players' entries and peers are there in order, and their notes made the peers, so the log is a world of them.
 use Rattle.std.proofs.Common.{◌<◌, ℕ, sym, subst, ◌∙◌}
 use Rattle.std.specs.Prelude.{IfOk}
 use Rattle.c8_rig.specs.Gathered.{IsGathering}

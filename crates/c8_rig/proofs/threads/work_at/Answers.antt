@@ -1,3 +1,4 @@
+-- A new disk keeps no journal, so the notes lead to the peer from before its first opening.
 use Rattle.std.proofs.Common.{List, ap, subst, ◌∙◌}
 use Rattle.std.specs.Prelude.{IfSome}
 use Rattle.c8_disk.specs.Memory.{MemValue}

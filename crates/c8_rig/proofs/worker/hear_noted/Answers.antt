@@ -1,3 +1,4 @@
+-- A delivery of these bytes, under whatever number, is the call in which the peer hears what they spell.
 use Rattle.std.proofs.Common.{arith}
 use Rattle.c8_rig.proofs.worker.hear_noted.Goals as goal
 

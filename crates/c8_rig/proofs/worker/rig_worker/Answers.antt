@@ -1,3 +1,4 @@
+-- The first note is the opening, a deed of the peer that was away, and those of the turns follow it.
 use Rattle.std.proofs.Common.{rules, ◌≡◌, [], ℕ, refl, sym, ap, subst, ◌∙◌, false}
 use Rattle.c8_log.specs.Slots.{kept}
 use Rattle.c8_record.specs.Body.{records_of}

@@ -1,3 +1,4 @@
+-- The rows before `place` are of the game, so all rows are exactly if the rest is.
 use Rattle.std.proofs.Common.{◌≡◌, drop}
 use Rattle.c8_wire.specs.Lent.{shown}
 use Rattle.c8_spectator.specs.Watching.{are_of_game}

@@ -1,3 +1,4 @@
+-- One differing pair of rows makes the answer yes; an equal pair leaves it to the rest, until one list has ended.
 use Rattle.std.proofs.Common.{[], get_or, sym, ◌∙◌, arith}
 use Rattle.std.proofs.lemmas.Option.{slice_get-get_or}
 use Rattle.c8_game.specs.declared.row.Row.{Row}

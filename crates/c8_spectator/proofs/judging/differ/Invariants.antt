@@ -1,3 +1,4 @@
+-- No two rows before `place` differ, so the lists differ exactly if their rests do.
 use Rattle.std.proofs.Common.{◌≡◌, drop}
 use Rattle.c8_wire.specs.Lent.{shown}
 use Rattle.c8_spectator.specs.Watching.{differ}

@@ -1,3 +1,4 @@
+-- `Kept` means that a SHOW had a row that is new; with any other answer none is added.
 use Rattle.c8_spectator.specs.checked.WatchLaws.{kept_more, unkept_same}
 use Rattle.c8_spectator.proofs.laws.only_new_rows_are_kept.Goals as goal
 

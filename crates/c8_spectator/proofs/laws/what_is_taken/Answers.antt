@@ -1,3 +1,4 @@
+-- What no check refuses is a SHOW of the match to this seat, and it is taken; the watcher's rows then reach its end.
 use Rattle.c8_spectator.specs.checked.WatchLaws.{what_is_taken, taken_answer, taken_rows, taken_reaches}
 use Rattle.c8_spectator.proofs.laws.what_is_taken.Goals as goal
 

@@ -1,3 +1,4 @@
+-- The five laws of c8_round and c8_peer on which all laws of worlds rest, in one record.
 use Rattle.c8_world.proofs.below.peers_are_lawful.Goals as goal
 
 pub returns : goal.returns

@@ -1,3 +1,4 @@
+-- The player at `place` agrees with each player before `other`.
 use Rattle.std.proofs.Common.{ℕ, ◌<◌}
 use Rattle.c8_world.specs.Ends.{AgreesWith}
 use Rattle.c8_world.proofs.ends.agrees_with_all.Given as goal

@@ -1,3 +1,4 @@
+-- The tallies so far are those of the first standings, and there is room for the others.
 use Rattle.std.proofs.Common.{◌≡◌, ◌≤◌, map, take, length}
 use Rattle.std.specs.Prelude.{vec_len, vec_capacity}
 use Rattle.c8_world.specs.Ends.{tally_at}

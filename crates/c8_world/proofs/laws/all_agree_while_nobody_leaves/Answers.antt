@@ -1,3 +1,4 @@
+-- Without a LEAVE no player is dropped, so what holds for undropped peers holds for all.
 use Rattle.c8_world.proofs.Reached.{all_agree}
 use Rattle.c8_world.proofs.Answered.{calm_differs, calm_desync}
 use Rattle.c8_world.proofs.laws.all_agree_while_nobody_leaves.Goals as goal

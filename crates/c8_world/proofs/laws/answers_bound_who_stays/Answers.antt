@@ -1,3 +1,4 @@
+-- A player that answered has frozen the leaver, so it holds no more of it before the cut; and a cut needs all answers.
 use Rattle.c8_world.proofs.Reached.{reports_bound, stayers_froze}
 use Rattle.c8_world.proofs.laws.answers_bound_who_stays.Goals as goal
 

@@ -1,3 +1,4 @@
+-- Each answer tells its player's mode after the event, and only a peer that is not open answers Down.
 use Rattle.c8_world.proofs.ModeLemmas.{modes_told, down_told}
 use Rattle.c8_world.proofs.laws.answers_tell_modes.Goals as goal
 

@@ -1,3 +1,4 @@
+-- A pending record still fits while other journals grow, so a read finds a journal with it or without; for c8_audit.
 use Rattle.c8_world.proofs.Openings.{found_journal, openings_fit}
 use Rattle.c8_world.proofs.laws.openings_find_journals.Goals as goal
 

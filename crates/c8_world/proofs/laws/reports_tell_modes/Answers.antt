@@ -1,3 +1,4 @@
+-- A reported answer tells the same mode as the answer of the definitions, event by event.
 use Rattle.c8_world.proofs.ModeLemmas.{reports_told, report_not_up}
 use Rattle.c8_world.proofs.laws.reports_tell_modes.Goals as goal
 

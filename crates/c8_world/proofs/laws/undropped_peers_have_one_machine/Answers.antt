@@ -1,3 +1,4 @@
+-- With true checkpoints each base is the serial run of its confirmed rows, and undropped peers have the same rows.
 use Rattle.c8_world.proofs.Reached.{base_serial, one_machine}
 use Rattle.c8_world.proofs.laws.undropped_peers_have_one_machine.Goals as goal
 

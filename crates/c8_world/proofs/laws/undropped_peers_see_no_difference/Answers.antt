@@ -1,3 +1,4 @@
+-- A run that was sent is part of what its player entered, and an undropped sender's mark is of the same rows.
 use Rattle.c8_world.proofs.Answered.{never_differs, never_desync}
 use Rattle.c8_world.proofs.laws.undropped_peers_see_no_difference.Goals as goal
 

@@ -1,3 +1,4 @@
+-- Each SHOW that was sent has confirmed rows of player 1, so a watcher's rows begin these and none differs.
 use Rattle.c8_world.proofs.Reached.{rows_true}
 use Rattle.c8_world.proofs.Answered.{never_differs_watched}
 use Rattle.c8_world.proofs.laws.watchers_have_a_beginning.Goals as goal

@@ -1,3 +1,4 @@
+-- A datagram is true and spelled when sent, and stays true as journals grow; so it never acknowledges too much.
 use Rattle.c8_world.proofs.Reached.{said_holds, said_spells}
 use Rattle.c8_world.proofs.Answered.{never_bad_ack}
 use Rattle.c8_world.proofs.laws.what_was_said_is_true.Goals as goal

@@ -1,3 +1,4 @@
+-- Every image of a new disk is empty, so it has the journal of a peer that was never opened.
 use Rattle.std.proofs.Common.{refl, ap}
 use Rattle.c8_disk.specs.Memory.{MemValue}
 use Rattle.c8_world.proofs.NodeLemmas.{new_tells}

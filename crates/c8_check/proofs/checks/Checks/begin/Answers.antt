@@ -1,3 +1,4 @@
+-- The plan is the machine's bytes, one zero and the marks' bytes.
 use Rattle.std.proofs.Common.{◌++◌, ◌∙◌}
 use Rattle.std.specs.Prelude.{replicate}
 use Rattle.c8_check.specs.Checks.{save_bytes}

@@ -1,3 +1,4 @@
+-- All pieces together are the bytes of a machine, so reading it cannot fail and gives the complete checkpoint.
 use Rattle.std.proofs.Common.{arith}
 use Rattle.c8_check.proofs.CheckLemmas.{is_whole, whole_noted}
 use Rattle.c8_check.proofs.checks.Checks.check.Goals as goal

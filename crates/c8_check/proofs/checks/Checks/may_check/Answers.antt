@@ -1,3 +1,4 @@
+-- A digest is allowed exactly if all pieces are there, it is theirs, and their bytes are those of a machine.
 use Rattle.std.proofs.Common.{◌≡◌, sym, ◌∙◌, arith}
 use Rattle.std.proofs.lemmas.Bool.{both_ways, not-true, not-false}
 use Rattle.std.proofs.lemmas.Slice.Eq.{bytes_eq-Decides}

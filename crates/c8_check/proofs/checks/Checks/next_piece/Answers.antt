@@ -1,3 +1,4 @@
+-- Each piece ends where the next one begins, within the 4,548 bytes of the plan.
 use Rattle.std.proofs.Common.{◌+◌, ◌∙◌, arith}
 use Rattle.c8_check.specs.checked.PieceLaws.{piece_ends, before_within}
 use Rattle.c8_check.proofs.checks.Checks.next_piece.Goals as goal

@@ -1,3 +1,4 @@
+-- An allowed piece is the next one and has its length, so its bytes fit right behind those taken before.
 use Rattle.std.proofs.Common.{refl, ap, ◌∙◌, ◌++◌, take, drop, length, ℕ, ◌+◌, arith}
 use Rattle.c8_check.proofs.CheckLemmas.{is_next, piece_taken}
 use Rattle.c8_check.specs.checked.PieceLaws.{piece_ends, before_within}

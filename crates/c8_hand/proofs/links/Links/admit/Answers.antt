@@ -1,3 +1,4 @@
+-- A datagram that is admitted and is no SEEN comes from another player of the match and is for this one.
 use Rattle.std.proofs.Common.{◌≡◌, rules, None, sym, ◌∙◌}
 use Rattle.c8_wire.specs.Packet.{HeadValue}
 use Rattle.c8_wire.specs.Lent.{packet_of}

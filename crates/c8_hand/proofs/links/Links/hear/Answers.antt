@@ -1,3 +1,4 @@
+-- The new links are `heard` of the old ones, so what the laws say of it holds: only a WELCOME opens, no epoch falls.
 use Rattle.std.proofs.Common.{◌≡◌, ℕ, ◌≤◌, rules, sym, subst}
 use Rattle.c8_wire.specs.Packet.{HeadValue}
 use Rattle.c8_wire.specs.Lent.{packet_of}

@@ -1,3 +1,4 @@
+-- The peer's memory is in order, so nobody has acknowledged more inputs than the peer has.
 use Rattle.std.proofs.Common.{◌≡◌, ℕ, ◌≤◌, sym, ap, subst, ◌∙◌}
 use Rattle.c8_known.specs.Known.{count_in}
 use Rattle.c8_window.specs.Window.{acked_of}

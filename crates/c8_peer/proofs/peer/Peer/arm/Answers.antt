@@ -1,3 +1,4 @@
+-- An armed disk keeps in a crash what it kept before: the journal, with the pending record or without.
 use Rattle.c8_peer.proofs.ReaderLemmas.{leaves_kept}
 use Rattle.c8_peer.proofs.peer.Peer.arm.Goals as goal
 

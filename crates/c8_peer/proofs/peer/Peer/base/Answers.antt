@@ -1,3 +1,4 @@
+-- The roll's base is the run of the confirmed rows from where the opening began, serial if the checkpoints are true.
 use Rattle.std.proofs.Common.{◌∙◌, ap}
 use Rattle.c8_roll.specs.Roll.{RollValue, roll_of}
 use Rattle.c8_roll.specs.Seen.{value_of as seen}

@@ -1,3 +1,4 @@
+-- The own player ticks no further than the last frame of the game, and no frame is confirmed before its tick.
 use Rattle.std.proofs.Common.{arith}
 use Rattle.c8_peer.proofs.ReaderLemmas.{confirmed_few}
 use Rattle.c8_peer.proofs.peer.Peer.confirmed.Goals as goal

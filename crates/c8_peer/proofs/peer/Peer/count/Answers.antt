@@ -1,3 +1,4 @@
+-- The rules let no list of a journal grow beyond the game's frames and the delay.
 use Rattle.std.proofs.Common.{arith}
 use Rattle.c8_peer.proofs.ReaderLemmas.{counts_few}
 use Rattle.c8_peer.proofs.peer.Peer.count.Goals as goal

@@ -1,3 +1,4 @@
+-- The CUT that player 1 decides on is the one of the definition, so the rules allow it.
 use Rattle.std.proofs.Common.{Ok, []}
 use Rattle.c8_known.specs.Journal.{Record}
 use Rattle.c8_known.specs.Journal as records

@@ -1,3 +1,4 @@
+-- Bytes that are a datagram are read as its packet, so to hear the datagram is to hear the bytes.
 use Rattle.std.proofs.Common.{sym, subst}
 use Rattle.c8_peer.specs.State.{Deliver, Delivered}
 use Rattle.c8_peer.specs.Peer.{IsAnswered}

@@ -1,3 +1,4 @@
+-- The links refuse the datagram, or admit a SEEN, or admit a datagram of another player of the match to this one.
 use Rattle.std.proofs.Common.{◌≡◌, ℕ, Ok, Err, Some, None, false, refl, sym, ap, ◌∙◌}
 use Rattle.c8_wire.specs.Lent.{packet_of}
 use Rattle.c8_hand.specs.Links.{LinksValue, admission}

@@ -1,3 +1,4 @@
+-- Each verdict ends as the contract of calls says: noted, alarm, a record that stands or is pending, or refused.
 use Rattle.std.proofs.Common.{◌∙◌, ◌+◌, ◌++◌, ◌∷◌, [], Bool, Ok, Err, sym, refl, subst}
 use Rattle.std.specs.Prelude.{if◌then◌else◌}
 use Rattle.c8_wire.specs.Lent.{packet_of}

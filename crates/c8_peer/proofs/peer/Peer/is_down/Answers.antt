@@ -1,3 +1,4 @@
+-- The parts of a peer make it sound, which each caller may rely on; the peer's other calls get it from here.
 use Rattle.c8_peer.proofs.ReaderLemmas.{peer_sound}
 use Rattle.c8_peer.proofs.peer.Peer.is_down.Goals as goal
 

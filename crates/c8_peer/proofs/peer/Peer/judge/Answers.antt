@@ -1,3 +1,4 @@
+-- What the peer judges by is its journal: the inputs known and the marks of the roll are those that it tells.
 use Rattle.std.proofs.Common.{◌∙◌, ap, sym, subst}
 use Rattle.c8_wire.specs.Lent.{packet_of}
 use Rattle.c8_known.specs.Known.{KnownValue, Plays}

@@ -1,3 +1,4 @@
+-- A record that stands is in the journal, what is known and the roll; one that the disk refuses is only pending.
 use Rattle.std.proofs.Common.{arith, length, Ok, Err, ◌+◌, ◌≤◌, ◌∙◌, ◌++◌, ◌∷◌, [], ap, List, ℕ, Some, sym, subst, ◌≡◌}
 use Rattle.c8_game.specs.Rules.{Rules}
 use Rattle.c8_check.specs.Checks.{begun_at}

@@ -1,3 +1,4 @@
+-- The checkpoints that the peer keeps are those of its journal.
 use Rattle.std.proofs.Common.{◌≡◌, ap, subst, ◌∙◌}
 use Rattle.c8_check.specs.Checks.{ChecksValue, frames_of, checks_of}
 use Rattle.c8_check.specs.Seen.{value_of as checked}

@@ -1,3 +1,4 @@
+-- No peer ticks more than a window ahead, and its last run was of a window and one frame at most, or an opening's.
 use Rattle.std.proofs.Common.{◌≡◌, ◌⊎◌, ◌+◌, ◌≤◌, ap, subst}
 use Rattle.c8_game.specs.Rules.{Rules}
 use Rattle.c8_known.specs.Known.{KnownValue}

@@ -1,3 +1,4 @@
+-- The LEAVE of a player whom player 1 may drop is the record of the definition, so the rules allow it.
 use Rattle.std.proofs.Common.{Ok}
 use Rattle.c8_known.specs.Journal.{Record}
 use Rattle.c8_known.specs.Journal as records

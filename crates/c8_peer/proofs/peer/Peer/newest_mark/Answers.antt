@@ -1,3 +1,4 @@
+-- The roll has the marks that the journal tells, so its newest is the one that DATA is to carry.
 use Rattle.std.proofs.Common.{◌∙◌, Option, replicate, ap}
 use Rattle.std.specs.Prelude.{unwrap_or}
 use Rattle.c8_digest.specs.declared.marks.FrameMark.{FrameMark}

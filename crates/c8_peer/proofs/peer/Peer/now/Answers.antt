@@ -1,3 +1,4 @@
+-- The ticks that are known are those that the journal has.
 use Rattle.std.proofs.Common.{◌∙◌}
 use Rattle.c8_peer.proofs.ReaderLemmas.{ticks_are}
 use Rattle.c8_peer.proofs.peer.Peer.now.Goals as goal

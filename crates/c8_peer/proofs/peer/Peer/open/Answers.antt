@@ -1,3 +1,4 @@
+-- The reserved memory is for the player that was asked for, so opening in it opens that player's peer.
 use Rattle.std.proofs.Common.{◌≤◌, ◌∙◌, sym, ap, subst, ℕ, [], IfOk, IfErr, arith}
 use Rattle.c8_disk.specs.Runs.{LeavesOnly}
 use Rattle.c8_known.specs.Known.{known_of}

@@ -1,3 +1,4 @@
+-- A peer knows of as many players as its game has.
 use Rattle.std.proofs.Common.{◌∙◌}
 use Rattle.c8_peer.proofs.ReaderLemmas.{players_are}
 use Rattle.c8_peer.proofs.peer.Peer.players.Goals as goal

@@ -1,3 +1,4 @@
+-- The rows are lent from what is known, and that is what the journal says.
 use Rattle.c8_peer.proofs.ReaderLemmas.{known_is, players_are}
 use Rattle.c8_peer.proofs.peer.Peer.rows.Goals as goal
 

@@ -1,3 +1,4 @@
+-- The written head and body are those of the packet that the definitions say, which has a spelling and is true.
 use Rattle.std.proofs.Common.{◌≡◌, ◌∙◌, ap, sym, take, subst}
 use Rattle.c8_wire.specs.Saying.{head_value, message_of}
 use Rattle.c8_wire.specs.Spelling.{Spells}

@@ -1,3 +1,4 @@
+-- Player 1 writes the confirmed rows from the watcher's last count on, and any other player is refused.
 use Rattle.std.proofs.Common.{◌≡◌, ◌≢◌, ◌∙◌, true, ap, sym, refl, take, drop, subst, arith}
 use Rattle.std.proofs.lemmas.Bool.{eqb-true, eqb-false, le-leb}
 use Rattle.c8_wire.specs.Packet.{Message}

@@ -1,3 +1,4 @@
+-- A datagram that is for this player comes from another one of the game, and there are at most four.
 use Rattle.std.proofs.Common.{◌≤◌, ap, refl, arith}
 use Rattle.std.proofs.lemmas.Bool.{both_ways, le-leb}
 use Rattle.c8_wire.specs.Packet.{HeadValue}

@@ -1,3 +1,4 @@
+-- The key set, of 16 bits, comes at the end of the own list, as in the record of the definition, so the rules allow it.
 use Rattle.std.proofs.Common.{◌∙◌, ◌^◌, ◌<◌, sym, Ok, arith}
 use Rattle.c8_known.specs.Journal.{Record, Own}
 use Rattle.c8_peer.specs.State.{Tick, Ticked, recorded}

@@ -1,3 +1,4 @@
+-- A piece has 128 bytes or 68, so a body can spell it as a run of inputs.
 use Rattle.std.proofs.Common.{ap, ◌∙◌, ◌%◌, ◌≤◌, ℕ, sym, subst}
 use Rattle.c8_peer.proofs.CheckpointLemmas.{piece_even, piece_few}
 use Rattle.c8_peer.proofs.peer.checkpoint.next_body.Goals as goal

@@ -1,3 +1,4 @@
+-- The body added is the opening's, a HEAD on an empty disk and else the next EPOCH, and that is not beyond the last.
 use Rattle.std.proofs.Common.{ap, ◌∙◌, ◌++◌, ◌∷◌, [], List, length, ◌==◌, ℕ, arith}
 use Rattle.c8_log.specs.Journal.{JournalValue}
 use Rattle.c8_record.specs.Body.{records_of}

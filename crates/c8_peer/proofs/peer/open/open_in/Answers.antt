@@ -1,3 +1,4 @@
+-- The journal read, the epoch begun and the roll run from the last checkpoint make a sound peer, or there is a refusal.
 use Rattle.std.proofs.Common.{Ok, ap, subst, ◌∙◌, ◌≤◌, ℕ}
 use Rattle.std.proofs.lemmas.Result.{err_from_is_err_and}
 use Rattle.c8_disk.specs.Runs.{LeavesOnly}

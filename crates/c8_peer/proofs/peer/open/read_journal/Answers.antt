@@ -1,3 +1,4 @@
+-- What the disk keeps is known afterwards or is refused as unfit, unless the disk refuses, which settles nothing new.
 use Rattle.std.proofs.Common.{ℕ, List, Ok, Err, inl, rules, ap, subst, ◌∙◌}
 use Rattle.c8_disk.specs.checked.AsksLaws.{asks_as}
 use Rattle.c8_disk.specs.checked.RunLaws.{then_reads}

@@ -1,3 +1,4 @@
+-- The log stays lawful with one more note: its player has an entry, and what it delivers was said before.
 use Rattle.std.proofs.Common.{rules, ◌≡◌, ◌≤◌, [], ◌∷◌, ◌++◌}
 use Rattle.c8_wire.specs.declared.sizes.TheConstants.{LONGEST_DATAGRAM}
 use Rattle.c8_world.specs.Events.{act_of}

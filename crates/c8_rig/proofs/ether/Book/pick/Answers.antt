@@ -1,3 +1,4 @@
+-- If no datagram was said, the part's player has said none, since its notes are a part of the log.
 use Rattle.std.proofs.Common.{rules, ◌<◌, ◌%◌, length}
 use Rattle.c8_rig.proofs.Growth.{nobody_said, picked}
 use Rattle.c8_rig.proofs.ether.Book.pick.Goals as goal

@@ -1,3 +1,4 @@
+-- The front of `out` has the bytes of the note that is added: the picked datagram, delivered to the player.
 use Rattle.std.proofs.Common.{rules, ◌≡◌, ◌++◌, length, take, sym, subst, ℕ, List}
 use Rattle.c8_world.specs.World.{Give}
 use Rattle.c8_rig.specs.Tokens.{EntryValue, with_note}

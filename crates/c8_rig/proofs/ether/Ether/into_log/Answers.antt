@@ -1,3 +1,4 @@
+-- Each entry in turn is compared with the log, which shows its part of it and changes neither.
 use Rattle.std.proofs.Common.{rules, ◌≡◌, ◌<◌, ap, sym, subst, ◌∙◌, length, List, slice_index_or}
 use Rattle.std.proofs.lemmas.Option.{slice_get_read, slice_get_within}
 use Rattle.c8_rig.specs.Log.{NoteValue, part_of}

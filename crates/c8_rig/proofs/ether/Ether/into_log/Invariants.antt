@@ -1,3 +1,4 @@
+-- The notes of the entries before `place` are their players' parts of the log; no entry has changed, nor the log.
 use Rattle.std.proofs.Common.{◌≡◌, ◌<◌, ℕ, Some}
 use Rattle.std.specs.List.{slice_get}
 use Rattle.c8_rig.specs.Log.{part_of}

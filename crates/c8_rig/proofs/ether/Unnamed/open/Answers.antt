@@ -1,3 +1,4 @@
+-- The entry that the keeper makes next is that of the next player, without notes.
 use Rattle.std.proofs.Common.{rules, ◌≡◌, ◌++◌, ◌∷◌, ◌+◌, [], sym, ◌∙◌, ap}
 use Rattle.c8_rig.specs.Tokens.{EntryValue}
 use Rattle.c8_rig.proofs.Openings.{entry_more}

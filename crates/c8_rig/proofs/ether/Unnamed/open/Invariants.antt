@@ -1,3 +1,4 @@
+-- The first `number` players have an entry each, in order; the keeper knows of these and of an empty log.
 use Rattle.std.proofs.Common.{◌≡◌, []}
 use Rattle.c8_rig.specs.Tokens.{first_entries}
 use Rattle.c8_rig.proofs.ether.Unnamed.open.Given as goal

@@ -1,3 +1,4 @@
+-- Keeper and part may join and separate; while joined they show that the part is its player's part of the log.
 use Rattle.std.proofs.Common.{rules, ◌∙◌}
 use Rattle.c8_rig.proofs.TokenMoves.{joins_as, joined_is, compares_as, parts_as}
 use Rattle.c8_rig.proofs.tokens.Tokens.compare.Goals as goal

@@ -1,3 +1,4 @@
+-- The keeper may make a part for the next player, who has no notes in the log yet.
 use Rattle.std.proofs.Common.{rules}
 use Rattle.c8_rig.proofs.TokenMoves.{enlists_as}
 use Rattle.c8_rig.proofs.tokens.Tokens.enlist.Goals as goal

@@ -1,3 +1,4 @@
+-- Joined with a player's part, the keeper may add a note of that player: log and part grow by the same note.
 use Rattle.std.proofs.Common.{rules, ◌∙◌, sym}
 use Rattle.c8_rig.proofs.TokenMoves.{joins_as, joined_is, notes_as, noted_is, parts_as, player_is}
 use Rattle.c8_rig.proofs.tokens.Tokens.enter.Goals as goal

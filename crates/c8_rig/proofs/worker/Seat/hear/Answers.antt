@@ -1,3 +1,4 @@
+-- The drawn bytes are those of the note, so it leads to the peer that has heard them.
 use Rattle.std.proofs.Common.{subst, take}
 use Rattle.std.specs.Prelude.{IfSome}
 use Rattle.c8_rig.specs.Tokens.{IsDrawn}

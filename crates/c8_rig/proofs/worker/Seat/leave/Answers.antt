@@ -1,3 +1,4 @@
+-- The note of a drop stands for player 1's call of `leave`, refused or not, so it leads to the peer after that.
 use Rattle.std.proofs.Common.{rules}
 use Rattle.c8_rig.proofs.Playing.{with_entry}
 use Rattle.c8_rig.proofs.worker.Seat.leave.Goals as goal

@@ -1,3 +1,4 @@
+-- The notes of the turns so far lead from the peer at first to the present one.
 use Rattle.c8_rig.specs.Players.{HasPlayed}
 use Rattle.c8_rig.proofs.worker.Seat.play.Given as goal
 

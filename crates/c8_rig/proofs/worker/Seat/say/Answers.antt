@@ -1,3 +1,4 @@
+-- The note has the bytes that the peer said; saying changes no peer, so without memory for the note nothing changes.
 use Rattle.std.proofs.Common.{take}
 use Rattle.c8_peer.specs.Asked.{saying_of}
 use Rattle.c8_rig.proofs.Playing.{noted}

@@ -1,3 +1,4 @@
+-- The note of a key set, which has 16 bits, stands for the call of `tick` that enters it, refused or not.
 use Rattle.std.proofs.Common.{rules, []}
 use Rattle.c8_world.specs.World.{Tick}
 use Rattle.c8_rig.specs.Tokens.{with_note}

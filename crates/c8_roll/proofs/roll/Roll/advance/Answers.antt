@@ -1,3 +1,4 @@
+-- There is only one oldest changed frame, so whichever the caller names is where the frames were run from.
 use Rattle.std.proofs.Common.{arith}
 use Rattle.c8_roll.specs.Seen.{rows_run}
 use Rattle.c8_roll.proofs.RollbackLemmas.{one_oldest}

@@ -1,3 +1,4 @@
+-- If the checkpoint is on the way, the roll since it is the roll from the first frame on.
 use Rattle.std.proofs.Common.{◌∙◌}
 use Rattle.c8_digest.specs.Origin.{origin_of}
 use Rattle.c8_roll.specs.checked.RollLaws.{on_the_way}

@@ -1,3 +1,4 @@
+-- From the checkpoint confirmed frames are confirmed and the others run, which gives the roll since it and its rows.
 use Rattle.std.proofs.Common.{◌≡◌, ◌≤◌, ℕ, List, ◌++◌, sym, ap, ◌∙◌, arith}
 use Rattle.c8_game.specs.Rules.{Rules}
 use Rattle.c8_digest.specs.Origin.{Origin, origin_of, run_since}

@@ -1,3 +1,4 @@
+-- What is kept stays right for what is known now, and only the rest is run again; for `advance` and `settle`.
 use Rattle.std.proofs.lemmas.Bool.{cases_lt}
 use Rattle.std.proofs.Common.{◌≡◌, ◌≤◌, ⊎_elim, ◌+◌, length, refl, sym, ap, ◌∙◌, arith}
 use Rattle.c8_game.specs.Rules.{Rules}

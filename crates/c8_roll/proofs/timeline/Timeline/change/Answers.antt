@@ -1,3 +1,4 @@
+-- The place is the first whose row is no best guess; else the last one, if later frames were run without a snapshot.
 use Rattle.std.proofs.Common.{rules}
 use Rattle.c8_roll.proofs.timeline.Timeline.change.Goals as goal
 

@@ -1,3 +1,4 @@
+-- The confirmed frame gives up its snapshot, or is run now if it was not yet; the run stays one on best guesses.
 use Rattle.std.proofs.Common.{◌≢◌, ℕ, length, sym, ap, subst, ◌∙◌, arith}
 use Rattle.c8_machine.specs.State.{state}
 use Rattle.c8_machine.specs.Serial.{frame_of}

@@ -1,3 +1,4 @@
+-- One more confirmed frame keeps the run, and at a multiple of 32 the base has the machine of the next mark.
 use Rattle.std.proofs.Common.{ℕ, List, [], ◌∷◌, ◌++◌, ◌+◌, ◌≡◌, sym, ap, ◌∙◌, arith}
 use Rattle.c8_machine.specs.State.{state}
 use Rattle.c8_digest.specs.declared.marks.FrameMark.{FrameMark}

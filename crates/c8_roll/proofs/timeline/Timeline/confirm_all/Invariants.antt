@@ -1,3 +1,4 @@
+-- All frames below `frame` are confirmed, the marks reach up to it, and the run is still one on best guesses.
 use Rattle.std.proofs.Common.{◌≡◌, ◌+◌, ◌≤◌, ℕ}
 use Rattle.c8_known.specs.Confirmed.{confirmed}
 use Rattle.c8_digest.specs.Origin.{Origin}

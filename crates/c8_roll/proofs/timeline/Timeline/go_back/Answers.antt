@@ -1,3 +1,4 @@
+-- The machine of a snapshot, with the snapshots before it, is a timeline again: that of the frames up to it.
 use Rattle.std.proofs.Common.{◌≡◌, ◌<◌, length, inl, sym, ap, subst, ◌∙◌, arith}
 use Rattle.std.specs.Option.{option_copied}
 use Rattle.c8_machine.specs.declared.machine.Machine.{Machine}

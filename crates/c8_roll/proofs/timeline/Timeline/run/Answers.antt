@@ -1,3 +1,4 @@
+-- A frame that is run leaves a snapshot of the machine before it if there is room, and a run on best guesses stays one.
 use Rattle.std.proofs.Common.{◌≡◌, ◌<◌, ℕ, length, sym, ap, subst, ◌∙◌, arith}
 use Rattle.c8_game.specs.Rules.{joined}
 use Rattle.c8_machine.specs.State.{state}

@@ -1,3 +1,4 @@
+-- Each frame is run on its best guess, so the shown machine is the run of the best rows up to the last tick.
 use Rattle.std.proofs.Common.{◌≡◌, ◌+◌, ℕ, refl, rules, sym, ap, subst, ◌∙◌, arith}
 use Rattle.c8_game.specs.Rules.{Rules, joined}
 use Rattle.c8_game.specs.declared.row.Row.{Row}

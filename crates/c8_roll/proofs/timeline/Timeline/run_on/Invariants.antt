@@ -1,3 +1,4 @@
+-- All frames below `frame` are run, and the shown machine is the run of their best rows.
 use Rattle.std.proofs.Common.{◌≡◌, ◌+◌}
 use Rattle.c8_machine.specs.State.{state}
 use Rattle.c8_digest.specs.Origin.{Origin, run_since}

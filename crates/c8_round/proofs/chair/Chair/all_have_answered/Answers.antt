@@ -1,3 +1,4 @@
+-- One stayer without an answer, or with a greater one than player 1's count, makes the leaver not ready.
 use Rattle.std.proofs.Common.{rules, ◌≡◌, ◌+◌, ◌≤◌, ◌||◌, ℕ, Bool, false, not, length, sym, ◌∙◌, arith}
 use Rattle.c8_known.specs.Known.{count_in}
 use Rattle.c8_round.specs.Round.{report_of, has_answered, is_stayer}

@@ -1,3 +1,4 @@
+-- Each player below `number` has answered with no more than player 1 holds, or need not answer.
 use Rattle.std.proofs.Common.{◌≡◌, ◌||◌, not, length, ◌-◌, true}
 use Rattle.std.specs.List.{list_all, range_with_len}
 use Rattle.c8_known.specs.Known.{count_in}

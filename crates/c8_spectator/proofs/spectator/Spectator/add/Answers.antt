@@ -1,3 +1,4 @@
+-- One more row is one more frame of the serial run, and its memory was reserved when the watcher was made.
 use Rattle.std.proofs.Common.{rules}
 use Rattle.c8_spectator.proofs.spectator.Spectator.add.Goals as goal
 

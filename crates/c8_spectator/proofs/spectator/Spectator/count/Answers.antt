@@ -1,3 +1,4 @@
+-- There are no more rows than a game may have frames, so their number fits 32 bits.
 use Rattle.std.proofs.Common.{rules}
 use Rattle.c8_spectator.proofs.spectator.Spectator.count.Goals as goal
 

@@ -1,3 +1,4 @@
+-- A SHOW to this seat is judged by its rows; one to the other seat, and every other kind, is NotMine.
 use Rattle.std.proofs.Common.{rules}
 use Rattle.c8_spectator.proofs.spectator.Spectator.hear_datagram.Goals as goal
 

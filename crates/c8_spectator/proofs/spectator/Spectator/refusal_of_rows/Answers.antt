@@ -1,3 +1,4 @@
+-- The checks have the order of the definition: Absent, Full, Gap, Differs.
 use Rattle.std.proofs.Common.{arith}
 use Rattle.std.proofs.lemmas.Grind.{common_steps}
 use Rattle.c8_spectator.specs.Watching.{refusal_of_rows}

@@ -1,3 +1,4 @@
+-- A SEEN spells how many rows the watcher has, in 28 bytes.
 use Rattle.std.proofs.Common.{rules}
 use Rattle.c8_wire.specs.Spelling.{spelling}
 use Rattle.c8_spectator.proofs.spectator.Spectator.seen.Goals as goal

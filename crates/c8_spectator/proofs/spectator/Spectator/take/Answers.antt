@@ -1,3 +1,4 @@
+-- The rows behind those that the watcher has are added one by one, and the game has a frame for each.
 use Rattle.std.proofs.Common.{◌≡◌, ◌-◌, ◌+◌, ℕ, List, length, drop, sym, ap, ◌∙◌, arith}
 use Rattle.std.proofs.lemmas.List.{length-drop}
 use Rattle.c8_game.specs.declared.row.Row.{Row}

@@ -1,3 +1,4 @@
+-- The rows taken so far with those still to add are the first rows with all fresh ones.
 use Rattle.std.proofs.Common.{◌≡◌, drop}
 use Rattle.c8_wire.specs.Lent.{shown}
 use Rattle.c8_spectator.specs.Watching.{with_rows}

@@ -1,3 +1,4 @@
+-- The range from the acknowledged count on, at most 64 long, is the first part of the unacknowledged inputs.
 use Rattle.std.proofs.Common.{ℕ, List, ◌∙◌}
 use Rattle.c8_known.specs.Known.{player_in}
 use Rattle.c8_window.specs.Window.{acked_of}

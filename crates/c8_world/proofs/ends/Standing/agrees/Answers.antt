@@ -1,3 +1,4 @@
+-- One frame with different rows makes the answer no; without one, all rows that both count as confirmed are the same.
 use Rattle.std.proofs.Common.{◌<◌, refl, sym, ◌∙◌, arith}
 use Rattle.c8_world.specs.Ends.{known_at, both}
 use Rattle.c8_world.proofs.EndLemmas.{same_rows, same_row_of}

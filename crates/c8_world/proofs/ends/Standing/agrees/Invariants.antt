@@ -1,3 +1,4 @@
+-- Of the frames that both count as confirmed, those below `frame` have the same rows.
 use Rattle.std.proofs.Common.{◌≡◌, ℕ, ◌<◌}
 use Rattle.c8_known.specs.Confirmed.{row}
 use Rattle.c8_world.specs.Ends.{known_at, both}

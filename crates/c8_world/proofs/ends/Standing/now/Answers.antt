@@ -1,3 +1,4 @@
+-- A peer counts the ticks of its journal, and these are the ticks that it knows.
 use Rattle.std.proofs.Common.{sym, ◌∙◌, ap}
 use Rattle.c8_known.specs.Known.{known_of}
 use Rattle.c8_world.specs.declared.ends.Standing.{Standing}

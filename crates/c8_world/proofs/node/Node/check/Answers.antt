@@ -1,3 +1,4 @@
+-- If the node's peer is open, it made the checkpoint call, with that call's contract.
 use Rattle.std.proofs.Common.{ap, ◌∙◌}
 use Rattle.c8_peer.specs.Peer.{mode_of}
 use Rattle.c8_world.proofs.node.Node.check.Goals as goal

@@ -1,3 +1,4 @@
+-- With a peer or without, the node's disk crashes and leaves what the pick allows.
 use Rattle.std.proofs.Common.{refl, subst}
 use Rattle.c8_disk.specs.declared.mem_disk.MemDisk.{MemDisk}
 use Rattle.c8_world.specs.Turns.{IsDiskCrash}

@@ -1,3 +1,4 @@
+-- If the node's peer is open, it was asked to cut the leaver's list, and answered by that call's contract.
 use Rattle.std.proofs.Common.{ap, ◌∙◌}
 use Rattle.c8_peer.specs.Peer.{mode_of}
 use Rattle.c8_world.proofs.node.Node.decide.Goals as goal

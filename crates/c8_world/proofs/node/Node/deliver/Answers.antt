@@ -1,3 +1,4 @@
+-- If the node's peer is open, it heard these bytes, with the contract of a delivery.
 use Rattle.std.proofs.Common.{ap, ◌∙◌}
 use Rattle.c8_peer.specs.Peer.{mode_of}
 use Rattle.c8_world.proofs.node.Node.deliver.Goals as goal

@@ -1,3 +1,4 @@
+-- A crash of a closed peer's disk leaves the peer's journal, with the pending record or without.
 use Rattle.std.proofs.Common.{Bool, subst}
 use Rattle.c8_disk.specs.declared.mem_disk.MemDisk.{MemDisk}
 use Rattle.c8_disk.specs.Memory.{images_of}

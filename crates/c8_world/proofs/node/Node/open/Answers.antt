@@ -1,3 +1,4 @@
+-- The opening reads the journal of the state before, so it succeeds or is refused as an opening of the definitions.
 use Rattle.std.proofs.Common.{◌≡◌, ◌≢◌, inr, ℕ, List, Ok, sym, ap, subst, ◌∙◌}
 use Rattle.std.proofs.lemmas.Bool.{both_ways}
 use Rattle.c8_disk.specs.Memory.{bytes_of}

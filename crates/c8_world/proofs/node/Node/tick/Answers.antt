@@ -1,3 +1,4 @@
+-- If the node's peer is open, it took or refused the key set by the contract of a tick.
 use Rattle.std.proofs.Common.{ap, ◌∙◌}
 use Rattle.c8_peer.specs.Peer.{mode_of}
 use Rattle.c8_world.proofs.node.Node.tick.Goals as goal

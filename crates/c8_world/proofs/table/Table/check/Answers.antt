@@ -1,3 +1,4 @@
+-- A checkpoint call at a player's node is that event of the world; a player who is not in the game is down.
 use Rattle.std.proofs.Common.{arith}
 use Rattle.c8_peer.specs.State as states
 use Rattle.c8_world.specs.World.{Check}

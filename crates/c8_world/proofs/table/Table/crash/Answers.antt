@@ -1,3 +1,4 @@
+-- A stopped player's node is its crashed disk, and in the world its peer is away with the journal of that disk.
 use Rattle.std.proofs.Common.{◌≤◌, sym, subst, arith}
 use Rattle.c8_world.specs.Agreement.{IsPlayer}
 use Rattle.c8_world.specs.Table.{TableValue}

@@ -1,3 +1,4 @@
+-- Each game has a player 1, so to decide at its node is that event of the world.
 use Rattle.std.proofs.Common.{arith}
 use Rattle.c8_peer.specs.State as states
 use Rattle.c8_world.specs.World.{Decide}

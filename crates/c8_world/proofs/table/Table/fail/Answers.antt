@@ -1,3 +1,4 @@
+-- Arming a disk changes no peer, so an act on a disk that fails once is that act in the world.
 use Rattle.std.proofs.Common.{ℕ, [], ◌∷◌, subst}
 use Rattle.c8_disk.specs.declared.disk.Arm.TheVariants as arms
 use Rattle.c8_world.specs.World.{Do}

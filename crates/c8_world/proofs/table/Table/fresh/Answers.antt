@@ -1,3 +1,4 @@
+-- The watcher in seat 5 or 6 has no rows any more, in the table as in the world.
 use Rattle.std.proofs.Common.{ap, arith}
 use Rattle.c8_spectator.specs.Watching.{WatchValue}
 use Rattle.c8_world.proofs.WatcherLemmas.{sits, fresh_five, fresh_six}

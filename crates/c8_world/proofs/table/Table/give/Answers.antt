@@ -1,3 +1,4 @@
+-- The bytes with a number are read as the packet that was sent, so the node hears what the world delivers.
 use Rattle.std.proofs.Common.{arith}
 use Rattle.c8_wire.specs.Spelling.{spelling}
 use Rattle.c8_world.specs.Agreement.{IsPlayer}

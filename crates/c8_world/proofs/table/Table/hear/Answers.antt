@@ -1,3 +1,4 @@
+-- The bytes with a number are read as the packet that was sent, so the watcher in seat 5 or 6 hears what it does there.
 use Rattle.std.proofs.Common.{◌∙◌, refl, ap, arith}
 use Rattle.c8_wire.specs.Spelling.{spelling}
 use Rattle.c8_spectator.specs.Watching.{WatchValue}

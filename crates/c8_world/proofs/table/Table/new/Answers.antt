@@ -1,3 +1,4 @@
+-- A new node has an empty disk of a peer that was never opened, so the new table holds the start of the world.
 use Rattle.std.proofs.Common.{◌-◌, ap, arith}
 use Rattle.std.specs.Prelude.{None}
 use Rattle.c8_spectator.specs.Watching.{WatchValue}

@@ -1,3 +1,4 @@
+-- The nodes so far have empty disks, with this capacity and this many calls, of peers that were never opened.
 use Rattle.std.proofs.Common.{◌≡◌, ◌≤◌}
 use Rattle.std.specs.Prelude.{All, vec_len, vec_capacity}
 use Rattle.c8_world.specs.Table.{IsUntouched, IsNodeed}

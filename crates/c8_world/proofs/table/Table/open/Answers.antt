@@ -1,3 +1,4 @@
+-- A player's disk has a journal of the match, so to open its node is an opening in the world; a stranger is refused.
 use Rattle.std.proofs.Common.{arith}
 use Rattle.c8_world.specs.Agreement.{IsPlayer}
 use Rattle.c8_world.proofs.OpenedLemmas.{stranger_happens, opened_happens, unopened_happens}

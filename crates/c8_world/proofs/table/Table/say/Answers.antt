@@ -1,3 +1,4 @@
+-- The bytes that join the pool spell the packet that was said; a peer that is silent or refuses adds none.
 use Rattle.std.proofs.Common.{arith}
 use Rattle.c8_peer.specs.Asked.{saying_of}
 use Rattle.c8_world.specs.Agreement.{IsPlayer}

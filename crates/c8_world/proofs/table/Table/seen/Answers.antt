@@ -1,3 +1,4 @@
+-- The bytes that join the pool spell the SEEN that the watcher sends in the world.
 use Rattle.std.proofs.Common.{take, sym, subst, arith}
 use Rattle.c8_wire.specs.Spelling.{Spells}
 use Rattle.c8_spectator.specs.Watching.{WatchValue, seen}

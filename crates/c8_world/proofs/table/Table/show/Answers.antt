@@ -1,3 +1,4 @@
+-- The bytes that join the pool spell player 1's SHOW to the watcher; without one none are added.
 use Rattle.std.proofs.Common.{arith}
 use Rattle.c8_world.specs.Agreement.{IsPlayer}
 use Rattle.c8_world.proofs.SpokenLemmas.{silent_happens, refused_happens, spoken_happens}

@@ -1,3 +1,4 @@
+-- In a world that was reached a player's disk has a journal of the match, so the node can tell what the player knows.
 use Rattle.std.proofs.Common.{◌≡◌, ap, arith}
 use Rattle.c8_world.specs.Agreement.{IsPlayer}
 use Rattle.c8_world.specs.Table.{TableValue}

@@ -1,3 +1,4 @@
+-- The next standing is that of the next player, so the list has all of them in order.
 use Rattle.std.proofs.Common.{ℕ, subst, arith}
 use Rattle.c8_world.specs.World.{peer_of}
 use Rattle.c8_world.specs.Table.{node_of}

@@ -1,3 +1,4 @@
+-- Each player below `number` has its standing, by its journal in whatever world the table holds.
 use Rattle.std.proofs.Common.{◌≡◌, ◌≤◌, ℕ, ◌+◌, ◌-◌, ◌<◌, slice_index_or}
 use Rattle.std.specs.Prelude.{vec_len, vec_capacity}
 use Rattle.c8_world.specs.World.{World, peer_of}

@@ -1,3 +1,4 @@
+-- Arming, act and crash in turn are the stop of the definitions; if memory is refused, the arming is taken back.
 use Rattle.std.proofs.Common.{ℕ, refl, subst}
 use Rattle.c8_disk.specs.declared.disk.Arm.TheVariants as arms
 use Rattle.c8_world.specs.World.{World, Stop}

@@ -1,3 +1,4 @@
+-- The standings are by some reads of the disks, and by any reads undropped players agree, so the verdict is yes.
 use Rattle.std.proofs.Common.{◌≡◌, List, true, ap, map, subst, ◌∙◌}
 use Rattle.std.specs.Prelude.{◌↔◌}
 use Rattle.c8_world.specs.declared.ends.Standing.{Standing}

@@ -1,3 +1,4 @@
+-- The event joins the world's life; if memory was refused, the refused opening does, and of any other act nothing.
 use Rattle.std.proofs.Common.{refl, ap, sym, ◌∙◌}
 use Rattle.c8_world.specs.declared.event.Act.TheVariants.{Open}
 use Rattle.c8_world.specs.Events.{act_of}

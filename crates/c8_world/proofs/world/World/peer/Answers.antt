@@ -1,3 +1,4 @@
+-- The lent peer has the journal of a world that was reached, so its checkpoints are true.
 use Rattle.std.proofs.Common.{arith}
 use Rattle.c8_world.proofs.TableLemmas.{lent_checked}
 use Rattle.c8_world.proofs.world.World.peer.Goals as goal

@@ -1,3 +1,4 @@
+-- However the run ended, the world has lived on, so any two moments of its life agree; without a report nothing ran.
 use Rattle.std.proofs.Common.{◌<◌, ◌^◌, refl, subst}
 use Rattle.c8_game.specs.Rules.{AreInRange}
 use Rattle.c8_world.specs.Run.{WorldValue}

@@ -1,3 +1,4 @@
+-- One more event, with its answer, turn and arming, extends the run so far; if memory was refused, the run ends there.
 use Rattle.std.proofs.Common.{◌+◌, take, ◌∙◌, arith}
 use Rattle.c8_world.proofs.LifeLemmas.{one_more, lived_on, run_next, run_out_here, lists_more, same_match}
 use Rattle.c8_world.proofs.DiskLemmas.{are_armed_next, are_armed_out}

@@ -1,3 +1,4 @@
+-- The events so far have been run, with these answers, and lead to the world that the table holds now.
 use Rattle.std.proofs.Common.{◌≡◌, ◌≤◌, ◌++◌, length, take}
 use Rattle.std.specs.Prelude.{vec_len, vec_capacity}
 use Rattle.c8_world.specs.World.{World}
