@@ -1,3 +1,4 @@
+-- Three yes mean agreement, and an honest match is never accused; begin at `YesLemmas` and `HonestLemmas`.
 pub mod RowLemmas
 pub mod GivenLemmas
 pub mod SearchLemmas

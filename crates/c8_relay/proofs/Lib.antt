@@ -1,3 +1,4 @@
+-- What a relay sends was received, between two who asked for their seats, or answers a JOIN; begin at `HonestLemmas`.
 mod BudgetLemmas
 pub mod HonestLemmas
 mod IndexLemmas

@@ -1,3 +1,4 @@
+-- A terminal that reads a painting shows its points, and what it sends is decoded; begin at `PaintingLemmas`.
 pub mod RangeLemmas
 pub mod RowLemmas
 pub mod LineLemmas

@@ -1,3 +1,4 @@
+-- In all frames before this one both players have the same rows.
 use Rattle.std.proofs.Common.{◌≡◌, ℕ, ◌<◌}
 use Rattle.c8_known.specs.Confirmed.{row}
 use Rattle.c8_audit.proofs.agreed.first_different.Given as goal

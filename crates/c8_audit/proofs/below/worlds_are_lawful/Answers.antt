@@ -1,3 +1,4 @@
+-- Four laws of c8_world are all that the laws of audits need of worlds.
 use Rattle.c8_audit.proofs.below.worlds_are_lawful.Goals as goal
 
 pub returns : goal.returns

@@ -1,3 +1,4 @@
+-- Player 1 stays, so it has confirmed at least the least count, and the rows to run are its confirmed ones.
 use Rattle.std.proofs.Common.{◌≡◌, ◌≤◌, ◌∙◌, sym, subst}
 use Rattle.c8_known.specs.Confirmed.{confirmed}
 use Rattle.c8_audit.specs.Journals.{Seen}

@@ -1,3 +1,4 @@
+-- The lesser of the count so far and of this player's, if it stays, is the least up to this player.
 use Rattle.std.proofs.Common.{ℕ, ◌+◌, Option, sym, subst}
 use Rattle.c8_audit.specs.Counts.{IsLesserBelow}
 use Rattle.c8_audit.specs.Read.{all_seen}

@@ -1,3 +1,4 @@
+-- The next confirmed row is the next frame of the serial run whose machine is hashed.
 use Rattle.std.proofs.Common.{◌∙◌, ap, sym}
 use Rattle.c8_game.specs.Rules.{joined}
 use Rattle.c8_known.specs.Confirmed.{row, rows_below}

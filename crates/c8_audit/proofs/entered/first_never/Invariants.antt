@@ -1,3 +1,4 @@
+-- In each frame before this one the player entered the input, or it is empty behind the cut.
 use Rattle.std.proofs.Common.{ℕ, ◌<◌}
 use Rattle.c8_audit.specs.Frames.{WasEntered}
 use Rattle.c8_audit.proofs.entered.first_never.Given as goal

@@ -1,3 +1,4 @@
+-- Both journals are of a game in which the player plays, so each has a list of that player's inputs.
 use Rattle.std.proofs.Common.{sym}
 use Rattle.c8_audit.specs.Read.{seen, all_seen}
 use Rattle.c8_audit.proofs.GivenLemmas.{plays_first, plays_later}

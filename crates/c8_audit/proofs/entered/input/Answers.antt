@@ -1,3 +1,4 @@
+-- In a confirmed frame the row has the player's input at the player's place.
 use Rattle.std.proofs.Common.{sym, subst, ◌≡◌, Some, slice_index_or}
 use Rattle.c8_game.specs.declared.row.Row.{Row}
 use Rattle.c8_known.specs.Known.{player_in}

@@ -1,3 +1,4 @@
+-- If no file is at fault all journals are gathered, and if no file clashed they are of one match.
 use Rattle.std.proofs.Common.{◌≡◌, ◌<◌, ◌≤◌, List, ℕ, length, sym, ap, ◌∙◌, subst, arith, Some}
 use Rattle.std.proofs.lemmas.Option.{slice_get-get_or}
 use Rattle.c8_game.specs.Rules.{Rules}

@@ -1,3 +1,4 @@
+-- Of the files so far none is at fault, and their journals, their mismatch and the empty ones are noted.
 use Rattle.c8_audit.specs.checked.Roster.{IsSorted}
 use Rattle.c8_audit.proofs.files.gather.Given as goal
 

@@ -1,3 +1,4 @@
+-- A journal at a free place is what is known of its player, and the other places keep theirs.
 use Rattle.std.proofs.Common.{◌≡◌, ◌∙◌, None, ap, sym, arith}
 use Rattle.std.specs.List.{slice_get}
 use Rattle.c8_audit.specs.Read.{named_at}

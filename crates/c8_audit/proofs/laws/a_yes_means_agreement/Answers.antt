@@ -1,3 +1,4 @@
+-- What the readings make known is what the peers of the worlds know, so each verdict speaks of the worlds.
 use Rattle.c8_audit.proofs.YesLemmas.{yes_entered, yes_true, yes_agreed, yes_result}
 use Rattle.c8_audit.proofs.laws.a_yes_means_agreement.Goals as goal
 

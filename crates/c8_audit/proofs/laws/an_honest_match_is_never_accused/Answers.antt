@@ -1,3 +1,4 @@
+-- All readings have a place in one match, so the laws about worlds make each verdict yes.
 use Rattle.c8_audit.proofs.AccusedLemmas.{honest_entered, honest_true, honest_agreed, first_journal, later_journal}
 use Rattle.c8_audit.proofs.laws.an_honest_match_is_never_accused.Goals as goal
 

@@ -1,3 +1,4 @@
+-- Honest files keep journals of one match, one a player: only memory may be missing, and each verdict is yes.
 use Rattle.c8_audit.proofs.HonestFileLemmas.{honest_gathered, honest_yes}
 use Rattle.c8_audit.proofs.laws.honest_files_are_never_accused.Goals as goal
 

@@ -1,3 +1,4 @@
+-- The second reading begins with the first exactly if no body of the first is missing or different there.
 use Rattle.std.proofs.Common.{ℕ, List, refl, sym, arith, ◌∙◌}
 use Rattle.c8_known.specs.checked.BeginsLaws.{begins_get}
 use Rattle.c8_log.specs.Slots.{kept}

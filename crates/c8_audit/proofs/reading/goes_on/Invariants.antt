@@ -1,3 +1,4 @@
+-- The bodies before this one are the same in both readings.
 use Rattle.std.proofs.Common.{◌≡◌, ℕ, ◌<◌}
 use Rattle.std.specs.List.{slice_get}
 use Rattle.c8_log.specs.Slots.{kept}

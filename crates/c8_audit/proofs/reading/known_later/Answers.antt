@@ -1,3 +1,4 @@
+-- If the second reading is no journal of that room, this is the fault of the file.
 use Rattle.std.proofs.Common.{ap, sym, ◌∙◌}
 use Rattle.c8_audit.specs.Images.{first_bytes, items_or}
 use Rattle.c8_audit.proofs.reading.known_later.Goals as goal

@@ -1,3 +1,4 @@
+-- The earlier of the least fault so far and of this player's is the least of both; four players are all.
 use Rattle.std.proofs.Common.{Option, ◌≡◌, ◌+◌, ℕ, sym, subst, arith}
 use Rattle.c8_audit.specs.Read.{all_seen}
 use Rattle.c8_audit.specs.Search.{IsLeastBelow}

@@ -1,3 +1,4 @@
+-- The fault is the least of the players with a lower number, or they have none.
 use Rattle.c8_audit.specs.Read.{all_seen}
 use Rattle.c8_audit.specs.Search.{IsLeastBelow}
 use Rattle.c8_audit.proofs.search.least_fault.Given as goal

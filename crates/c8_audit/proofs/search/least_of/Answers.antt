@@ -1,3 +1,4 @@
+-- The earlier of the least fault so far and of the one with this other player is the least of the player's.
 use Rattle.std.proofs.Common.{Option, ◌+◌, sym, subst}
 use Rattle.c8_audit.specs.Read.{all_seen}
 use Rattle.c8_audit.specs.Search.{IsLeastOf}

@@ -1,3 +1,4 @@
+-- If each of the four places has no checkpoint or a true one, all checkpoints are true.
 use Rattle.std.proofs.Common.{◌≡◌, arith}
 use Rattle.c8_audit.specs.Read.{all_seen}
 use Rattle.c8_audit.proofs.TruthLemmas.{true_at_end}

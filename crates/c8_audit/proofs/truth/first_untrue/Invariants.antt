@@ -1,3 +1,4 @@
+-- The last checkpoints of all players with a lower number are true.
 use Rattle.std.proofs.Common.{ℕ, ◌<◌, ◌≤◌}
 use Rattle.c8_audit.specs.Read.{all_seen}
 use Rattle.c8_audit.specs.Marked.{IsTrueAt}

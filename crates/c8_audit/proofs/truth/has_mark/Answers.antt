@@ -1,3 +1,4 @@
+-- A frame without a place among the kept marks has no mark that could differ.
 use Rattle.std.proofs.Common.{refl}
 use Rattle.c8_audit.proofs.truth.has_mark.Goals as goal
 

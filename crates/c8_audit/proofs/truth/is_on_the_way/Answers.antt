@@ -1,3 +1,4 @@
+-- A checkpoint is on the way exactly if its marks and its machine are those of the serial run.
 use Rattle.std.proofs.Common.{◌≡◌, ◌+◌, refl, sym, ap, ◌∙◌, subst, arith}
 use Rattle.c8_game.specs.Rules.{joined}
 use Rattle.c8_known.specs.Confirmed.{row, rows_below}

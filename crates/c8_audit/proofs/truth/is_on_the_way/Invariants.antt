@@ -1,3 +1,4 @@
+-- The machine is the serial run up to this frame, and the marks for earlier frames are that run's.
 use Rattle.std.proofs.Common.{◌≡◌}
 use Rattle.c8_known.specs.Confirmed.{rows_below}
 use Rattle.c8_machine.specs.Serial.{serial}

@@ -1,3 +1,4 @@
+-- A journal's last checkpoint is true exactly if its confirmed rows lead there.
 use Rattle.c8_digest.specs.Origin.{origin_of}
 use Rattle.c8_audit.specs.Read.{seen}
 use Rattle.c8_audit.proofs.TruthLemmas.{true_at}

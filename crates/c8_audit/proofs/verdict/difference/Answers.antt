@@ -1,3 +1,4 @@
+-- Players between whom no frame differs agree, whatever the rules of the game.
 use Rattle.std.proofs.Common.{Option, Some, None}
 use Rattle.std.specs.Prelude.{IfNone}
 use Rattle.c8_game.specs.Rules.{Rules}

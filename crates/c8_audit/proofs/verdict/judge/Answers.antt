@@ -1,3 +1,4 @@
+-- If no row differs the players agree by whatever rules, and so by those of this game.
 use Rattle.std.proofs.Common.{Option, Some, None, MatchOption}
 use Rattle.std.specs.Prelude.{IfNone, IfSome}
 use Rattle.c8_game.specs.Rules.{Rules}

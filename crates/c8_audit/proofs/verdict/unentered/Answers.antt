@@ -1,3 +1,4 @@
+-- Without a fault all confirmed inputs were entered, and the least fault is the first that was not.
 use Rattle.std.proofs.Common.{Option, Some, None, MatchOption}
 use Rattle.c8_game.specs.Rules.{Rules}
 use Rattle.c8_audit.specs.Journals.{AllSeen, AreOfGame}

@@ -1,3 +1,4 @@
+-- Missing files, a refused game or refused readings are never done, and files whose audit is done tell one story.
 use Rattle.std.proofs.Common.{inl}
 use Rattle.c8_audit_command.proofs.OutcomeLemmas.{never_done, told_unjudged, told_judged, told_no_game, unjudged_by}
 use Rattle.c8_audit_command.specs.declared.error.AuditFault.TheVariants.{Game}

@@ -1,3 +1,4 @@
+-- The first no decides the status, and without one the lines of the three yes were written.
 use Rattle.std.proofs.Common.{sym, ◌∙◌, refl, Ok}
 use Rattle.c8_audit.specs.Read.{all_seen}
 use Rattle.c8_audit_command.proofs.OutcomeLemmas.{told_no, never_done, tells_yes}

@@ -1,3 +1,4 @@
+-- If all checkpoints are true the line is yes, whatever record a no would name.
 use Rattle.c8_audit_command.proofs.PrintLemmas.{true_checks}
 use Rattle.c8_audit_command.proofs.report.write_checks.Goals as goal
 

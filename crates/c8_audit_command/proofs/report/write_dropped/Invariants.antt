@@ -1,3 +1,4 @@
+-- What was written of the players before this one, if they were dropped, was only added.
 use Rattle.c8_keys.specs.Report.{Grows}
 use Rattle.c8_audit_command.proofs.report.write_dropped.Given as goal
 

@@ -1,3 +1,4 @@
+-- The two digits of one more byte are added behind the others.
 use Rattle.std.proofs.Common.{false}
 use Rattle.std.specs.Fmt.{digits_output, padded_integral, shown_prefix, radix_prefix}
 use Rattle.std.specs.Io.KnownBytes.{Appends}

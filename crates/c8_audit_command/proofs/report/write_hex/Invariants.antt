@@ -1,3 +1,4 @@
+-- The digits of the bytes so far were only added.
 use Rattle.c8_keys.specs.Report.{Grows}
 use Rattle.c8_audit_command.proofs.report.write_hex.Given as goal
 

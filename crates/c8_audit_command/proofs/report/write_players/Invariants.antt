@@ -1,3 +1,4 @@
+-- The lines of the journals before this player's were only added.
 use Rattle.c8_keys.specs.Report.{Grows}
 use Rattle.c8_audit_command.proofs.report.write_players.Given as goal
 

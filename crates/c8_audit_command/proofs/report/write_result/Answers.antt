@@ -1,3 +1,4 @@
+-- The line of the result is its count, the digits of the digest and a line feed, one behind another.
 use Rattle.c8_audit_command.proofs.PrintLemmas.{grows_by, grows_last}
 use Rattle.c8_audit_command.proofs.report.write_result.Goals as goal
 

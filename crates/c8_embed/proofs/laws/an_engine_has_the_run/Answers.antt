@@ -1,3 +1,4 @@
+-- The rows before a step's first frame are best rows already, so to go back there and run the rest is one run.
 use Rattle.std.proofs.Common.{◌≡◌, ◌+◌, List, length, Some, ap, ◌∙◌, arith}
 use Rattle.c8_game.specs.declared.row.Row.{Row}
 use Rattle.c8_embed.specs.Steps.{run}

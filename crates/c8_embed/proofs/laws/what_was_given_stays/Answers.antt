@@ -1,3 +1,4 @@
+-- Confirmed frames only grow, and their rows never change, whatever call the peer makes.
 use Rattle.std.proofs.Common.{◌≡◌, ◌≤◌, ℕ, [], ◌∷◌, Some, refl, sym, subst}
 use Rattle.c8_game.specs.Rules.{Rules}
 use Rattle.c8_known.specs.Known.{known_of}

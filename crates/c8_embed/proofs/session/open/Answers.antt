@@ -1,3 +1,4 @@
+-- Behind a sealer the datagram is what the sealer takes of the bytes, or its reason to take none.
 use Rattle.std.proofs.Common.{Some, Ok, Err, Option, subst, sym, refl}
 use Rattle.c8_sealed.specs.Given.{GivenValue}
 use Rattle.c8_sealed.specs.Sealer.{SealerValue}

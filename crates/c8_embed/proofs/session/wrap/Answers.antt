@@ -1,3 +1,4 @@
+-- Behind a sealer the packet is the sealed datagram, and a sealer that refuses stays as it was.
 use Rattle.std.proofs.Common.{◌∙◌, Some, Option, subst, sym, ap, refl}
 use Rattle.c8_sealed.specs.Sealer.{SealerValue}
 use Rattle.c8_embed.specs.Session.{IsWrapped}

@@ -1,3 +1,4 @@
+-- The player found has the number that C gave, so the peer drops just that player.
 use Rattle.std.proofs.Common.{◌≡◌, ℕ, Some, subst, refl}
 use Rattle.c8_peer.specs.Peer.{IsAnswered}
 use Rattle.c8_peer.specs.State.{Leave, Left}

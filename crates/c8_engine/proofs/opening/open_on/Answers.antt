@@ -1,3 +1,4 @@
+-- For any text that spells the game the session has the engine that was opened, without rows, test or secret.
 use Rattle.std.proofs.Common.{◌≡◌, ◌∙◌, Some, ap, sym, subst}
 use Rattle.c8_embed.specs.Session.{EngineOf}
 use Rattle.c8_embed.specs.declared.session.Session.{Session}

@@ -1,3 +1,4 @@
+-- The game that stays in memory is the one that the text spells, and its player has the number that C gave.
 use Rattle.std.proofs.Common.{◌≡◌, ◌∙◌, ℕ, subst, sym}
 use Rattle.c8_game.specs.Rules.{Rules}
 use Rattle.c8_game.specs.GameText.{Spells}

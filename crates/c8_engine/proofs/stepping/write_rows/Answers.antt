@@ -1,3 +1,4 @@
+-- A row is four words, so the next row goes into the four places behind those that are written.
 use Rattle.std.proofs.Common.{◌≡◌, ◌+◌, ◌*◌, ◌-◌, arith, ◌∙◌}
 use Rattle.c8_engine.proofs.WordLemmas.{written, long_next}
 use Rattle.c8_engine.proofs.stepping.write_rows.Goals as goal

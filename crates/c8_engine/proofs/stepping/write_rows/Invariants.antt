@@ -1,3 +1,4 @@
+-- The rows so far are the first words, four each, and the words behind them are as they were.
 use Rattle.std.proofs.Common.{◌≡◌, ◌*◌, ◌++◌, length, take, drop}
 use Rattle.c8_engine.specs.Calls.{words_of}
 use Rattle.c8_engine.proofs.stepping.write_rows.Given as goal

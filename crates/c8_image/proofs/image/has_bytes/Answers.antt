@@ -1,3 +1,4 @@
+-- A block that is equal goes on with the bytes, so after all blocks the reader has given just these.
 use Rattle.std.proofs.Common.{◌+◌, ◌-◌, ◌*◌, Ok, ap, ◌∙◌, arith}
 use Rattle.std.proofs.lemmas.Grind.{common_steps}
 use Rattle.c8_image.proofs.ImageLemmas.{consumes_more}

@@ -1,3 +1,4 @@
+-- The reader gave the bytes up to this block, and there is memory for the block.
 use Rattle.std.proofs.Common.{◌≡◌, ◌*◌, length, take}
 use Rattle.std.specs.Io.KnownBytes.{Consumes}
 use Rattle.c8_image.proofs.image.has_bytes.Given as goal

@@ -1,3 +1,4 @@
+-- A read that ends before its limit has read everything: the image is all that the reader had.
 use Rattle.std.proofs.Common.{◌≡◌, ◌<◌, ℕ, List, length, take, Option, None, Some, IfSome, option_map, ap, ◌∙◌, arith}
 use Rattle.std.proofs.lemmas.List.{take_all, length-take}
 use Rattle.c8_image.proofs.image.image_of.Goals as goal

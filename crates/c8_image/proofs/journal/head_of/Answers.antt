@@ -1,3 +1,4 @@
+-- A first record of another kind is no HEAD, and then the journal begins with none.
 use Rattle.std.proofs.Common.{inl, refl}
 use Rattle.c8_log.specs.Slots.{kept}
 use Rattle.c8_record.specs.Lent.{value_of}

@@ -1,3 +1,4 @@
+-- The HEAD fits the game, so its records are replayed for the right player and room, up to one that may not stand.
 use Rattle.std.proofs.Common.{◌≡◌, ◌∙◌, ℕ, List, ap, arith, inr, sym, subst}
 use Rattle.c8_game.specs.Rules.{id_of}
 use Rattle.c8_record.specs.Replay.{AreJournalBodies, BeginsWithHead}

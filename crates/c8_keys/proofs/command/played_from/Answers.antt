@@ -1,3 +1,4 @@
+-- Why the game was not read, or the first fault of its key lines, is the answer at once.
 use Rattle.std.proofs.Common.{rules}
 use Rattle.c8_keys.proofs.command.played_from.Goals as goal
 

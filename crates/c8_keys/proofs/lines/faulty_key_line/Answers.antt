@@ -1,3 +1,4 @@
+-- The place found is that of the first line beyond the game's frames, or of the first that is no key line.
 use Rattle.std.proofs.Common.{◌≡◌, [], ◌∷◌, ◌++◌, true, false, arith, ap, sym, ◌∙◌, length-append}
 use Rattle.std.proofs.lemmas.List.{append_assoc}
 use Rattle.c8_game.specs.checked.FaultLaws.{faultless_more}

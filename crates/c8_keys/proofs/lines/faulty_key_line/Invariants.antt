@@ -1,3 +1,4 @@
+-- The lines before this place are key lines of the game, and no more than its frames.
 use Rattle.std.proofs.Common.{◌≡◌, ◌≤◌, ◌++◌, ℕ, List, length}
 use Rattle.std.specs.Str.Lines.{lines}
 use Rattle.c8_game.specs.Faults.{AreFaultless}

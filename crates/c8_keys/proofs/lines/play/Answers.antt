@@ -1,3 +1,4 @@
+-- A key line is one more row of the serial run, and a line too many or one that spells no row is the first fault.
 use Rattle.std.proofs.Common.{◌≡◌, [], ◌∷◌, ◌++◌, true, false, arith, ap, sym, ◌∙◌, length-append, map}
 use Rattle.std.proofs.lemmas.List.{append_assoc, map-append}
 use Rattle.c8_game.specs.checked.FaultLaws.{faultless_more}

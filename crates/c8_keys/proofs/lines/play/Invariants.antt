@@ -1,3 +1,4 @@
+-- The machine is the serial run of the rows that the lines so far spell, one a frame.
 use Rattle.std.proofs.Common.{◌≡◌, ◌≤◌, ◌++◌, ℕ, List, length, map}
 use Rattle.std.specs.Str.Lines.{lines}
 use Rattle.c8_game.specs.Faults.{AreFaultless}

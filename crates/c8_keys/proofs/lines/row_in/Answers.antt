@@ -1,3 +1,4 @@
+-- A place that spells no key set makes the line no key line; any other adds the set of its player.
 use Rattle.std.proofs.Common.{arith, ap, ◌∙◌, slice_set}
 use Rattle.c8_keys.specs.KeyLines.{keys_at}
 use Rattle.c8_keys.proofs.KeyLineLemmas.{no_key_line, one_more_set, next_set}

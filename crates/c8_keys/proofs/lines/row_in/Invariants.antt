@@ -1,3 +1,4 @@
+-- The places so far spell the key sets of their players, and the other sets are still empty.
 use Rattle.std.proofs.Common.{◌≡◌, ◌-◌, ◌++◌, map, replicate, true}
 use Rattle.std.specs.List.{list_all, range_with_len}
 use Rattle.c8_keys.specs.KeyLines.{are_keys_at, keys_at}

@@ -1,3 +1,4 @@
+-- Sixty-four marks, one for each column, and the line feed behind them are the text of the row.
 use Rattle.std.proofs.Common.{arith}
 use Rattle.c8_screen.specs.Points.{points_of}
 use Rattle.c8_keys.proofs.ReportLemmas.{row_is}

@@ -1,3 +1,4 @@
+-- The columns so far have their marks, and the line feed stays at the end.
 use Rattle.std.proofs.Common.{◌≡◌, ◌<◌, ℕ, get_or, length}
 use Rattle.c8_screen.specs.Points.{points_of}
 use Rattle.c8_keys.specs.Report.{mark_of}

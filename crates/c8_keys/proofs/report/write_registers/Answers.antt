@@ -1,3 +1,4 @@
+-- A word, each register in hexadecimal, and a line feed only add text: the line of the registers.
 use Rattle.std.proofs.Common.{codes}
 use Rattle.c8_keys.proofs.ReportLemmas.{grows_by, grows_hex, grows_then, grows_last}
 use Rattle.c8_keys.proofs.report.write_registers.Goals as goal

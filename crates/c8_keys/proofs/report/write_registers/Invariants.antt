@@ -1,3 +1,4 @@
+-- Up to this register text was only added.
 use Rattle.c8_keys.specs.Report.{Grows}
 use Rattle.c8_keys.proofs.report.write_registers.Given as goal
 

@@ -1,3 +1,4 @@
+-- The number of frames comes first, then the lines of the machine's parts, and its screen comes last.
 use Rattle.c8_screen.specs.Points.{points_of}
 use Rattle.c8_keys.proofs.ReportLemmas.{reports}
 use Rattle.c8_keys.proofs.report.write_report.Goals as goal

@@ -1,3 +1,4 @@
+-- Row after row of the screen is added, from the top, until all 32 are written.
 use Rattle.c8_screen.specs.Points.{points_of}
 use Rattle.c8_keys.proofs.ReportLemmas.{rows_more, rows_all}
 use Rattle.c8_keys.proofs.report.write_screen.Goals as goal

@@ -1,3 +1,4 @@
+-- The text of the screen's rows above this one was added.
 use Rattle.std.specs.List.{flat_map, range_with_len}
 use Rattle.std.specs.Io.KnownBytes.{Appends}
 use Rattle.c8_screen.specs.Points.{points_of}

@@ -1,3 +1,4 @@
+-- Up to this place of the stack text was only added.
 use Rattle.c8_keys.specs.Report.{Grows}
 use Rattle.c8_keys.proofs.report.write_stack.Given as goal
 

@@ -1,3 +1,4 @@
+-- The place found is that of the first line that is not four digits: all lines before it are.
 use Rattle.std.proofs.Common.{◌≡◌, [], ◌∷◌, ◌++◌, true, false, refl, arith, ap, sym, ◌∙◌, length, length-append}
 use Rattle.std.proofs.lemmas.List.{append_assoc}
 use Rattle.c8_game.specs.checked.FaultLaws.{faultless_more, first_placed}

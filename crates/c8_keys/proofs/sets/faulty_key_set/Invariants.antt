@@ -1,3 +1,4 @@
+-- The lines before this place are four hexadecimal digits each.
 use Rattle.std.proofs.Common.{◌≡◌, ◌++◌, ℕ, List, length}
 use Rattle.std.specs.Str.Lines.{lines}
 use Rattle.c8_game.specs.Faults.{AreFaultless}

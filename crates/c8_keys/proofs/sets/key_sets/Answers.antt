@@ -1,3 +1,4 @@
+-- A line of four digits adds the key set that they spell to those of the lines before it.
 use Rattle.std.proofs.Common.{◌≡◌, [], ◌∷◌, ◌++◌, ◌&&◌, true, ap, sym, ◌∙◌, map}
 use Rattle.std.proofs.lemmas.List.{append_assoc, map-append}
 use Rattle.std.proofs.lemmas.List.Folds.{list_all-append}

@@ -1,3 +1,4 @@
+-- The sets taken are those that the lines so far spell, one a line.
 use Rattle.std.proofs.Common.{◌≡◌, ◌++◌, ℕ, List, true, map}
 use Rattle.std.specs.List.{list_all}
 use Rattle.std.specs.Str.Lines.{lines}

@@ -1,3 +1,4 @@
+-- Confirmed rows only grow and a machine's start stays, so the pen may publish what each turn confirmed.
 use Rattle.std.proofs.Common.{◌≡◌, ◌+◌, refl, length, List, ap, subst, sym, ◌∙◌, arith}
 use Rattle.std.proofs.lemmas.Result.{err_from_is_err_and}
 use Rattle.c8_game.specs.declared.row.Row.{Row}

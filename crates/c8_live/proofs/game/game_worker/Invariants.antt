@@ -1,3 +1,4 @@
+-- So many turns were made, the pen shows what the peer has confirmed, and its machine began where it did at first.
 use Rattle.std.specs.Prelude.{◌≡◌, length}
 use Rattle.c8_board.specs.Tokens.{Begins}
 use Rattle.c8_known.specs.Confirmed.{confirmed_rows}

@@ -1,3 +1,4 @@
+-- A peer's machine is the run of its confirmed rows from where it began, and a start can name that place.
 use Rattle.std.proofs.Common.{[], refl, sym, ap, subst, ◌∙◌, arith}
 use Rattle.std.proofs.lemmas.List.{append-nil}
 use Rattle.std.proofs.lemmas.List.FromFn.{length-map-range_with_len}

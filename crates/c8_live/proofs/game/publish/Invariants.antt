@@ -1,3 +1,4 @@
+-- What is shown is what the peer has confirmed.
 use Rattle.c8_known.specs.Confirmed.{confirmed_rows}
 use Rattle.c8_peer.specs.Peer.{known_by}
 use Rattle.c8_live.proofs.game.publish.Given as goal

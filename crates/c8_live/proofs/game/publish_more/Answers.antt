@@ -1,3 +1,4 @@
+-- Confirmed rows that begin with the published ones and are no more are the same: nothing is left to publish.
 use Rattle.std.proofs.Common.{List, sym, ap, ◌∙◌}
 use Rattle.std.proofs.lemmas.List.FromFn.{length-map-range_with_len}
 use Rattle.c8_game.specs.declared.row.Row.{Row}

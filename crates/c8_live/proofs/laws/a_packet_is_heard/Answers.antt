@@ -1,3 +1,4 @@
+-- A packet is heard by no call, or by one delivery of what its bytes spell.
 use Rattle.std.proofs.Common.{inl, Ok, refl}
 use Rattle.c8_peer.specs.State.{Deliver}
 use Rattle.c8_live.specs.Turns.{Hears}

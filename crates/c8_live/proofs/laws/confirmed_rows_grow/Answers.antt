@@ -1,3 +1,4 @@
+-- Calls only lengthen a sound peer's journal, and a longer journal still confirms the old rows.
 use Rattle.std.proofs.Common.{List, map, false, subst}
 use Rattle.c8_known.specs.Journal.{Record}
 use Rattle.c8_record.specs.Allowed.{IsJournal}

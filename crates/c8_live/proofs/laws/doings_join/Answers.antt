@@ -1,3 +1,4 @@
+-- No call, one call, and one run after another: runs of one kind, of which the middle of a turn consists.
 use Rattle.std.proofs.Common.{refl}
 use Rattle.c8_live.proofs.TurnLemmas.{done_still, done_once, done_joined}
 use Rattle.c8_live.proofs.laws.doings_join.Goals as goal

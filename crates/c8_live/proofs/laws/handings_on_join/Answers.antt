@@ -1,3 +1,4 @@
+-- What a queue passes on is a part of what came, in order, packet by packet: `net_worker` rests on this.
 use Rattle.c8_live.proofs.PartLemmas.{handed_none, handed_one, handed_joined}
 use Rattle.c8_live.proofs.laws.handings_on_join.Goals as goal
 

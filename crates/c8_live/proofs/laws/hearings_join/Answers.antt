@@ -1,3 +1,4 @@
+-- Packets heard one after another are heard together, and their bounds add up.
 use Rattle.c8_live.proofs.TurnLemmas.{heard_none, heard_given, heard_joined}
 use Rattle.c8_live.proofs.laws.hearings_join.Goals as goal
 

@@ -1,3 +1,4 @@
+-- Only an opening of the journal sets where a machine begins: calls leave it there.
 use Rattle.c8_live.proofs.RunLemmas.{begun_still}
 use Rattle.c8_live.proofs.laws.machines_begin_where_they_did.Goals as goal
 

@@ -1,3 +1,4 @@
+-- Runs of one peer make one run, and what ends a session after the second ends it after both.
 use Rattle.c8_live.proofs.RunLemmas.{still, joined, once, ended}
 use Rattle.c8_live.proofs.laws.peers_run_on.Goals as goal
 

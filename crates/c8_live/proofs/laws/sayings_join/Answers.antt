@@ -1,3 +1,4 @@
+-- Saying changes no peer, so what a wire took of several sayings is what it took of each, in order.
 use Rattle.c8_live.proofs.TurnLemmas.{spoken_still, spoken_once, spoken_joined}
 use Rattle.c8_live.proofs.laws.sayings_join.Goals as goal
 

@@ -1,3 +1,4 @@
+-- A true checkpoint lies on the serial run, so the run from there is the serial one; openings and calls keep it true.
 use Rattle.std.proofs.Common.{ℕ, ◌^◌, ◌<◌, ◌≤◌, map, subst, sym, ap}
 use Rattle.c8_game.specs.Rules.{Rules, AreInRange}
 use Rattle.c8_record.specs.Body.{records_of}

@@ -1,3 +1,4 @@
+-- Turns count up from none, one after another: `game_worker` says by this how many it made.
 use Rattle.std.proofs.Common.{refl}
 use Rattle.c8_live.proofs.TurnLemmas.{turns_more}
 use Rattle.c8_live.proofs.laws.turns_join.Goals as goal

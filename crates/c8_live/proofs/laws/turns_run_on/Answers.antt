@@ -1,3 +1,4 @@
+-- Hearing, ticking, dropping, cutting and saving are calls, so a turn is one run of its peer.
 use Rattle.c8_live.proofs.TurnLemmas.{turn_ran}
 use Rattle.c8_live.proofs.laws.turns_run_on.Goals as goal
 

@@ -1,3 +1,4 @@
+-- The outbox's packets went to the wire and the wire's into the inbox, each in order, some of them lost.
 use Rattle.std.proofs.Common.{◌≡◌}
 use Rattle.c8_live.specs.Parts.{IsHandedOn}
 use Rattle.c8_live.proofs.net.net_worker.Given as goal

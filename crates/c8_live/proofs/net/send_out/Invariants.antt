@@ -1,3 +1,4 @@
+-- The wire took some of the packets that left the outbox, in order, and gave none.
 use Rattle.std.proofs.Common.{◌≡◌}
 use Rattle.c8_live.specs.Parts.{IsHandedOn}
 use Rattle.c8_live.proofs.net.send_out.Given as goal

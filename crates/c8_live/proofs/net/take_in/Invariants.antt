@@ -1,3 +1,4 @@
+-- The inbox took some of the packets that the wire gave, in order, and nothing was sent.
 use Rattle.std.proofs.Common.{◌≡◌}
 use Rattle.c8_live.specs.Parts.{IsHandedOn}
 use Rattle.c8_live.proofs.net.take_in.Given as goal

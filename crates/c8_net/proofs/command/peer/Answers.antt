@@ -1,3 +1,4 @@
+-- What is told is the fault that came before the journal was opened, or the match in threads on that journal.
 use Rattle.std.proofs.Common.{inl}
 use Rattle.c8_net.proofs.OutcomeLemmas.{answers_unbegun, answers_played}
 use Rattle.c8_net.proofs.command.peer.Goals as goal

@@ -1,3 +1,4 @@
+-- A mistake in the options is never done, and `peer` is done only with the report of a match.
 use Rattle.c8_net.proofs.OutcomeLemmas.{ends_match, ends_by_mistake}
 use Rattle.c8_net.proofs.command.peer_given.Goals as goal
 

@@ -1,3 +1,4 @@
+-- A refused command line is never done, and a performance is done only with the report of its match.
 use Rattle.c8_net.proofs.OutcomeLemmas.{ends_match, ends_by_mistake}
 use Rattle.c8_net.proofs.command.perform_given.Goals as goal
 

@@ -1,3 +1,4 @@
+-- The peer ran on from its opening, so its machine is the run of its confirmed rows; an error says why it stopped.
 use Rattle.std.proofs.Common.{refl}
 use Rattle.c8_net.proofs.PlayLemmas.{ended_failed, has_played}
 use Rattle.c8_net.proofs.play.outcome_of.Goals as goal

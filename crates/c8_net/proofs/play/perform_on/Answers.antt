@@ -1,3 +1,4 @@
+-- A refused opening, a performance that cannot begin and a lost journal are all failures of the match on this journal.
 use Rattle.c8_net.proofs.PlayLemmas.{not_opened, opened_still, unopened_failed, lost_failed}
 use Rattle.c8_net.proofs.play.perform_on.Goals as goal
 

@@ -1,3 +1,4 @@
+-- Without memory, socket or thread the journal was only opened; a session that ended has its outcome.
 use Rattle.std.proofs.Common.{◌∙◌}
 use Rattle.c8_net.specs.declared.error.Unopened.TheVariants as unopened
 use Rattle.c8_net.proofs.PlayLemmas.{not_opened, opened_still, unopened_failed}

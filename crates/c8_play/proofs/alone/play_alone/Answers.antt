@@ -1,3 +1,4 @@
+-- A frame gives all four players the held keys, lengthens the serial run by that row, and paints its screen.
 use Rattle.std.proofs.Common.{◌≡◌, [], ◌∷◌, ◌++◌, ap, inl, subst, ◌∙◌, arith, refl, length-append, replicate}
 use Rattle.c8_game.specs.declared.row.Row.{Row}
 use Rattle.c8_machine.specs.State.{State}

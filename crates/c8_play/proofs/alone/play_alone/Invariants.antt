@@ -1,3 +1,4 @@
+-- The machine is the serial run of one row a frame, each of the keys that were held in that frame.
 use Rattle.std.specs.Prelude.{◌≡◌, ◌≤◌, List, length}
 use Rattle.c8_game.specs.declared.row.Row.{Row}
 use Rattle.c8_machine.specs.State.{state}

@@ -1,3 +1,4 @@
+-- The next byte comes behind those that were added, so the whole list grows by the given bytes.
 use Rattle.std.proofs.Common.{◌++◌, ◌∷◌, [], ℕ, List, take, get_or, ap, sym, ◌∙◌, append_assoc}
 use Rattle.c8_play.proofs.TypingLemmas.{take_next}
 use Rattle.c8_play.proofs.exchange.extend.Goals as goal

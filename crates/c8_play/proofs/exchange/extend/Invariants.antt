@@ -1,3 +1,4 @@
+-- The list is the old one and the given bytes up to here.
 use Rattle.std.proofs.Common.{◌≡◌, ◌++◌, take}
 use Rattle.c8_play.proofs.exchange.extend.Given as goal
 

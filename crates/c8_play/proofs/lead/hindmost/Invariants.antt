@@ -1,3 +1,4 @@
+-- Found is the one with the fewest inputs of the uncut others with a lower number, if there is one.
 use Rattle.c8_play.specs.checked.Hindmost.{FoundBelow}
 use Rattle.c8_play.proofs.lead.hindmost.Given as goal
 

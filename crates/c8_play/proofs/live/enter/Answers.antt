@@ -1,3 +1,4 @@
+-- A turn enters the held keys or leaves out the tick, and the lead is counted by whether the peer took them.
 use Rattle.std.proofs.Common.{◌≡◌, true, false, Bool, Some, None, inl, subst, refl, ◌∙◌}
 use Rattle.c8_live.specs.Entered.{HasHandedIn}
 use Rattle.c8_play.specs.Desk.{typing}

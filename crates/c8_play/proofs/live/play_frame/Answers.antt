@@ -1,3 +1,4 @@
+-- A frame is its turn and then its picture, and the picture leaves the peer as the turn left it.
 use Rattle.c8_play.proofs.live.play_frame.Goals as goal
 
 pub returns-clause-frame : goal.returns-clause-frame

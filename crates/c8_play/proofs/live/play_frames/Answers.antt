@@ -1,3 +1,4 @@
+-- A wait and a frame more: the peer runs on, and the lead is counted on from the frame before.
 use Rattle.std.proofs.Common.{ℕ, ◌+◌, arith, refl, ap, subst, ◌∙◌}
 use Rattle.std.proofs.lemmas.Result.{err_from_is_err_and}
 use Rattle.c8_play.specs.Frames.{AreFrames}

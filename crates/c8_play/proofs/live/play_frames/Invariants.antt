@@ -1,3 +1,4 @@
+-- One frame a turn so far, each after a wait, all with the window of the game and the patience of the rate.
 use Rattle.std.specs.Prelude.{◌≡◌, ◌≤◌}
 use Rattle.c8_live.specs.Runs.{HasRunOn}
 use Rattle.c8_play.specs.Frames.{AreFrames}

@@ -1,3 +1,4 @@
+-- What is painted is the screen of the run of the best rows; what happens before writes nothing at the desk.
 use Rattle.std.proofs.Common.{◌≡◌, ap, subst, ◌∙◌}
 use Rattle.c8_machine.specs.State.{State}
 use Rattle.c8_screen.specs.Points.{Points, points_of}

@@ -1,3 +1,4 @@
+-- One more round of listening hears more packets, and at the desk nothing is read or written.
 use Rattle.std.proofs.lemmas.Result.{err_from_is_err_and}
 use Rattle.c8_transport.specs.Wire.{most_packets}
 use Rattle.c8_play.proofs.FrameLemmas.{waited_more}

@@ -1,3 +1,4 @@
+-- A program that is listed has a byte and not too many, so no fault refuses it.
 use Rattle.std.proofs.Common.{◌≡◌, ◌∙◌, ◌==◌, false, length, sym, Ok, refl, nat_lt}
 use Rattle.std.proofs.lemmas.Bool.{le-ltb}
 use Rattle.c8_game.specs.Rules.{most_program}

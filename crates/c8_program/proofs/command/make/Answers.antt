@@ -1,3 +1,4 @@
+-- What is added is the text of the game that is asked for, which has no fault.
 use Rattle.std.proofs.Common.{Ok, refl}
 use Rattle.c8_program.proofs.command.make.Goals as goal
 

@@ -1,3 +1,4 @@
+-- One more hexadecimal digit adds the key that it names and no other.
 use Rattle.std.proofs.Common.{◌≡◌, ℕ, ◌+◌, ◌<◌, Bool, true, List, [], ◌∷◌, length, take, get_or, Some, sym, ◌∙◌, refl, ap, add-one}
 use Rattle.std.specs.Prelude.{is_some}
 use Rattle.std.specs.List.{list_all}

@@ -1,3 +1,4 @@
+-- The digits so far are hexadecimal, and the set has exactly the keys that they name.
 use Rattle.std.proofs.Common.{◌≡◌, true, take}
 use Rattle.std.specs.List.{list_all}
 use Rattle.hex.specs.Hex.{is_hex_digit}

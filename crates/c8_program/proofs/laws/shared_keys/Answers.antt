@@ -1,3 +1,4 @@
+-- Two sets meet exactly if they share a key, and each two of the four players are compared.
 use Rattle.std.proofs.Common.{refl}
 use Rattle.c8_program.specs.Asked.{masks_of}
 use Rattle.c8_program.proofs.KeyLemmas.{shared_found, shared_told}

@@ -1,3 +1,4 @@
+-- The next line is the one of the next field, with its number in the game that is asked for.
 use Rattle.std.proofs.Common.{refl, []}
 use Rattle.c8_program.specs.Asked.{rules_of}
 use Rattle.c8_program.proofs.FieldLemmas.{one_more_field}

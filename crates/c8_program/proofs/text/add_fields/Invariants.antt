@@ -1,3 +1,4 @@
+-- The lines of the fields so far were added, in the order of a game text.
 use Rattle.std.proofs.Common.{◌≡◌, ◌++◌, [], take}
 use Rattle.std.specs.Prelude.{flat_map}
 use Rattle.c8_game.specs.Fields.{fields}

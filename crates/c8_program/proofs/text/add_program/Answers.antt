@@ -1,3 +1,4 @@
+-- A line of code takes the first bytes of what is left, at most 32, and is never empty.
 use Rattle.std.proofs.Common.{sym, ◌∙◌, ◌<◌, ap, length, take, arith}
 use Rattle.std.proofs.lemmas.Bool.{eqb-false}
 use Rattle.hex.specs.Hex.{encode_lower}

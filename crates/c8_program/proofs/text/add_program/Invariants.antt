@@ -1,3 +1,4 @@
+-- The lines of code so far spell the program but for the rest, which gets shorter with each line.
 use Rattle.std.proofs.Common.{length}
 use Rattle.c8_program.proofs.BlockLemmas.{IsWritten}
 use Rattle.c8_program.proofs.text.add_program.Given as goal

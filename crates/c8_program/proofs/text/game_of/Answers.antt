@@ -1,3 +1,4 @@
+-- The text spells the game that is asked for, so it is read as that game, or memory runs out.
 use Rattle.std.proofs.Common.{inl, inr}
 use Rattle.std.proofs.lemmas.Bool.{both_ways}
 use Rattle.c8_program.specs.Asked.{rules_of}

@@ -1,3 +1,4 @@
+-- The lines of all fields and then those of the code spell the game, if no fault refuses it.
 use Rattle.std.proofs.Common.{sym, ◌∙◌, ◌++◌, ap, []}
 use Rattle.c8_program.specs.Asked.{rules_of}
 use Rattle.c8_program.specs.checked.Blocks.{fields_text}

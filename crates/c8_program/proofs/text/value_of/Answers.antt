@@ -1,3 +1,4 @@
+-- The keys of a player are four hexadecimal digits, and every other value is a decimal.
 use Rattle.std.proofs.Common.{◌≡◌, ◌∙◌, ℕ, true, false, sym, refl, ap}
 use Rattle.std.specs.Prelude.{decimal}
 use Rattle.std.specs.Int.{to_be_bytes, w16}

@@ -1,3 +1,4 @@
+-- A seat that is freed changes nothing of what was received and sent, so the relay stays honest.
 use Rattle.c8_relay.proofs.HonestLemmas.{fewer_seats}
 use Rattle.c8_relay.proofs.turning.begin.Goals as goal
 

@@ -1,3 +1,4 @@
+-- For each packet received at most one goes out: the same between two who asked, or a shorter answer to a JOIN.
 use Rattle.std.proofs.Common.{◌≡◌, rules, length}
 use Rattle.c8_relay.specs.Honest.{IsHonest}
 use Rattle.c8_relay.proofs.HonestLemmas.{after_forward, after_answer, after_nothing}

@@ -1,3 +1,4 @@
+-- After each packet of the batch the relay is still honest.
 use Rattle.c8_relay.specs.Honest.{IsHonest}
 use Rattle.c8_relay_udp.proofs.serving.batch.Given as goal
 

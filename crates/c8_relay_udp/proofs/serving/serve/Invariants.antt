@@ -1,3 +1,4 @@
+-- Between two batches the relay is honest by all that its socket has passed, and the loop can go on.
 use Rattle.c8_relay.specs.Honest.{IsHonest}
 use Rattle.c8_relay_udp.proofs.serving.serve.Given as goal
 

@@ -1,3 +1,4 @@
+-- Each call writes one set of the row and leaves one set fewer to write.
 use Rattle.std.proofs.Common.{length}
 use Rattle.c8_replay.proofs.key_text.+add_line.Given as goal
 

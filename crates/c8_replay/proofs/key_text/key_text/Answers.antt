@@ -1,3 +1,4 @@
+-- The sets of a known row have sixteen keys, so its line is a key line that spells it.
 use Rattle.std.proofs.Common.{◌≡◌, ◌++◌, ◌∷◌, [], ℕ, List, sym, subst, ap, ◌∙◌, arith}
 use Rattle.c8_known.specs.Confirmed.{row, rows_below}
 use Rattle.c8_replay.specs.KeyText.{line_of, SpellRows}

@@ -1,3 +1,4 @@
+-- The text is the lines of the rows before this frame, and each of these rows has a line that spells it.
 use Rattle.std.proofs.Common.{◌≡◌}
 use Rattle.std.specs.List.{All}
 use Rattle.c8_known.specs.Confirmed.{rows_below}

@@ -1,3 +1,4 @@
+-- Each picture is one more confirmed row of the serial run, and after the last one all rows were run.
 use Rattle.std.proofs.Common.{◌≡◌, ◌∙◌, ap, sym, arith}
 use Rattle.c8_game.specs.Rules.{joined}
 use Rattle.c8_known.specs.Confirmed.{row, rows_below}

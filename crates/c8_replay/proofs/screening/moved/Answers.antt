@@ -1,3 +1,4 @@
+-- To go forth, the rows between the two frames lengthen the serial run that is shown.
 use Rattle.std.proofs.Common.{◌≡◌, ◌∙◌, ap, sym, arith}
 use Rattle.c8_game.specs.Rules.{joined}
 use Rattle.c8_known.specs.Confirmed.{row, rows_below}

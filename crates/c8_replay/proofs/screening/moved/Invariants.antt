@@ -1,3 +1,4 @@
+-- On the way to the later frame the machine is the serial run of the rows before this one.
 use Rattle.std.proofs.Common.{◌≡◌}
 use Rattle.c8_known.specs.Confirmed.{rows_below}
 use Rattle.c8_machine.specs.Serial.{serial}

@@ -1,3 +1,4 @@
+-- Wherever a key leads, the next frame is one of those to show, with the machine of its serial run.
 use Rattle.std.proofs.Common.{ℕ, sym, subst, arith}
 use Rattle.c8_known.specs.Confirmed.{rows_below}
 use Rattle.c8_replay.specs.Replay.{IsRunOfRows}

@@ -1,3 +1,4 @@
+-- What is on the screen is the serial run of as many rows as its frame says, and no more than are to be shown.
 use Rattle.std.proofs.Common.{◌≤◌}
 use Rattle.c8_known.specs.Confirmed.{rows_below}
 use Rattle.c8_replay.specs.Replay.{IsRunOfRows}

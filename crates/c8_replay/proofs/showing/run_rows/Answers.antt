@@ -1,3 +1,4 @@
+-- One more confirmed row is one more frame of the serial run that begins at the first frame.
 use Rattle.std.proofs.Common.{◌≡◌, ◌∙◌, ap, sym, arith}
 use Rattle.c8_game.specs.Rules.{joined}
 use Rattle.c8_known.specs.Confirmed.{row, rows_below}

@@ -1,3 +1,4 @@
+-- The machine is the serial run of the confirmed rows before this frame.
 use Rattle.std.proofs.Common.{◌≡◌}
 use Rattle.c8_known.specs.Confirmed.{rows_below}
 use Rattle.c8_machine.specs.Serial.{serial}

@@ -1,3 +1,4 @@
+-- The outcome for the game that was read, or for why it was not, is the outcome for its text.
 use Rattle.c8_replay.proofs.OutcomeLemmas.{outcome_of}
 use Rattle.c8_replay.proofs.showing.show_journal.Goals as goal
 

@@ -1,3 +1,4 @@
+-- The entry that was taken off the end of the list is one of this very ether.
 use Rattle.std.proofs.Common.{rules, ◌≡◌, ◌++◌, ◌∷◌, []}
 use Rattle.c8_rig_tests.proofs.Entries.{last_entry}
 use Rattle.c8_rig_tests.proofs.ethers.a_draw_gives_what_was_posted.Goals as goal

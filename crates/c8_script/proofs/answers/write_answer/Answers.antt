@@ -1,3 +1,4 @@
+-- A refused event prints the part that refused it, with the refusal's number and its name.
 use Rattle.std.proofs.Common.{codes, ap, ◌∙◌}
 use Rattle.c8_world.specs.declared.answer.Answer.TheVariants.{Opened, Ticked, Said, Delivered, Left, Decided, Checked}
 use Rattle.c8_script.specs.Printed.{answer_text, refusal_text}

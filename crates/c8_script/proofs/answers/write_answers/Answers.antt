@@ -1,3 +1,4 @@
+-- The line of the next answer comes behind those before it, with its event's number.
 use Rattle.std.proofs.Common.{Ok, arith}
 use Rattle.std.proofs.lemmas.List.{drop_more}
 use Rattle.c8_world.specs.declared.answer.Answer.TheVariants.{Opened}

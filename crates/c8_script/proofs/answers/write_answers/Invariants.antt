@@ -1,3 +1,4 @@
+-- The lines of the answers before this one were added, numbered from 1.
 use Rattle.c8_script.proofs.PrintLemmas.{LinesSoFar}
 use Rattle.c8_script.proofs.answers.write_answers.Given as goal
 

@@ -1,3 +1,4 @@
+-- The counts so far were added, each after a space.
 use Rattle.std.proofs.Common.{take}
 use Rattle.std.specs.List.{flat_map}
 use Rattle.std.specs.Io.KnownBytes.{Appends}

@@ -1,3 +1,4 @@
+-- The number of the event and a space, then the answer: together its line.
 use Rattle.c8_script.proofs.PrintLemmas.{numbered}
 use Rattle.c8_script.proofs.answers.write_line.Goals as goal
 

@@ -1,3 +1,4 @@
+-- Why a watcher takes no datagram is told by the part that refused it: the wire, or the watching.
 use Rattle.std.proofs.Common.{codes, ap}
 use Rattle.c8_script.specs.Printed.{not_taken_text, refusal_text}
 use Rattle.c8_script.proofs.PrintLemmas.{not_taken_by}

@@ -1,3 +1,4 @@
+-- Each player's line comes behind those of the players before it, until all are written.
 use Rattle.std.proofs.Common.{[], length, arith}
 use Rattle.std.proofs.lemmas.List.{drop_more}
 use Rattle.c8_script.proofs.PrintLemmas.{tallies_next, tallies_all}

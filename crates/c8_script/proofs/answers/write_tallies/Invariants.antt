@@ -1,3 +1,4 @@
+-- The lines of the players before this one were added, from player 1 on.
 use Rattle.c8_script.proofs.PrintLemmas.{TalliesSoFar}
 use Rattle.c8_script.proofs.answers.write_tallies.Given as goal
 

@@ -1,3 +1,4 @@
+-- A line of ticks and confirmed frames ends with the inputs held of at most four players.
 use Rattle.c8_script.proofs.PrintLemmas.{tally_told}
 use Rattle.c8_script.proofs.answers.write_tally.Goals as goal
 

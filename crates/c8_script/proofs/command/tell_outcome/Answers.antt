@@ -1,3 +1,4 @@
+-- A match played to its end prints all answers and the ends; one cut short prints the answers so far.
 use Rattle.std.proofs.Common.{◌≡◌, ◌++◌, ℕ, List, Option, Result, Ok, Err, IfOk, refl, subst}
 use Rattle.std.specs.Io.KnownBytes.{Appends}
 use Rattle.c8_command.specs.Status.{status_of}

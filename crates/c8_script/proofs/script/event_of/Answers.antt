@@ -1,3 +1,4 @@
+-- The words of a line are what its spaces separate, and its event is the one that they spell.
 use Rattle.std.proofs.Common.{◌≡◌, ◌==◌, ◌⊎◌, Option, None, Some, Result, MatchResult, map, ap, sym, ◌∙◌, inr, refl, rules}
 use Rattle.std.proofs.lemmas.Iterator.Consumers.{map_from_collect}
 use Rattle.std.proofs.lemmas.Iterator.Splits.{YieldsList-from_slice_split}

@@ -1,3 +1,4 @@
+-- The first line that is neither skipped nor spells an event is found; without one, no line is at fault.
 use Rattle.std.proofs.Common.{◌≡◌, [], ◌∷◌, ◌++◌, true, false, refl, arith, ap, sym, ◌∙◌, length, length-append}
 use Rattle.std.proofs.lemmas.List.{append_assoc, append-nil}
 use Rattle.std.specs.Str.Lines.{lines}

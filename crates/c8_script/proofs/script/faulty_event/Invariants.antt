@@ -1,3 +1,4 @@
+-- Each line before this place is skipped or spells an event.
 use Rattle.std.proofs.Common.{◌≡◌, ◌++◌, ℕ, List, length}
 use Rattle.std.specs.Str.Lines.{lines}
 use Rattle.c8_game.specs.Faults.{AreFaultless}

@@ -1,3 +1,4 @@
+-- Each line that is not skipped adds its one event, so the list is the only one that the script spells.
 use Rattle.std.proofs.Common.{◌≡◌, Some, map, ◌++◌, ◌∷◌, [], sym, ap, ◌∙◌}
 use Rattle.std.proofs.lemmas.List.{append_assoc, append-nil}
 use Rattle.std.proofs.lemmas.Result.{err_from_is_err_and}

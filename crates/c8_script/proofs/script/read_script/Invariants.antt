@@ -1,3 +1,4 @@
+-- The events so far are those of the lines read, in order, but for the skipped lines.
 use Rattle.std.proofs.Common.{◌≡◌, ◌++◌, ℕ, List, map, Some}
 use Rattle.std.specs.Str.Lines.{lines}
 use Rattle.c8_game.specs.Lines.{lines_left}

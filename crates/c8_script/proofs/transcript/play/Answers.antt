@@ -1,3 +1,4 @@
+-- Memory may run out before the world, during its events or after them: the answers so far are those of a chain.
 use Rattle.c8_world.specs.World.{start}
 use Rattle.c8_world.specs.Run.{answers_before}
 use Rattle.c8_script.specs.Sim.{IsNewWorld}

@@ -1,3 +1,4 @@
+-- A packet is taken only if it was sealed for this seat with a new counter, so none of a list is taken twice.
 use Rattle.std.proofs.Common.{subst, sym, List, inl, inr}
 use Rattle.c8_sealed.specs.Counters.{AreOnce}
 use Rattle.c8_sealed.specs.Given.{GivenValue, counters_of}

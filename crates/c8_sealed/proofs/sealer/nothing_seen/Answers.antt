@@ -1,3 +1,4 @@
+-- None of the six seats has a counter that was taken.
 use Rattle.c8_sealed.proofs.SealerLemmas.{six_empty}
 use Rattle.c8_sealed.proofs.sealer.nothing_seen.Goals as goal
 

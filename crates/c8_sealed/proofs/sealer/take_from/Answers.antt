@@ -1,3 +1,4 @@
+-- A counter is judged among those of its sender and changes no other seat's, and none at all if it is not new.
 use Rattle.std.proofs.Common.{ℕ, List, [], ◌∷◌, ◌++◌, ◌≡◌, ◌-◌, ◌∙◌, length, slice_set, sym, ap, subst, arith}
 use Rattle.c8_sealed.specs.Counters.{IsNew, IsNewest}
 use Rattle.std.specs.Bool.{IsTrue}

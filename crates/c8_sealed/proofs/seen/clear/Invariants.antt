@@ -1,3 +1,4 @@
+-- From the last counter down the marks are cleared, and those of earlier counters in the window stay.
 use Rattle.std.proofs.Common.{◌≡◌, ◌+◌, ◌<◌, ◌≤◌, ℕ, false}
 use Rattle.c8_sealed.specs.SeenBits.{mark_of}
 use Rattle.c8_sealed.proofs.seen.clear.Given as goal

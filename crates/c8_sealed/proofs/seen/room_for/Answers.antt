@@ -1,3 +1,4 @@
+-- A counter above the greatest is new, one far below or marked is not, and the others within the window are.
 use Rattle.std.proofs.Common.{ℕ, Option, subst, ◌+◌, ◌<◌, arith}
 use Rattle.c8_sealed.specs.SeenBits.{HasSeen}
 use Rattle.c8_sealed.proofs.SeenLemmas.{is_new, was_taken, older, too_old, is_newer, newer, mark_at}

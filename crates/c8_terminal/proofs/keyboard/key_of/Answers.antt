@@ -1,3 +1,4 @@
+-- A capital letter means the key of the small one, and a character beyond one byte means none.
 use Rattle.std.proofs.Common.{◌≡◌, ◌≤◌, ap, sym, ◌∙◌, arith}
 use Rattle.c8_terminal.specs.Keyboard.{key_in, key_of, places, small}
 use Rattle.c8_terminal.proofs.KeyboardLemmas.{no_key_past}

@@ -1,3 +1,4 @@
+-- A key counts in every frame while it is down, in none once released, and in one if no frame saw it.
 use Rattle.c8_terminal.proofs.StrokeLemmas.{down_is_held, up_is_not_held, tap_is_held}
 use Rattle.c8_terminal.proofs.laws.a_key_is_held_while_it_is_down.Goals as goal
 

@@ -1,3 +1,4 @@
+-- What is left of a stroke falls by one each frame: from its hold, or from at least 6 if it is a repeat.
 use Rattle.c8_terminal.proofs.StrokeLemmas.{first_stroke, repeated_stroke}
 use Rattle.c8_terminal.proofs.laws.a_stroke_counts_for_its_frames.Goals as goal
 

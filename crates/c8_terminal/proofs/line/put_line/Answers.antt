@@ -1,3 +1,4 @@
+-- One more cell shows two points, one above the other; the move and 64 cells are the row of text.
 use Rattle.std.proofs.Common.{◌≡◌, ℕ, ◌+◌, ◌*◌, ◌≤◌, Bool, List, ◌++◌, length, ap, ◌∙◌, arith, append_assoc}
 use Rattle.std.specs.List.{flat_map, range_with_len}
 use Rattle.c8_screen.specs.Points.{Points, points_of}

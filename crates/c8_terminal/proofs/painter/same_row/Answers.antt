@@ -1,3 +1,4 @@
+-- A row is a number with a bit for each point, so two rows have the same points exactly if the numbers are equal.
 use Rattle.std.proofs.Common.{◌<◌, ◌^◌, arith}
 use Rattle.c8_screen.specs.Points.{points_of}
 use Rattle.c8_terminal.proofs.RowLemmas.{compared}

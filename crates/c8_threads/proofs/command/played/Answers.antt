@@ -1,3 +1,4 @@
+-- A script that was asked for and could not be written is an outcome of the text, which spells a game.
 use Rattle.std.proofs.Common.{rules, Bool, Err, ap, sym, subst}
 use Rattle.std.specs.Option.{is_some}
 use Rattle.c8_game.specs.GameText.{Spells}

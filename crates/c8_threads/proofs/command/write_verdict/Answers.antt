@@ -1,3 +1,4 @@
+-- A gathered match prints that its log is lawful, and then whether its peers agree.
 use Rattle.std.proofs.Common.{◌≡◌, sym, ap, subst, ◌∙◌, Bool, true, false, Some, Option}
 use Rattle.std.specs.Prelude.{OnOk}
 use Rattle.std.specs.Io.KnownBytes.{Appends}

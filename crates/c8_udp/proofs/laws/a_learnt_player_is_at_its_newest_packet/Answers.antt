@@ -1,3 +1,4 @@
+-- The newer place is kept at each packet, so after all of them it is the newest.
 use Rattle.std.proofs.Common.{[], None, refl}
 use Rattle.c8_udp.specs.declared.contacts.Contact.TheVariants.{Learnt}
 use Rattle.c8_udp.proofs.ContactLemmas.{all_more}

@@ -1,3 +1,4 @@
+-- No packet that a turn hears takes a row back, and what the watcher says changes nothing.
 use Rattle.std.proofs.Common.{sym, subst}
 use Rattle.c8_spectator.specs.Growth.{IsStillWatched}
 use Rattle.c8_spectator.specs.Watching.{WatchValue}

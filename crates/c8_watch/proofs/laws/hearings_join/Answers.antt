@@ -1,3 +1,4 @@
+-- What a watcher hears is counted packet by packet, whatever the packets spell: `hear` adds them up.
 use Rattle.c8_watch.proofs.WatchLemmas.{heard_none, heard_more, heard_still, heard_fewer}
 use Rattle.c8_watch.proofs.laws.hearings_join.Goals as goal
 

@@ -1,3 +1,4 @@
+-- The rows of each SHOW that player 1's peer said lie on one list that only grows, so what is taken begins it.
 use Rattle.std.proofs.Common.{refl, arith}
 use Rattle.c8_known.specs.Known.{known_of}
 use Rattle.c8_known.specs.Confirmed.{confirmed_rows}

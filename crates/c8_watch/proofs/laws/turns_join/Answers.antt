@@ -1,3 +1,4 @@
+-- Without a turn nothing changes, and a turn after others is one more: `watch_worker` counts its turns so.
 use Rattle.std.proofs.Common.{refl}
 use Rattle.c8_watch.proofs.WatchLemmas.{turns_more}
 use Rattle.c8_watch.proofs.laws.turns_join.Goals as goal

@@ -1,3 +1,4 @@
+-- Turn by turn no row is taken back, so no number of turns does.
 use Rattle.c8_watch.proofs.WatchLemmas.{still_after_turns}
 use Rattle.c8_watch.proofs.laws.turns_take_nothing_back.Goals as goal
 

@@ -1,3 +1,4 @@
+-- The watcher has heard at most one packet a round, and the wire has sent nothing.
 use Rattle.c8_watch.specs.Turns.{HasHeard}
 use Rattle.c8_watch.proofs.turn.hear.Given as goal
 

@@ -1,3 +1,4 @@
+-- The board's run begins before the first frame, and has the rows of its caller.
 use Rattle.c8_watch.specs.Published.{beginning}
 use Rattle.c8_watch.proofs.worker.open_at.Given as goal
 

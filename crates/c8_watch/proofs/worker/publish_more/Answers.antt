@@ -1,3 +1,4 @@
+-- Rows that begin with the published ones and are as many are the same, so the pen shows them already.
 use Rattle.std.proofs.Common.{◌≡◌, ℕ, ◌+◌, List, [], ◌∷◌, ◌++◌, length, sym, ap, ◌∙◌, arith}
 use Rattle.std.proofs.lemmas.List.{append-nil, length-append}
 use Rattle.c8_game.specs.declared.row.Row.{Row}

@@ -1,3 +1,4 @@
+-- A turn in which the wire failed counts as well: what it heard before that stays.
 use Rattle.std.proofs.Common.{◌+◌, arith, rules}
 use Rattle.c8_watch.proofs.worker.watch_worker.Goals as goal
 

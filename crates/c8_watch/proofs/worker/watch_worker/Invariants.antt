@@ -1,3 +1,4 @@
+-- So many turns took no row back, and the pen shows all rows that the watcher has.
 use Rattle.std.specs.Prelude.{◌≡◌, length}
 use Rattle.c8_spectator.specs.Growth.{IsStillWatched}
 use Rattle.c8_watch.specs.Published.{IsShown}

@@ -1,3 +1,4 @@
+-- The status is done for a machine that is the serial run of the rows seen, else that of the refusal's part.
 use Rattle.std.proofs.Common.{Ok, refl}
 use Rattle.c8_watch_command.proofs.WatchLemmas.{watched_refused}
 use Rattle.c8_watch_command.proofs.command.watch.Goals as goal

@@ -1,3 +1,4 @@
+-- The viewer stays one of the board at which it looks.
 use Rattle.std.proofs.Common.{◌≡◌}
 use Rattle.c8_worker_tests.proofs.threads.look_all.Given as goal
 

@@ -1,3 +1,4 @@
+-- The publisher's pen stays that of the board to which it publishes.
 use Rattle.std.proofs.Common.{◌≡◌}
 use Rattle.c8_worker_tests.proofs.threads.publish_all.Given as goal
 

@@ -1,3 +1,4 @@
+-- A file without a record is skipped; any other adds its journal to a free place, and its clash if it has one.
 use Rattle.std.proofs.Common.{◌≡◌, ◌≢◌, ℕ, List, length, ap, sym, ◌∙◌, arith}
 use Rattle.c8_log.specs.Slots.{kept}
 use Rattle.c8_audit.specs.Images.{first_bytes}

@@ -1,3 +1,4 @@
+-- None is found only if no file clashed with an earlier one and player 1's journal is given.
 use Rattle.std.proofs.Common.{sym, ◌∙◌}
 use Rattle.c8_audit.proofs.files.Gathered.mismatch.Goals as goal
 

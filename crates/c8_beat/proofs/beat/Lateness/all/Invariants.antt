@@ -1,3 +1,4 @@
+-- The number is the sum of the counts so far, and too small to overflow.
 use Rattle.std.proofs.Common.{◌≡◌, ◌≤◌, ◌*◌, sum, take}
 use Rattle.c8_beat.proofs.beat.Lateness.all.Given as goal
 

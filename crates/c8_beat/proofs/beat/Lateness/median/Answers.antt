@@ -1,3 +1,4 @@
+-- All counts together reach half, so if no smaller number of milliseconds does, the last one is the median.
 use Rattle.std.proofs.Common.{arith, rules}
 use Rattle.c8_beat.proofs.BeatLemmas.{last_is_median}
 use Rattle.c8_beat.proofs.beat.Lateness.median.Goals as goal

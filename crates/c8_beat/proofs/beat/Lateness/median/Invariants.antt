@@ -1,3 +1,4 @@
+-- The counts before this place are summed up, and none of these places reaches half.
 use Rattle.std.proofs.Common.{◌≡◌, ◌≤◌, ◌<◌, ◌*◌, ℕ, sum, take}
 use Rattle.c8_beat.specs.Beats.{IsHalf}
 use Rattle.c8_beat.proofs.beat.Lateness.median.Given as goal

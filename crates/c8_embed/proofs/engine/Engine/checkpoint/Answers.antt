@@ -1,3 +1,4 @@
+-- The record of a checkpoint leaves true the rows that the engine was given as confirmed.
 use Rattle.c8_peer.specs.Lawful.{IsCall}
 use Rattle.c8_peer.specs.State.{Checkpoint, Checked}
 use Rattle.c8_embed.proofs.EngineLemmas.{engine_after}

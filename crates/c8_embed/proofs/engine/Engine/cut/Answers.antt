@@ -1,3 +1,4 @@
+-- Each `decide` is a call of a turn, whatever it answers, and a number that is no other player's adds none.
 use Rattle.std.proofs.Common.{refl, inl, inr, ◌∙◌}
 use Rattle.c8_peer.specs.State.{Decide, Decided}
 use Rattle.c8_embed.proofs.TurnLemmas.{turned_still, turned_once, turned_then}

@@ -1,3 +1,4 @@
+-- Up to this player the cuts are calls of a turn, and the rows of the engine are untouched.
 use Rattle.std.proofs.Common.{◌≡◌}
 use Rattle.c8_embed.specs.Engine.{HasTurned}
 use Rattle.c8_embed.proofs.engine.Engine.cut.Given as goal

@@ -1,3 +1,4 @@
+-- New inputs may change guesses, but no confirmed row, so what the engine was given as confirmed stays true.
 use Rattle.c8_wire.specs.checked.Read.{read}
 use Rattle.c8_peer.specs.State.{Deliver, Delivered}
 use Rattle.c8_embed.proofs.EngineLemmas.{engine_after}

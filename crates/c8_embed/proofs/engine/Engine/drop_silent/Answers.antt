@@ -1,3 +1,4 @@
+-- Each `leave` is a call of a turn, whatever it answers, and players whom the schedule keeps add none.
 use Rattle.std.proofs.Common.{refl, inl, ◌∙◌}
 use Rattle.c8_peer.specs.State.{Leave, Left}
 use Rattle.c8_embed.proofs.TurnLemmas.{turned_still, turned_once, turned_then}

@@ -1,3 +1,4 @@
+-- A drop changes no confirmed row, so what the engine was given as confirmed stays true.
 use Rattle.c8_peer.specs.Lawful.{IsCall}
 use Rattle.c8_peer.specs.State.{Leave, Left}
 use Rattle.c8_embed.proofs.EngineLemmas.{engine_after}

@@ -1,3 +1,4 @@
+-- What is written is a datagram that the peer says to its addressee: the search has not changed the peer.
 use Rattle.std.proofs.Common.{subst, ◌∙◌, take}
 use Rattle.c8_peer.specs.State.{Say}
 use Rattle.c8_peer.specs.Asked.{saying_of}

@@ -1,3 +1,4 @@
+-- The search for a datagram that is due changes nothing that clauses see of the engine.
 use Rattle.std.proofs.Common.{◌≡◌}
 use Rattle.c8_embed.proofs.engine.Engine.next_datagram.Given as goal
 

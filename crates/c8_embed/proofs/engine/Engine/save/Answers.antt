@@ -1,3 +1,4 @@
+-- A part of a checkpoint is one call of a turn, whatever the peer answers.
 use Rattle.std.proofs.Common.{refl, inr, sym, subst}
 use Rattle.c8_peer.specs.State.{Checkpoint, Checked}
 use Rattle.c8_embed.specs.Engine.{EngineValue, HasTurned}

@@ -1,3 +1,4 @@
+-- An engine that is up to date has all best rows and gets none; in a test it first gives the last ones back.
 use Rattle.std.proofs.Common.{◌≡◌, ℕ, List, length, take, ap, sym, subst, ◌∙◌, arith}
 use Rattle.c8_game.specs.declared.row.Row.{Row}
 use Rattle.c8_peer.specs.Peer.{known_by}

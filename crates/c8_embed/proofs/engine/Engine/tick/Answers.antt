@@ -1,3 +1,4 @@
+-- A tick adds a frame at the end, so what the engine was given as confirmed stays true.
 use Rattle.c8_peer.specs.Lawful.{IsCall}
 use Rattle.c8_peer.specs.State.{Tick, Ticked}
 use Rattle.c8_embed.proofs.EngineLemmas.{engine_after}

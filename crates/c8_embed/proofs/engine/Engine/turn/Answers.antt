@@ -1,3 +1,4 @@
+-- Drops, cuts and a part of a checkpoint follow one another as calls of one turn, up to a refusal of the disk.
 use Rattle.std.proofs.Common.{sym, subst}
 use Rattle.c8_embed.specs.Engine.{EngineValue, HasTurned}
 use Rattle.c8_embed.proofs.TurnLemmas.{turned_then}

@@ -1,3 +1,4 @@
+-- A session's first sealer has the keys of the secrets, the own seat, and the counters of the journal's epoch.
 use Rattle.std.proofs.Common.{◌≡◌, ◌*◌, ◌^◌, ◌∙◌, ℕ, true, false, Option, None, Some, subst, sym, ap, refl}
 use Rattle.std.specs.Option.{is_some}
 use Rattle.c8_known.specs.Journal.{epoch}

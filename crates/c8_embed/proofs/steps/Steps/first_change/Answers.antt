@@ -1,3 +1,4 @@
+-- Rows given as confirmed have not changed, so the search begins behind them and ends at the first other best row.
 use Rattle.std.proofs.Common.{◌≡◌, ◌+◌, ℕ, get_or, length, take, sym, ap, subst, ◌∙◌, arith}
 use Rattle.std.proofs.lemmas.Bool.{true≢false}
 use Rattle.std.proofs.lemmas.Option.{get_or_from_slice_get}

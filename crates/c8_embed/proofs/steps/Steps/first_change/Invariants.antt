@@ -1,3 +1,4 @@
+-- The rows given for the frames before this one are their best rows still.
 use Rattle.std.proofs.Common.{◌≡◌, ◌≤◌, take}
 use Rattle.c8_known.specs.Confirmed.{best_rows_below}
 use Rattle.c8_peer.specs.Peer.{known_by}

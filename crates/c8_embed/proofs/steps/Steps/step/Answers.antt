@@ -1,3 +1,4 @@
+-- The rows before the first change stay, each frame from there adds its best row, and there is room for every frame.
 use Rattle.std.proofs.Common.{◌≡◌, ◌+◌, List, [], ◌∷◌, ◌++◌, length, take, sym, ap, subst, ◌∙◌, arith}
 use Rattle.c8_game.specs.declared.row.Row.{Row}
 use Rattle.c8_known.specs.Confirmed.{best_rows_below}

@@ -1,3 +1,4 @@
+-- The rows given are the best ones of the frames before this one, and the reserved room is still there.
 use Rattle.std.proofs.Common.{◌≡◌, ◌≤◌}
 use Rattle.std.specs.Prelude.{vec_capacity}
 use Rattle.c8_known.specs.Confirmed.{best_rows_below}

@@ -1,3 +1,4 @@
+-- Cuts of one player after another are one run of cuts, and the first refusal of the disk ends the session.
 use Rattle.std.proofs.Common.{◌≡◌, Err}
 use Rattle.c8_refusals.specs.declared.error.DecideError.TheVariants as decides
 use Rattle.c8_live.specs.declared.error.SessionError.TheVariants.{Disk}

@@ -1,3 +1,4 @@
+-- Up to this player the peer has made no calls but cuts.
 use Rattle.c8_live.specs.Turns.{Cuts, HasDone}
 use Rattle.c8_live.proofs.session.Session.cut.Given as goal
 

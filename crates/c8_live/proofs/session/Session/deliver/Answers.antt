@@ -1,3 +1,4 @@
+-- Bytes that spell no datagram are no call, others are one delivery, and a refusal of the disk ends the session.
 use Rattle.std.proofs.Common.{◌≡◌, Err}
 use Rattle.c8_refusals.specs.declared.error.Refused.TheVariants as refusals
 use Rattle.c8_live.proofs.session.Session.deliver.Goals as goal

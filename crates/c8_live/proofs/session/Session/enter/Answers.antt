@@ -1,3 +1,4 @@
+-- Without a key set the peer makes no call; if the disk refuses the tick, the session ends.
 use Rattle.std.proofs.Common.{◌≡◌, Err, arith}
 use Rattle.c8_refusals.specs.declared.error.TickError.TheVariants as ticks
 use Rattle.c8_live.specs.Turns.{Ticks}

@@ -1,3 +1,4 @@
+-- Each packet that the wire gives lengthens what was heard, also the one at which the disk refuses a record.
 use Rattle.std.proofs.lemmas.Result.{err_from_is_err_and}
 use Rattle.std.proofs.Common.{ℕ, ◌+◌, take, Option, Ok, refl, subst, arith}
 use Rattle.c8_transport.specs.Wire.{Gives, most_packets}

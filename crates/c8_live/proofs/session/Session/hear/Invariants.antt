@@ -1,3 +1,4 @@
+-- The wire gave at most one packet a round, and the peer has heard only these.
 use Rattle.c8_live.specs.Turns.{HasHeard}
 use Rattle.c8_live.proofs.session.Session.hear.Given as goal
 

@@ -1,3 +1,4 @@
+-- Players that stay add no call, each drop lengthens the run of drops, and a refusal of the disk ends the session.
 use Rattle.std.proofs.Common.{◌≡◌, Err}
 use Rattle.c8_refusals.specs.declared.error.LeaveError.TheVariants as leaves
 use Rattle.c8_live.specs.declared.error.SessionError.TheVariants.{Disk}

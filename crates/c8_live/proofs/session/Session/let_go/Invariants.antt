@@ -1,3 +1,4 @@
+-- Up to this player the peer has made no calls but drops.
 use Rattle.c8_live.specs.Turns.{LetsGo, HasDone}
 use Rattle.c8_live.proofs.session.Session.let_go.Given as goal
 

@@ -1,3 +1,4 @@
+-- `decide` is one call, a cut; if it answers a disk's error, the disk refused the CUT.
 use Rattle.std.proofs.Common.{ℕ, Result, ap}
 use Rattle.c8_refusals.specs.declared.error.DecideError.{DecideError}
 use Rattle.c8_peer.specs.Peer.{disk_outcome_of}

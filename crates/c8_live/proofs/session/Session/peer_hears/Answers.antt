@@ -1,3 +1,4 @@
+-- `deliver_datagram` is one call, a delivery of what the packet's bytes spell; the disk may refuse its record.
 use Rattle.std.proofs.Common.{Result, Ok, ap}
 use Rattle.c8_wire.specs.Lent.{packet_of}
 use Rattle.c8_refusals.specs.declared.error.Refused.{Refused}

@@ -1,3 +1,4 @@
+-- `leave` is one call, a drop; if it answers a disk's error, the disk refused the LEAVE.
 use Rattle.std.proofs.Common.{Result, ap}
 use Rattle.c8_refusals.specs.declared.error.LeaveError.{LeaveError}
 use Rattle.c8_peer.specs.Peer.{disk_outcome_of}

@@ -1,3 +1,4 @@
+-- `checkpoint` is one call, for one part of a checkpoint; a disk's error means that the disk refused this part.
 use Rattle.std.proofs.Common.{Result, ap, arith}
 use Rattle.c8_peer.specs.declared.check.Check.{Check}
 use Rattle.c8_refusals.specs.declared.error.CheckError.{CheckError}

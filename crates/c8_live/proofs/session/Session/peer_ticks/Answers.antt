@@ -1,3 +1,4 @@
+-- `tick` is one call, and enters the key set if it is taken; a disk's error means that the disk refused the OWN.
 use Rattle.std.proofs.Common.{Result, ap, arith}
 use Rattle.c8_refusals.specs.declared.error.TickError.{TickError}
 use Rattle.c8_peer.specs.Peer.{disk_outcome_of}

@@ -1,3 +1,4 @@
+-- A turn without a due part of a checkpoint makes no call; if the disk refuses the part, the session ends.
 use Rattle.std.proofs.Common.{◌≡◌, Err, arith}
 use Rattle.c8_refusals.specs.declared.error.CheckError.TheVariants as checks
 use Rattle.c8_live.specs.Turns.{Saves}

@@ -1,3 +1,4 @@
+-- The wire takes or loses the bytes of what the peer said to this player, and nothing else.
 use Rattle.std.proofs.Common.{take, refl}
 use Rattle.c8_peer.specs.Asked.{saying_of}
 use Rattle.c8_peer.specs.State.{Say}

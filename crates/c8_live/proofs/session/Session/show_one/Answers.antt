@@ -1,3 +1,4 @@
+-- A watcher sits at 5 or 6, so the peer may say it a SHOW, and the wire takes or loses just that.
 use Rattle.std.proofs.Common.{◌≡◌, ◌≤◌, ℕ, take, refl, true}
 use Rattle.std.proofs.lemmas.Bool.{le-leb}
 use Rattle.c8_wire.specs.Seats.{is_watcher}

@@ -1,3 +1,4 @@
+-- What is said to one more player follows what was said to those before; the own number adds nothing.
 use Rattle.c8_live.proofs.session.Session.speak.Goals as goal
 use Rattle.c8_live.proofs.session.Session.speak.Goals.{in-Some+in_ok-speak_to, in_default}
 

@@ -1,3 +1,4 @@
+-- The wire took only what the peer said to the players so far, and gave nothing.
 use Rattle.c8_live.specs.Turns.{HasSpoken}
 use Rattle.c8_live.proofs.session.Session.speak.Given as goal
 

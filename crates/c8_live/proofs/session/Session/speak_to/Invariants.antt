@@ -1,3 +1,4 @@
+-- The wire took only what the peer said of the datagrams due so far, and gave nothing.
 use Rattle.c8_live.specs.Turns.{HasSpoken}
 use Rattle.c8_live.proofs.session.Session.speak_to.Given as goal
 

@@ -1,3 +1,4 @@
+-- Wherever a turn fails, the parts that are left out change nothing; and only its tick enters keys.
 use Rattle.std.proofs.Common.{refl, []}
 use Rattle.std.proofs.lemmas.Result.{err_from_is_err_and}
 use Rattle.c8_live.specs.Entered.{entered_of}

@@ -1,3 +1,4 @@
+-- Either some bytes came, or after a long silence a lone escape was the key itself.
 use Rattle.std.proofs.Common.{inr, refl}
 use Rattle.c8_play.specs.Desk.{typing}
 use Rattle.c8_play.proofs.TypingLemmas.{paused_after}

@@ -1,3 +1,4 @@
+-- The bytes of several reads follow one another as if they had come at once.
 use Rattle.std.proofs.Common.{◌++◌, ℕ, List, take, ap, ◌∙◌}
 use Rattle.c8_play.specs.Desk.{typing}
 use Rattle.c8_play.proofs.DeskLemmas.{forgets_more}

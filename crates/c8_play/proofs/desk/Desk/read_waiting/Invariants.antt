@@ -1,3 +1,4 @@
+-- The bytes of all reads so far have come, each key has noted their signals, and nothing was drawn.
 use Rattle.std.proofs.Common.{◌≡◌, false, ℕ, List}
 use Rattle.c8_play.specs.Typing.{HasCome}
 use Rattle.c8_play.specs.Desk.{typing, drawn_at, MayForget}

@@ -1,3 +1,4 @@
+-- One more byte moves the decoder by one step, and each key notes the signal that this step tells.
 use Rattle.std.proofs.Common.{◌≡◌, ◌+◌, ℕ, List, [], ◌∷◌, ◌++◌, ap, sym, ◌∙◌, take, get_or}
 use Rattle.c8_terminal.specs.Decoder.{read_by}
 use Rattle.c8_terminal.specs.Held.{press_at, hold_of}

@@ -1,3 +1,4 @@
+-- The decoder has read the bytes so far, and each key is as after their signals.
 use Rattle.std.proofs.Common.{◌≡◌, ◌<◌, ℕ, take}
 use Rattle.c8_terminal.specs.Decoder.{read_by}
 use Rattle.c8_terminal.specs.Held.{press_at, hold_of}

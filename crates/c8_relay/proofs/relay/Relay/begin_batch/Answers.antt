@@ -1,3 +1,4 @@
+-- A new batch gives nobody a seat, and may free only one that is silent.
 use Rattle.std.proofs.Common.{List, ap, subst}
 use Rattle.c8_relay.specs.Seating.{Expels}
 use Rattle.c8_relay.specs.Standing.{Standing}

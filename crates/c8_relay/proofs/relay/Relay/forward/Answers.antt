@@ -1,3 +1,4 @@
+-- A datagram moves nobody: it goes to who listens in the place that it names and is paid for, or it has a cause.
 use Rattle.std.proofs.Common.{◌≡◌, Ok, List, sym, ap, subst, ◌∙◌}
 use Rattle.c8_relay.specs.declared.address.Sender.{Sender}
 use Rattle.c8_relay.specs.declared.relay.Fate.TheVariants.{Forward}

@@ -1,3 +1,4 @@
+-- A JOIN seats nobody but its sender, once that has shown that it receives; to admit the JOIN moves nobody.
 use Rattle.std.proofs.Common.{subst}
 use Rattle.c8_relay.specs.Standing.{Standing, SeatsWhoMay}
 use Rattle.c8_relay.proofs.relay.Relay.join.Goals as goal

@@ -1,3 +1,4 @@
+-- Only an address that has shown that it receives sits down, and only in the place that it asks for.
 use Rattle.std.proofs.Common.{ap, rules}
 use Rattle.c8_relay.specs.Cookies.{HasShown}
 use Rattle.c8_relay.specs.Standing.{Standing, slot_of}

@@ -1,3 +1,4 @@
+-- A datagram gives nobody a seat, and a JOIN only its sender the place that it names.
 use Rattle.std.proofs.Common.{sym, subst, inl, inr, IsSome}
 use Rattle.c8_relay.specs.declared.address.Lane.{Lane}
 use Rattle.c8_relay.specs.declared.control.Route.{Route}

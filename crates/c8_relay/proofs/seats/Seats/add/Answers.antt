@@ -1,3 +1,4 @@
+-- Who sits down in a free place is found by it, and the others are found where they were.
 use Rattle.std.proofs.Common.{◌≡◌, cond, List, None, Some, sym, subst}
 use Rattle.std.specs.Map.{lookup}
 use Rattle.c8_relay.specs.declared.address.Place.{Place}

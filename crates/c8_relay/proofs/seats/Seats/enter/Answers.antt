@@ -1,3 +1,4 @@
+-- Making room frees a silent seat alone, so all others who were heard stay, but for one in this place.
 use Rattle.c8_relay.proofs.SittingLemmas.{moves, only_after, only_expelled}
 use Rattle.c8_relay.proofs.seats.Seats.enter.Goals as goal
 

@@ -1,3 +1,4 @@
+-- The place is forgotten with the seat, and those who still sit are found where they were.
 use Rattle.std.proofs.Common.{◌≡◌, cond, None, sym, subst}
 use Rattle.std.specs.Map.{lookup}
 use Rattle.c8_relay.specs.declared.address.Place.{Place}

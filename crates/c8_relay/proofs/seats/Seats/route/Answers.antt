@@ -1,3 +1,4 @@
+-- A datagram goes to who listens in its sender's own room if the budget lasts, and else is lost for one cause.
 use Rattle.std.proofs.Common.{◌≡◌, ◌≤◌, ◌<◌, ◌+◌, ◌∷◌, ◌⊎◌, [], max, None, Some, inl, inr, refl, sym, subst, rules, ◌∙◌}
 use Rattle.c8_relay.specs.declared.address.Address.{Address}
 use Rattle.c8_relay.specs.Budget.{Pass}

@@ -1,3 +1,4 @@
+-- Who sits there is only heard anew, one who listens there keeps the place, and else the address enters.
 use Rattle.std.proofs.Common.{inl}
 use Rattle.c8_relay.proofs.SittingLemmas.{keeps, only_same}
 use Rattle.c8_relay.proofs.seats.Seats.sit.Goals as goal

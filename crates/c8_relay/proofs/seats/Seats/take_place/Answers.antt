@@ -1,3 +1,4 @@
+-- The place and the old seat of the address are freed first, so only this address sits somewhere new.
 use Rattle.std.proofs.Common.{refl}
 use Rattle.c8_relay.proofs.SittingLemmas.{others_stay, sits_only}
 use Rattle.c8_relay.proofs.seats.Seats.take_place.Goals as goal

@@ -1,3 +1,4 @@
+-- A holder that sits elsewhere, or nowhere, means that nobody sits in the place.
 use Rattle.std.proofs.Common.{◌≡◌, Option, sym, subst, ap, arith, ◌∙◌}
 use Rattle.c8_relay.specs.declared.address.Address.{Address}
 use Rattle.c8_relay.specs.declared.seats.Seated.{Seated}

@@ -1,3 +1,4 @@
+-- The errors of the network that were skipped are no packets: nothing counts as sent or received.
 use Rattle.std.proofs.Common.{◌≡◌}
 use Rattle.c8_relay_udp.proofs.socket.SocketEther.receive.Given as goal
 

@@ -1,3 +1,4 @@
+-- Fewer than two words spell no act, and a saying is a verb, two words, a kind and the words behind it.
 use Rattle.std.proofs.Common.{◌≡◌, ℕ, ◌<◌, ◌≤◌, List, [], ◌∷◌, length, get_or, take, drop, ◌-◌, map, None, refl, sym, ap, ◌∙◌, arith, Bor}
 use Rattle.std.proofs.lemmas.List.{take_all}
 use Rattle.c8_script.specs.checked.ScriptWords.{act_in, saying_in}

@@ -1,3 +1,4 @@
+-- Digit by digit the number grows, and once it exceeds 64 bits no digits behind it can make it fit.
 use Rattle.std.proofs.Common.{arith, ◌∙◌, sym, ap, rules}
 use Rattle.std.proofs.lemmas.List.{take_all}
 use Rattle.c8_game.specs.Fields.{decimal_number}

@@ -1,3 +1,4 @@
+-- The bytes so far are digits, and their number fits in 64 bits.
 use Rattle.std.proofs.Common.{◌≡◌, ◌<◌, ◌^◌, true, take}
 use Rattle.std.specs.Char.{is_ascii_digit}
 use Rattle.std.specs.List.{list_all}

@@ -1,3 +1,4 @@
+-- A single digit from 1 to 4 is the word of the player with that number.
 use Rattle.std.proofs.Common.{refl, sym}
 use Rattle.c8_script.proofs.ScriptLemmas.{player_of_digit}
 use Rattle.c8_script.proofs.script.words.player_in.Goals as goal

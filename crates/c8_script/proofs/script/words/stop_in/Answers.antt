@@ -1,3 +1,4 @@
+-- A stop is its verb, the numbers of calls and pick, and the words of an act that it may hold; fewer words spell none.
 use Rattle.std.proofs.Common.{◌≡◌, ℕ, ◌<◌, ◌≤◌, true, List, [], ◌∷◌, length, get_or, take, drop, ◌-◌, map, codes, Option, None, Some, refl}
 use Rattle.std.proofs.Common.{sym, ap, ◌∙◌, arith, rules, Bor}
 use Rattle.std.proofs.lemmas.Bool.{cond-true}

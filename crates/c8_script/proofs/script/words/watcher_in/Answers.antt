@@ -1,3 +1,4 @@
+-- A single digit, 5 or 6, is the word of the watcher in that seat.
 use Rattle.std.proofs.Common.{refl, sym}
 use Rattle.c8_script.proofs.ScriptLemmas.{watcher_of_digit}
 use Rattle.c8_script.proofs.script.words.watcher_in.Goals as goal

@@ -1,3 +1,4 @@
+-- The datagram is followed by its counter and their tag, and the bytes behind them stay.
 use Rattle.std.proofs.Common.{ap, sym, ◌∙◌, ◌++◌, ◌≡◌, List, ℕ, length, append_assoc, arith}
 use Rattle.c8_seal.specs.Seal.{counted}
 use Rattle.c8_seal.proofs.SealLemmas.{take_written, drop_written, behind_length}

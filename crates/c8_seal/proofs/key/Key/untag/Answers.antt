@@ -1,3 +1,4 @@
+-- A tagged packet ends with the tag of what is before it, so a shorter one or one with another end is none.
 use Rattle.std.proofs.Common.{rules, ◌≡◌, ◌++◌, length, sym, ap, ◌∙◌, arith}
 use Rattle.std.proofs.lemmas.List.{take-append-drop}
 use Rattle.c8_seal.specs.Seal.{tag}

@@ -1,3 +1,4 @@
+-- The kind that stands before the seal names the one key that can have sealed the packet.
 use Rattle.std.proofs.Common.{ap, ◌∙◌, ◌≡◌, None, Some, arith}
 use Rattle.c8_sealed.specs.Opened.{key_for}
 use Rattle.c8_sealed.proofs.SealedLemmas.{packet_size, has_key, found, not_found}

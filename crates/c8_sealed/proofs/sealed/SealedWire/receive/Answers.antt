@@ -1,3 +1,4 @@
+-- Each packet of the wire below is judged; a refused one leaves the sealer as it was, and the next one follows.
 use Rattle.std.proofs.Common.{ap, ◌∙◌, sym, subst, Err, Ok}
 use Rattle.c8_sealed.specs.Given.{GivenValue}
 use Rattle.c8_sealed.specs.Sealer.{SealerValue}

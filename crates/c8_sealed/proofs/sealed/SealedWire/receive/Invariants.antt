@@ -1,3 +1,4 @@
+-- All packets that the wire below gave so far were judged, and the sealer took none of them.
 use Rattle.std.proofs.Common.{◌≡◌}
 use Rattle.c8_sealed.specs.Wires.{HasOpened}
 use Rattle.c8_sealed.proofs.sealed.SealedWire.receive.Given as goal

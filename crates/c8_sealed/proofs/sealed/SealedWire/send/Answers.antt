@@ -1,3 +1,4 @@
+-- The wire below takes or loses the sealed packet, which opens to the datagram that was to be sent.
 use Rattle.c8_sealed.proofs.WireLemmas.{sealed_passed, may_take_sealed}
 use Rattle.c8_sealed.proofs.sealed.SealedWire.send.Goals as goal
 

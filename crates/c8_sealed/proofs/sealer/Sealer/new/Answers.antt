@@ -1,3 +1,4 @@
+-- At first no counter of any seat was taken, and the counters to use fit in 64 bits.
 use Rattle.std.proofs.Common.{sym, ap, ◌∙◌, ◌-◌}
 use Rattle.c8_sealed.specs.Given.{counters_of}
 use Rattle.c8_sealed.proofs.sealer.Sealer.new.Goals as goal

@@ -1,3 +1,4 @@
+-- Each seat's counters are those of what was taken from it, so a counter new among them is new from that sender.
 use Rattle.std.proofs.Common.{ℕ, List, [], ◌∷◌, ◌++◌, ◌↔◌, ◌-◌, ◌∙◌, Ok, slice_index_or, refl, sym, ap, subst}
 use Rattle.std.specs.Bool.{IsTrue}
 use Rattle.c8_sealed.specs.Counters.{IsNew, IsNewest}

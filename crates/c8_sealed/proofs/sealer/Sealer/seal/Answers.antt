@@ -1,3 +1,4 @@
+-- A datagram that is short enough and has a key gets the next counter, which is then used up.
 use Rattle.std.proofs.Common.{subst, arith}
 use Rattle.c8_sealed.specs.Sealer.{SealerValue, HasSealed}
 use Rattle.c8_sealed.specs.contracts.sealer.Sealer.{the_view}

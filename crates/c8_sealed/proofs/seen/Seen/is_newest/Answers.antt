@@ -1,3 +1,4 @@
+-- The greatest counter was taken and none above it, so what exceeds it exceeds all.
 use Rattle.std.proofs.Common.{ℕ, List, Option, subst, sym, arith}
 use Rattle.std.specs.List.{Contains}
 use Rattle.std.proofs.lemmas.Bool.Decides.{nat_tests}

@@ -1,3 +1,4 @@
+-- Before the first counter nothing was taken and no mark is set.
 use Rattle.std.proofs.Common.{ap, ◌∙◌, Bool, List}
 use Rattle.c8_sealed.specs.SeenBits.{mark_of}
 use Rattle.c8_sealed.proofs.SeenLemmas.{no_mark}

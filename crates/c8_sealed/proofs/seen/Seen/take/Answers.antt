@@ -1,3 +1,4 @@
+-- What the marks say decides whether the counter is new, and if it is they say so of the list with it.
 use Rattle.std.proofs.Common.{ap, ◌∙◌, ◌++◌, ◌∷◌, [], List, ℕ, subst}
 use Rattle.c8_sealed.specs.Counters.{IsNew}
 use Rattle.c8_sealed.proofs.seen.Seen.take.Goals as goal

@@ -1,3 +1,4 @@
+-- Whatever was read before, the signal that a byte gives is of a key of the keypad or of none.
 use Rattle.c8_terminal.specs.Decoder.{numbers_of}
 use Rattle.c8_terminal.specs.Decoding as decoding
 use Rattle.c8_terminal.proofs.DecodingLemmas.{of_keypad_in}

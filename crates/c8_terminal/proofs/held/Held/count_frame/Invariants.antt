@@ -1,3 +1,4 @@
+-- The keys before this one have counted the frame, and the others are as they were.
 use Rattle.std.proofs.Common.{ℕ, ◌<◌, ◌≤◌, ◌≡◌, length}
 use Rattle.c8_terminal.specs.Held.{press_at}
 use Rattle.c8_terminal.specs.Strokes.{after_frame}

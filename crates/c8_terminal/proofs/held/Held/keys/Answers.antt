@@ -1,3 +1,4 @@
+-- A held key adds its bit, and a key that is not held leaves the set as it was.
 use Rattle.std.proofs.Common.{ℕ, ◌+◌, Bool, subst, sym, ◌∙◌}
 use Rattle.c8_terminal.specs.Held.{press_at}
 use Rattle.c8_terminal.specs.Strokes.{is_held}

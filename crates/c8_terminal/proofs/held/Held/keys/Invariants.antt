@@ -1,3 +1,4 @@
+-- Of the keys before this one the set has just those that are held.
 use Rattle.c8_terminal.specs.Held.{press_at}
 use Rattle.c8_terminal.specs.Strokes.{is_held}
 use Rattle.c8_terminal.proofs.HeldLemmas.{KeysBelow}

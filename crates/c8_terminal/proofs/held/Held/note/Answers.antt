@@ -1,3 +1,4 @@
+-- A stroke, a press or a release changes the state of its key and of no other.
 use Rattle.std.proofs.Common.{◌≡◌, ◌<◌, ℕ, List, cond, length, slice_set, arith, sym, ap, subst, ◌∙◌}
 use Rattle.std.specs.Prelude.{◌==◌}
 use Rattle.c8_terminal.specs.declared.signal.Signal.{Signal}

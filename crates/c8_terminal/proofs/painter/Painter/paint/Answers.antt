@@ -1,3 +1,4 @@
+-- Only rows of text that differ are written, so a terminal that showed the old points then shows the new ones.
 use Rattle.std.proofs.Common.{◌≡◌, ℕ, List, ◌++◌, Option, sym, ap, subst, ◌∙◌, arith}
 use Rattle.c8_screen.specs.declared.Screen.{Screen}
 use Rattle.c8_screen.specs.Points.{Points, points_of}

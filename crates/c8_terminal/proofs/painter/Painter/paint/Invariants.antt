@@ -1,3 +1,4 @@
+-- The bytes are the rows of text above this one that differ, at most 199 bytes each.
 use Rattle.std.proofs.Common.{◌≡◌, ◌*◌, ◌≤◌}
 use Rattle.arrayvec.specs.ArrayVec.{array_vec_len}
 use Rattle.c8_screen.specs.Points.{points_of}

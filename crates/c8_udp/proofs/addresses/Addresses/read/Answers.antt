@@ -1,3 +1,4 @@
+-- If a watcher's word is refused, it is the first or the second of the two, and it names no address to reach.
 use Rattle.std.proofs.Common.{inl, inr}
 use Rattle.c8_udp.proofs.addresses.Addresses.read.Goals as goal
 

@@ -1,3 +1,4 @@
+-- What the socket gave so far was skipped: no packet was returned or sent, and no contact moved.
 use Rattle.std.proofs.Common.{◌≡◌, List, ◌++◌}
 use Rattle.c8_udp.specs.Letters.{LetterValue}
 use Rattle.c8_udp.proofs.udp.UdpWire.receive.Given as goal

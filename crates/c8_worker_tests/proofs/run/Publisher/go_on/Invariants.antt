@@ -1,3 +1,4 @@
+-- To run more frames leaves the pen as it was.
 use Rattle.std.proofs.Common.{◌≡◌}
 use Rattle.c8_worker_tests.proofs.run.Publisher.go_on.Given as goal
 

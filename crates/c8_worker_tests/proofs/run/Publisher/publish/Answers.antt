@@ -1,3 +1,4 @@
+-- The machine is the run of as many idle rows as there were frames, and those published before begin them.
 use Rattle.std.proofs.Common.{sym, ◌∙◌}
 use Rattle.std.proofs.lemmas.List.{length-replicate}
 use Rattle.c8_digest.specs.Origin.{run_since}

@@ -1,3 +1,4 @@
+-- What is published is one idle row for each frame of the run.
 use Rattle.c8_worker_tests.specs.Idle.{idle_rows}
 use Rattle.c8_worker_tests.proofs.run.Publisher.publish.Given as goal
 

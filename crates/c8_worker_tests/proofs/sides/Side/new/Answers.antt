@@ -1,3 +1,4 @@
+-- A new side's pen and viewer are of its own board, which shows what its peer has confirmed.
 use Rattle.std.proofs.Common.{ap, ◌∙◌}
 use Rattle.c8_board.specs.Tokens.{PenValue}
 use Rattle.c8_known.specs.Confirmed.{confirmed_rows}

@@ -1,3 +1,4 @@
+-- The pen shows just what the peer has confirmed, as its worker needs, and stays the pen of the viewer's board.
 use Rattle.std.proofs.Common.{[], sym, ◌∙◌, append-nil}
 use Rattle.c8_worker_tests.proofs.sides.Side.work.Goals as goal
 

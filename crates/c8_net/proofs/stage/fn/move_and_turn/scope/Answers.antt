@@ -1,3 +1,4 @@
+-- A failure of the net thread may end the session, but it changes nothing in the run of the peer.
 use Rattle.c8_net.proofs.stage.fn.move_and_turn.scope.Goals as goal
 
 pub returns : goal.returns
