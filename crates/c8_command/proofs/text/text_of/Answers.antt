@@ -1,3 +1,4 @@
+-- A read that returned less than it could has read the whole file.
 use Rattle.std.proofs.Common.{◌≡◌, ◌<◌, ℕ, List, length, take, Option, None, Some, IfSome, option_map, ap, ◌∙◌, arith}
 use Rattle.std.proofs.lemmas.List.{take_all, length-take}
 use Rattle.c8_command.proofs.text.text_of.Goals as goal

@@ -1,3 +1,4 @@
+-- What follows the last address found is text, so it can be split there.
 use denote.Text.{Utf8}
 use denote.Shadow.{shadow}
 use Rattle.c8_host.proofs.addresses.own_addresses.Given as goal

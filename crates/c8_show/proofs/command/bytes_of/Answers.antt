@@ -1,3 +1,4 @@
+-- Digits that spell bytes give these bytes.
 use Rattle.std.proofs.Common.{rules}
 use Rattle.c8_show.proofs.command.bytes_of.Goals as goal
 

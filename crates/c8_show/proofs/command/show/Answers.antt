@@ -1,3 +1,4 @@
+-- The outcome is that of the first fault: digits, then the datagram; without one it is what was printed.
 use Rattle.std.proofs.Common.{◌≡◌, ℕ, List, Result, Ok, Err, IfOk, MatchResult}
 use Rattle.hex.specs.Hex.{decode_of}
 use Rattle.c8_wire.specs.Lent.{packet_of}

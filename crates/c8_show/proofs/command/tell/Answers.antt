@@ -1,3 +1,4 @@
+-- A writer that fails ends the answer.
 use Rattle.std.proofs.Common.{rules}
 use Rattle.c8_show.proofs.command.tell.Goals as goal
 
