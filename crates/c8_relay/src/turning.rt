@@ -2,6 +2,8 @@
 ghost use Rattle.std.specs.Prelude.{◌≡◌, ◌<◌, ◌^◌, List, ℕ, []};
 ghost use Rattle.c8_relay.specs.Honest.{IsHonest};
 ghost use Rattle.c8_relay.specs.Standing.{Standing};
+ghost use Rattle.c8_relay.specs.declared.sitting.Cause.{Cause};
+ghost use Rattle.c8_relay.specs.declared.turning.Turned.TheVariants.{Idle, Dropped};
 
 use crate::ether::{Ether, LONGEST_READ};
 use crate::relay::{Fate, Relay};
@@ -27,11 +29,14 @@ pub fn begin<E: Ether>(relay: &mut Relay, ether: &E, now: u64)
     relay.begin_batch(now);
 }
 
-/// Takes the next packet, and sends what it leads to.
+/// Takes the next packet, and sends what it leads to. `Idle` if none had come; a dropped packet sends nothing.
 pub fn turn<E: Ether>(relay: &mut Relay, ether: &mut E, now: u64) -> Turned
     requires now { now < 2 ^ 62 }
     requires honest { IsHonest relay.old (E.received ether.old) (E.sent ether.old) }
-    ensures { IsHonest relay.new (E.received ether.new) (E.sent ether.new) }
+    ensures honest { IsHonest relay.new (E.received ether.new) (E.sent ether.new) }
+    ensures idle { result ≡ Idle
+        → (E.received ether.new ≡ E.received ether.old) × (E.sent ether.new ≡ E.sent ether.old) }
+    ensures quiet { (cause : Cause) → result ≡ Dropped cause → E.sent ether.new ≡ E.sent ether.old }
 {
     let mut packet = [0; LONGEST_READ];
     let Some((size, from)) = ether.receive(&mut packet) else {
