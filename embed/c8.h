@@ -123,9 +123,14 @@ c8_answer c8_tick(c8_session *, uint16_t input);
  * 3,600 frames), and c8_next gives the turn's datagrams. Call it once a frame, also when the tick was refused. */
 c8_answer c8_turn(c8_session *);
 
-/* Writes the next packet of this turn to `out`, and the number of the player that it is for to `to`. Returns its length,
- * at most C8_DATAGRAM without a secret; 0 once the turn has no more. */
+/* Writes the next packet of this turn to `out`, and the seat that it is for to `to`: a player, 1 to 4, or a watcher of
+ * c8_watched, 5 or 6. Returns its length, at most C8_DATAGRAM without a secret; 0 once the turn has no more. */
 uint32_t c8_next(c8_session *, uint8_t out[C8_PACKET], uint8_t *to);
+
+/* Shows watcher 5 or 6 the confirmed rows from now on: at player 1 each turn has a packet for it among those of c8_next,
+ * from the first row on that the watcher has not acknowledged. Any other number is refused with
+ * 102; C8_CLOSED at a closed session. */
+c8_answer c8_watched(c8_session *, uint8_t watcher);
 
 /* Whether the match is over for this session: it was dropped, or everything was confirmed and acknowledged for more than
  * 120 turns. True for a closed session. */
@@ -203,9 +208,9 @@ static inline c8_answer c8_secret(c8_session *session, const uint8_t secret[32],
     return c8_secrets(session, secret, watchers ? watchers : secret, watchers ? 32 : 0);
 }
 
-/* The player whose sealed packet the last c8_deliver accepted; 0 if it accepted none, and then `newest` stays. Else it
- * writes to `newest` whether no later packet of that player came before. If so, the player is where this packet came
- * from: send there. */
+/* The player or watcher whose sealed packet the last c8_deliver accepted; 0 if it accepted none, and then `newest` stays.
+ * Else it writes to `newest` whether no later packet of that sender came before. If so, the sender is where this packet
+ * came from: send there. */
 uint8_t c8_sender(c8_session *, bool *newest);
 
 /* Writes the name and the sentence of a refusal, as far as they fit (160 bytes do), without a 0 after them. Returns how

@@ -401,6 +401,35 @@ static void play_sealed(void) {
     openings += 2;
 }
 
+/* Two players, both asked to show watcher 5 the rows: player 1 does so in each turn, player 2 never. */
+static void play_watched(void) {
+    enum { FRAMES = 300 };
+    c8_session two[2] = {{0}, {0}};
+    uint8_t packet[C8_PACKET], id[32] = {3}, to;
+    uint32_t length, shown = 0, turns = 0;
+    what = "watchers";
+    text_length = c8_rules(2, FRAMES, 0, 12, id, text, sizeof text);
+    if (c8_watched(&two[0], 5) != C8_CLOSED) fail("a closed session is watched", 0);
+    for (uint8_t i = 0; i < 2; i++) {
+        if (c8_open(text, text_length, i + 1, 6, 0, &two[i])) fail("not opened", i);
+        if (c8_watched(&two[i], 4) != 102 || c8_watched(&two[i], 7) != 102 || c8_watched(&two[i], 5)) fail("seats", i);
+    }
+    for (; turns < 4 * FRAMES && !(c8_is_over(&two[0]) && c8_is_over(&two[1])); turns++)
+        for (uint8_t i = 0; i < 2; i++) {
+            c8_tick(&two[i], (uint16_t)roll(65536));
+            if (c8_turn(&two[i])) fail("no turn", i);
+            while ((length = c8_next(&two[i], packet, &to)) > 0) {
+                if (to == 5 && i) fail("player 2 shows rows", length);
+                if (to == 5) shown++;
+                else if (to == 3 - (i + 1)) c8_deliver(&two[to - 1], packet, length);
+                else fail("to nobody", to);
+            }
+        }
+    if (shown != turns) fail("not one packet a turn", shown);
+    c8_close(&two[0]), c8_close(&two[1]);
+    openings += 2;
+}
+
 int main(int count, char **words) {
     uint64_t most = count > 1 ? strtoull(words[1], NULL, 10) : 1000000;
     dice = (count > 2 ? strtoull(words[2], NULL, 10) : 1) * 0x9e3779b97f4a7c15 | 1;
@@ -431,6 +460,7 @@ int main(int count, char **words) {
         }
     }
     play_sealed();
+    play_watched();
     fail_disk();
     what = "the end";
     for (int i = 0; i < SESSIONS; i++) c8_close(&sessions[i]);

@@ -7,8 +7,8 @@ use Rattle.c8_disk.specs.declared.disk.Disk.{Ghosts}
 use Rattle.c8_known.specs.Known.{KnownValue}
 use Rattle.c8_known.specs.Confirmed.{confirmed, rows_below, best_rows_below, best_rows}
 use Rattle.c8_peer.specs.State.{Call, Reply}
-use Rattle.c8_peer.specs.Lawful.{IsCall}
-use Rattle.c8_peer.specs.Peer.{PeerValue, IsAnswered, IsSound, known_by}
+use Rattle.c8_peer.specs.Peer.{PeerValue, IsAnswered, known_by}
+use Rattle.c8_session.specs.Runs.{HasRunOn}
 use Rattle.c8_embed.specs.Steps.{StepsValue, IsTrueTo, IsStepped}
 use Rattle.c8_embed.specs.Engine.{IsEngine}
 use Rattle.c8_embed.proofs.StepsLemmas.{best_confirmed, best_length, best_take}
@@ -25,19 +25,24 @@ true_later old new s rises rows is =
       settled_is = is.settled_is ∙ best_confirmed old s.settled within ∙ sym (rows s.settled within) ∙ sym (best_confirmed new s.settled later);
     }
 
--- the law of this crate, as its engine uses it
-abbrev pub Stays : {D : Type 0} → Ghosts D → Type 0
-Stays {D} disk = (old new : PeerValue D) (call : Call) (reply : Reply) (s : StepsValue) → IsSound disk old → IsCall call
-    → IsAnswered disk old call reply new → IsTrueTo (known_by old) s → IsTrueTo (known_by new) s
-
-pub engine_after : {D : Type 0} (disk : Ghosts D) → Stays disk
-    → (old new : PeerValue D) (call : Call) (reply : Reply) (s : StepsValue) (is_told : Bool)
-    → IsSound disk old → IsCall call → IsAnswered disk old call reply new → IsEngine old s is_told → IsEngine new s false
-engine_after disk stays old new call reply s is_told sound is answered engine = record {
-  true_to = stays old new call reply s sound is answered engine.true_to;
-  room = subst (λ (r : Rules). s.room ≡ r.frames + r.window) (sym answered.same.rules) engine.room;
+-- an engine whose peer has gone on keeps what is true, and is not up to date
+engine_then : {D : Type 0} (old new : PeerValue D) (s : StepsValue) (is_told : Bool) → new.rules ≡ old.rules
+    → (IsTrueTo (known_by old) s → IsTrueTo (known_by new) s) → IsEngine old s is_told → IsEngine new s false
+engine_then old new s is_told same stays engine = record {
+  true_to = stays engine.true_to;
+  room = subst (λ (r : Rules). s.room ≡ r.frames + r.window) (sym same) engine.room;
   told = λ no_more. absurd (true≢false (sym no_more));
 }
+
+-- after one call
+pub engine_after : {D : Type 0} (disk : Ghosts D) (old new : PeerValue D) (call : Call) (reply : Reply) (s : StepsValue) (is_told : Bool)
+    → IsAnswered disk old call reply new → (IsTrueTo (known_by old) s → IsTrueTo (known_by new) s) → IsEngine old s is_told → IsEngine new s false
+engine_after disk old new call reply s is_told answered stays engine = engine_then old new s is_told answered.same.rules stays engine
+
+-- after any calls
+pub engine_ran : {D : Type 0} (disk : Ghosts D) (old new : PeerValue D) (s : StepsValue) (is_told : Bool)
+    → HasRunOn disk old new → (IsTrueTo (known_by old) s → IsTrueTo (known_by new) s) → IsEngine old s is_told → IsEngine new s false
+engine_ran disk old new s is_told ran stays engine = engine_then old new s is_told ran.rules stays engine
 
 -- an engine that was given all best rows gets no more
 pub told_steps : (k : KnownValue) (most : ℕ) (given : List Row) → given ≡ best_rows k → IsStepped k most given given k.ticks 0

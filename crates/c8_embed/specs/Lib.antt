@@ -1,4 +1,4 @@
 pub mod Steps
 pub mod Engine
 pub mod Journal
-pub mod Session
+pub mod Endpoint

@@ -1,12 +1,11 @@
 //! One peer inside an engine: its calls, its turns, and the rows that it gives to the engine.
-ghost use Rattle.std.specs.Prelude.{ℕ, ◌≡◌, ◌≤◌, ◌<◌, ◌+◌, [], IfOk, IfErr, IfSome, OnOk, OnErr, IsErrOf, take, drop, length, Ok, Err};
+ghost use Rattle.std.specs.Prelude.{ℕ, ◌≡◌, ◌≤◌, ◌+◌, [], IfOk, IfErr, IfSome, take, length};
 ghost use Rattle.c8_wire.specs.checked.Read.{read};
-ghost use Rattle.c8_peer.specs.Asked.{saying_of};
 ghost use Rattle.c8_peer.specs.Opened.{IsOpened, IsRefusedOpening};
 ghost use Rattle.c8_peer.specs.Peer.{IsAnswered, IsSaid, known_by};
-ghost use Rattle.c8_peer.specs.State.{Call, Tick, Deliver, Say, Leave, Decide, Checkpoint, Ticked, Delivered, Left, Decided, Checked};
+ghost use Rattle.c8_peer.specs.State.{Call, Tick, Deliver, Leave, Decide, Checkpoint, Ticked, Delivered, Left, Decided, Checked};
+ghost use Rattle.c8_session.specs.Turns.{HasTurned, IsSayingTo};
 ghost use Rattle.c8_embed.specs.Steps.{IsStepped};
-ghost use Rattle.c8_embed.specs.Engine.{HasTurned};
 
 use crate::laws::what_was_given_stays;
 use crate::steps::{Stepped, Steps};
@@ -14,22 +13,20 @@ use c8_disk::{Disk, DiskError};
 use c8_game::{Game, Keys, Player};
 use c8_peer::laws::deliveries_are_calls;
 use c8_peer::{
-    Check, CheckError, DecideError, Heard, Kind, LeaveError, OpenError, Peer, Refused, TickError,
+    Check, CheckError, DecideError, Heard, LeaveError, OpenError, Peer, Refused, TickError,
 };
-use c8_schedule::{MOST_DUE, Schedule};
-use c8_wire::{Datagram, LONGEST_DATAGRAM, view};
+use c8_session::Session;
+use c8_session::laws::peers_run_on;
+use c8_wire::{LONGEST_DATAGRAM, Seat, Watcher};
 use std::alloc::Global;
 use std::fmt;
 use std::marker::Model;
 
-/// A peer, its schedule, and the rows that the engine was given. Only [`Engine::open`] takes memory.
+/// A session, and the rows that the engine was given. Only [`Engine::open`] takes memory.
 #[derive(Drop)]
 pub struct Engine<'g, D: Disk> {
-    pub(crate) peer: Peer<'g, D>,
+    session: Session<'g, D>,
     steps: Steps,
-    pub(crate) schedule: Schedule,
-    /// The next place of this turn at which a datagram may be due; each player has `MOST_DUE` places.
-    pub(crate) place: u8,
     /// Whether the engine has all best rows, and no call came after that.
     is_told: bool,
     /// How many frames each step rolls back for a test; 0 if there is no test.
@@ -41,15 +38,15 @@ impl<'g, D: Disk> Model for Engine<'g, D> {
 
     ghost Value = { EngineValue D };
 
-    ghost view = { λ e. record { peer = e.peer; steps = e.steps; depth = e.depth } };
+    ghost view = { λ e. record { peer = e.session.peer; steps = e.steps; depth = e.depth } };
 
-    ghost invariant = { λ e. IsEngine e.peer e.steps e.is_told };
+    ghost invariant = { λ e. IsEngine e.session.peer e.steps e.is_told };
 }
 
 /// Prints the peer.
 impl<'g, D: Disk> fmt::Debug for Engine<'g, D> {
     fn fmt<W: fmt::Write>(&self, f: &mut fmt::Formatter<W>) -> fmt::Result {
-        let peer = &self.peer;
+        let peer = self.session.peer();
         write!(f, "Engine {{ peer: {peer:?} }}")
     }
 }
@@ -81,13 +78,11 @@ impl<'g, D: Disk> Engine<'g, D> {
             return Err((OpenError::Memory, disk));
         };
         let peer = Peer::open(alloc, disk, game, me, room)?;
-        let mut schedule = Schedule::new(game, patience, interval);
-        schedule.begin();
+        let mut session = Session::new(peer, game, patience, interval);
+        session.begin();
         Ok(Engine {
-            peer,
+            session,
             steps,
-            schedule,
-            place: u8::MAX,
             is_told: false,
             depth: 0,
         })
@@ -97,24 +92,24 @@ impl<'g, D: Disk> Engine<'g, D> {
     pub fn peer(&self) -> &Peer<'g, D>
         ensures { result.now ≡ self.now.peer }
     {
-        &self.peer
+        self.session.peer()
     }
 
     /// Returns whether the others know more of this player than its journal does: a later epoch, or more inputs. The
     /// journal that this came from is gone, and the player cannot play on.
     pub fn is_lost(&self) -> bool {
-        self.schedule.is_lost()
+        self.session.is_lost()
     }
 
     /// Returns how many turns a player has been silent: turns in a row without a datagram that its open link admitted.
     pub fn silent(&self, player: Player) -> u64 {
-        self.schedule.silent(player)
+        self.session.silent(player)
     }
 
     /// Returns whether the match is over for this peer: it knows that it was dropped, or it has rested for more than
     /// 120 turns after everything was confirmed and acknowledged.
     pub fn is_over(&self) -> bool {
-        self.peer.dropped() || self.schedule.has_rested()
+        self.session.is_over()
     }
 
     /// Enters the own player's next key set, as [`Peer::tick`] does.
@@ -123,10 +118,11 @@ impl<'g, D: Disk> Engine<'g, D> {
         ensures steps { self.new.steps ≡ self.old.steps }
         ensures depth { self.new.depth ≡ self.old.depth }
     {
+        // For the proof: the rows that were given stay true.
         what_was_given_stays::<D>();
-        let _sound = self.peer.is_down();
+        self.session.is_sound();
         self.is_told = false;
-        self.peer.tick(keys)
+        self.session.tick(keys)
     }
 
     /// Processes a received datagram, as [`Peer::deliver`] does, and notes whether it is a sign of life of its sender.
@@ -135,15 +131,12 @@ impl<'g, D: Disk> Engine<'g, D> {
         ensures steps { self.new.steps ≡ self.old.steps }
         ensures depth { self.new.depth ≡ self.old.depth }
     {
+        // For the proof: the rows that were given stay true.
         what_was_given_stays::<D>();
         deliveries_are_calls();
-        let _sound = self.peer.is_down();
+        self.session.is_sound();
         self.is_told = false;
-        let (answer, datagram) = hear(&mut self.peer, bytes);
-        if let Some(datagram) = datagram {
-            self.schedule.heard(&self.peer, &datagram, answer);
-        }
-        answer
+        self.session.deliver(bytes)
     }
 
     /// Drops a player, as [`Peer::leave`] does.
@@ -152,10 +145,11 @@ impl<'g, D: Disk> Engine<'g, D> {
         ensures steps { self.new.steps ≡ self.old.steps }
         ensures depth { self.new.depth ≡ self.old.depth }
     {
+        // For the proof: the rows that were given stay true.
         what_was_given_stays::<D>();
-        let _sound = self.peer.is_down();
+        self.session.is_sound();
         self.is_told = false;
-        self.peer.leave(leaver)
+        self.session.leave(leaver)
     }
 
     /// Cuts a leaver's list, as [`Peer::decide`] does.
@@ -164,10 +158,11 @@ impl<'g, D: Disk> Engine<'g, D> {
         ensures steps { self.new.steps ≡ self.old.steps }
         ensures depth { self.new.depth ≡ self.old.depth }
     {
+        // For the proof: the rows that were given stay true.
         what_was_given_stays::<D>();
-        let _sound = self.peer.is_down();
+        self.session.is_sound();
         self.is_told = false;
-        self.peer.decide(leaver)
+        self.session.decide(leaver)
     }
 
     /// Records the next part of a checkpoint, as [`Peer::checkpoint`] does.
@@ -176,10 +171,61 @@ impl<'g, D: Disk> Engine<'g, D> {
         ensures steps { self.new.steps ≡ self.old.steps }
         ensures depth { self.new.depth ≡ self.old.depth }
     {
+        // For the proof: the rows that were given stay true.
         what_was_given_stays::<D>();
-        let _sound = self.peer.is_down();
+        self.session.is_sound();
         self.is_told = false;
-        self.peer.checkpoint()
+        self.session.checkpoint()
+    }
+
+    /// Makes a turn, but for hearing and ticking. Player 1 drops players who were silent for too long, and cuts those
+    /// whose drop round is ready. Every peer records a part of a checkpoint if one is due. Then
+    /// [`Engine::next_datagram`] returns the datagrams of this turn, one a call. If the disk refuses a record the peer is
+    /// down.
+    pub fn turn(&mut self) -> Result<(), DiskError>
+        ensures turned { HasTurned D.Disk self.old.peer self.new.peer }
+        ensures steps { self.new.steps ≡ self.old.steps }
+        ensures depth { self.new.depth ≡ self.old.depth }
+    {
+        self.end_turn();
+        // For the proof: the rows that were given stay true.
+        what_was_given_stays::<D>();
+        peers_run_on::<D>();
+        self.session.is_sound();
+        self.is_told = false;
+        self.session.turn()
+    }
+
+    /// Starts to show a watcher the confirmed rows: one SHOW a turn, from the first row that the watcher has not
+    /// acknowledged. Only player 1's peer shows rows.
+    pub fn show_to(&mut self, watcher: Watcher)
+        ensures { self.new ≡ self.old }
+    {
+        self.session.show_to(watcher);
+    }
+
+    /// Writes the next datagram of this turn to the front of `out`, and returns its addressee, a player or a watcher, and
+    /// its length, at most 174 bytes. Once the turn has no more datagrams it returns `None`, until the next turn.
+    pub fn next_datagram(&mut self, out: &mut [u8; LONGEST_DATAGRAM]) -> Option<(Seat, usize)>
+        ensures same { self.new ≡ self.old }
+        ensures said { IfSome result (λ said. (call : Call) × IsSayingTo said.0.number call
+            × IsSaid self.old.peer call (take said.1 out.new)) }
+        ensures fits { IfSome result (λ said. said.1 ≤ LONGEST_DATAGRAM) }
+    {
+        let said = self.session.next_datagram(out);
+        if said.is_none() {
+            self.end_turn();
+        }
+        said
+    }
+
+    /// Ends the present turn, unless it has ended, and begins the next one.
+    fn end_turn(&mut self)
+        ensures { self.new ≡ self.old }
+    {
+        if self.session.end() {
+            self.session.begin();
+        }
     }
 
     /// Starts a test of the engine's machine: from now on each step rolls back `depth` frames, unless they are
@@ -207,12 +253,13 @@ impl<'g, D: Disk> Engine<'g, D> {
         if self.depth > 0 {
             self.steps.take_back(self.depth);
         } else if self.is_told {
-            let from = self.peer.now();
+            let from = self.session.peer().now();
             return Stepped { from, count: 0 };
         }
-        let _ahead = self.peer.last_run();
-        let _within = self.peer.confirmed();
-        let stepped = self.steps.step(&self.peer, most);
+        let peer = self.session.peer();
+        let _ahead = peer.last_run();
+        let _within = peer.confirmed();
+        let stepped = self.steps.step(peer, most);
         self.is_told = stepped.count < most;
         stepped
     }
@@ -222,18 +269,5 @@ impl<'g, D: Disk> Engine<'g, D> {
         ensures { result.now ≡ self.now.steps.given }
     {
         self.steps.given()
-    }
-}
-
-/// Delivers received bytes to a peer, and lends the datagram if they are one.
-fn hear<'b, D: Disk>(
-    peer: &mut Peer<'_, D>,
-    bytes: &'b [u8],
-) -> (Result<Heard, Refused>, Option<Datagram<'b>>)
-    ensures { IsAnswered D.Disk peer.old (Deliver (read bytes.now)) (Delivered result.0) peer.new }
-{
-    match view(bytes) {
-        Ok(datagram) => (peer.deliver_datagram(&datagram), Some(datagram)),
-        Err(_) => (peer.deliver(bytes), None),
     }
 }

@@ -7,10 +7,12 @@ ghost use Rattle.c8_known.specs.Confirmed.{confirmed, rows_below, best_rows};
 ghost use Rattle.c8_peer.specs.Peer.{PeerValue, IsAnswered, IsSound, known_by};
 ghost use Rattle.c8_peer.specs.Lawful.{IsCall};
 ghost use Rattle.c8_peer.specs.State.{Call, Reply};
+ghost use Rattle.c8_session.specs.Runs.{HasRunOn};
 ghost use Rattle.c8_embed.specs.Steps.{StepsValue, IsTrueTo, IsStepped, run, states, goes_back};
 
 use c8_disk::Disk;
-use c8_peer::laws::{a_word_stands_from_any_journal, calls_are_deeds};
+use c8_peer::laws::a_word_stands_from_any_journal;
+use c8_session::laws::peers_run_on;
 
 /// An engine with any machine (`S`, a start and a step) keeps its state at each frame. After a step it goes back to the
 /// frame `from` and runs the rows that were given.
@@ -38,12 +40,16 @@ pub fn an_engine_has_the_run<S>()
         → run step start (rows_below k n) ≡ run step start (rows_below j n) }
 {}
 
-/// The rows that an engine was given as confirmed stay true, whatever call its peer makes.
+/// The rows that an engine was given as confirmed stay true, whatever call its peer makes (`call`), and however it runs on
+/// (`ran`).
 pub fn what_was_given_stays<D: Disk>()
-    ensures { (old new : PeerValue D) (call : Call) (reply : Reply) (s : StepsValue)
+    ensures call { (old new : PeerValue D) (call : Call) (reply : Reply) (s : StepsValue)
         → IsSound D.Disk old → IsCall call → IsAnswered D.Disk old call reply new
+        → IsTrueTo (known_by old) s → IsTrueTo (known_by new) s }
+    ensures ran { (old new : PeerValue D) (s : StepsValue)
+        → IsSound D.Disk old → HasRunOn D.Disk old new
         → IsTrueTo (known_by old) s → IsTrueTo (known_by new) s }
 {
     a_word_stands_from_any_journal::<D>();
-    calls_are_deeds::<D>();
+    peers_run_on::<D>();
 }

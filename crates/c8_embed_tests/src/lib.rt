@@ -5,3 +5,5 @@
 mod engines;
 #[cfg(test)]
 mod journals;
+#[cfg(test)]
+mod watched;

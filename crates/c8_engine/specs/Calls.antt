@@ -1,5 +1,5 @@
 -- What the calls of a handle do to its session.
-use Rattle.std.specs.Prelude.{ℕ, ◌≡◌, ◌≢◌, ◌⊎◌, ◌/◌, min, true, false, List, [], ◌∷◌, ◌++◌, length, map, Option, None, Some, Result, Err}
+use Rattle.std.specs.Prelude.{ℕ, ◌≡◌, ◌≢◌, ◌⊎◌, ◌/◌, min, Bool, true, false, List, [], ◌∷◌, ◌++◌, length, map, Option, None, Some, Result, Err}
 use Rattle.c8_disk.specs.declared.error.DiskError.{DiskError}
 use Rattle.c8_disk.specs.declared.file.FileDisk.{FileDisk}
 use Rattle.c8_game.specs.Rules.{Rules, session_of}
@@ -18,27 +18,28 @@ use Rattle.c8_refusals.specs.declared.error.LeaveError.{LeaveError}
 use Rattle.c8_refusals.specs.declared.error.DecideError.{DecideError}
 use Rattle.c8_refusals.specs.declared.error.CheckError.{CheckError}
 use Rattle.c8_embed.specs.declared.medium.Medium.{Medium}
-use Rattle.c8_embed.specs.declared.session.Session.{Session}
-use Rattle.c8_embed.specs.Engine.{HasTurned}
-use Rattle.c8_embed.specs.Session.{EngineOf, HasCalled, HasSealing, HasDelivered, HasSent, IsAsBefore}
-use Rattle.c8_embed.specs.declared.session.Undelivered.{Undelivered}
+use Rattle.c8_embed.specs.declared.endpoint.Endpoint.{Endpoint}
+use Rattle.c8_embed.specs.declared.endpoint.Sender.{Sender}
+use Rattle.c8_session.specs.Turns.{HasTurned}
+use Rattle.c8_embed.specs.Endpoint.{EngineOf, HasCalled, HasSealing, HasDelivered, HasSent, HasNext, IsAsBefore}
+use Rattle.c8_embed.specs.declared.endpoint.Undelivered.{Undelivered}
 use Rattle.c8_sealed.specs.declared.keys.Secrets.{Secrets}
 use Rattle.c8_embed.specs.Journal.{disk}
 use Rattle.c8_engine.specs.Codes.{delivered_code, bad_secret_code, sealed_already_code, tick_code, leave_code, decide_code, check_code}
 use Rattle.c8_engine.specs.Codes.{turn_code, say_code}
 
 -- if the handle was open, it still is, and this holds of its session before and after
-abbrev pub IfSession : Option Session → Option Session → (Session → Session → Type 0) → Type 0
+abbrev pub IfSession : Option Endpoint → Option Endpoint → (Endpoint → Endpoint → Type 0) → Type 0
 IfSession None new P = Unit {0}
 IfSession (Some e) None P = ⊥
 IfSession (Some e) (Some f) P = P e f
 
 -- the same of its engine, and the secret stays
-abbrev pub IfOpen : Option Session → Option Session → (EngineOf → EngineOf → Type 0) → Type 0
+abbrev pub IfOpen : Option Endpoint → Option Endpoint → (EngineOf → EngineOf → Type 0) → Type 0
 IfOpen old new P = IfSession old new (λ e f. P e.engine f.engine × (f.sealer ≡ e.sealer) × (f.number ≡ e.number))
 
 -- The handle has a session of this player in this room, of the game that the text spells. Its engine was given nothing.
-pub record IsOpenedBy (text : List ℕ) (player room : ℕ) (session : Session) : Type 0 where
+pub record IsOpenedBy (text : List ℕ) (player room : ℕ) (session : Endpoint) : Type 0 where
   pub rules : Rules
   pub game : Spells text rules
   pub kept : FileDisk Medium
@@ -48,7 +49,7 @@ pub record IsOpenedBy (text : List ℕ) (player room : ℕ) (session : Session) 
   pub number : session.number ≡ session_of rules room
   pub sealer : session.sealer ≡ None
 
-abbrev pub IsOpenWith : List ℕ → ℕ → ℕ → Option Session → Type 0
+abbrev pub IsOpenWith : List ℕ → ℕ → ℕ → Option Endpoint → Type 0
 IsOpenWith text player room None = ⊥
 IsOpenWith text player room (Some session) = IsOpenedBy text player room session
 
@@ -57,7 +58,7 @@ pub record HasTicked (old new : EngineOf) (keys code : ℕ) : Type 0 where
   pub called : HasCalled old new (Tick keys) (Ticked reply)
   pub code_is : code ≡ tick_code reply
 
-pub record HasHeard (old : Session) (bytes : List ℕ) (code : ℕ) (new : Session) : Type 0 where
+pub record HasHeard (old : Endpoint) (bytes : List ℕ) (code : ℕ) (new : Endpoint) : Type 0 where
   pub answer : Result Heard Undelivered
   pub delivered : HasDelivered old bytes answer new
   pub code_is : code ≡ delivered_code answer
@@ -84,9 +85,9 @@ pub record HasMadeTurn (old new : EngineOf) (code : ℕ) : Type 0 where
   pub depth : new.depth ≡ old.depth
   pub code_is : code ≡ turn_code reply
 
--- the first `size` bytes are the packet of a datagram that the peer says to this player; or there are none, and nothing changed
-abbrev pub HasSaid : Session → ℕ → ℕ → List ℕ → Session → Type 0
-HasSaid e to size out f = ((what : Saying) × HasSent e f to what size out) ⊎ ((size ≡ 0) × IsAsBefore e f)
+-- the first `size` bytes are the packet of a datagram that the peer says to this seat; or there are none, and nothing changed
+abbrev pub HasSaid : Endpoint → ℕ → ℕ → List ℕ → Endpoint → Type 0
+HasSaid e to size out f = HasNext e to size out f ⊎ ((size ≡ 0) × IsAsBefore e f)
 
 -- the saying that a kind's number asks for, about this leaver if it is about one
 abbrev pub IsKind : ℕ → ℕ → Saying → Type 0
@@ -99,13 +100,13 @@ IsKind kind leaver (Cut l) = (kind ≡ 5) × (l ≡ leaver)
 
 -- the first `size` bytes are the packet of a datagram of this kind that the peer says to this player; none can be sealed any
 -- more if there are none
-pub record HasSaidKind (e : Session) (to kind leaver size : ℕ) (out : List ℕ) (f : Session) : Type 0 where
+pub record HasSaidKind (e : Endpoint) (to kind leaver size : ℕ) (out : List ℕ) (f : Endpoint) : Type 0 where
   pub what : Saying
   pub kind_is : IsKind kind leaver what
-  pub said : HasSent e f to what size out ⊎ ((size ≡ 0) × IsAsBefore e f)
+  pub said : HasSent e f (Say to what) size out ⊎ ((size ≡ 0) × IsAsBefore e f)
 
 -- the peer refuses to say a datagram of this kind to this player, and the code tells why
-pub record HasRefusedToSay (e : Session) (to kind leaver code : ℕ) (f : Session) : Type 0 where
+pub record HasRefusedToSay (e : Endpoint) (to kind leaver code : ℕ) (f : Endpoint) : Type 0 where
   pub what : Saying
   pub kind_is : IsKind kind leaver what
   pub why : Unsayable
@@ -114,6 +115,11 @@ pub record HasRefusedToSay (e : Session) (to kind leaver code : ℕ) (f : Sessio
   pub code_is : code ≡ say_code why
 
 -- ---- secrets
+
+-- who sealed the packet that was taken last: the number of the seat, 0 for nobody
+abbrev pub TellsSender : Option Sender → ℕ → Bool → Type 0
+TellsSender None seat newest = seat ≡ 0
+TellsSender (Some sender) seat newest = (seat ≡ sender.from.number) × (newest ≡ sender.is_newest)
 
 -- the secret of the players, and that of the watchers if there are any bytes
 abbrev pub secret_in : List ℕ → Option (List ℕ)
@@ -127,7 +133,7 @@ pub record AreSecrets (players watchers : List ℕ) (secrets : Secrets) : Type 0
   pub differ : watchers ≢ players
 
 -- The session gets a sealer with these secrets, or the code tells why not.
-abbrev pub HasSecrets : Session → List ℕ → List ℕ → ℕ → Session → Type 0
+abbrev pub HasSecrets : Endpoint → List ℕ → List ℕ → ℕ → Endpoint → Type 0
 HasSecrets e players watchers code f =
     ((secrets : Secrets) × AreSecrets players watchers secrets × HasSealing e secrets true f × (code ≡ 0))
     ⊎ ((secrets : Secrets) × AreSecrets players watchers secrets × HasSealing e secrets false f × (code ≡ sealed_already_code))

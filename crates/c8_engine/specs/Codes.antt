@@ -16,8 +16,8 @@ use Rattle.c8_peer.specs.declared.heard.Heard.{Heard}
 use Rattle.c8_peer.specs.declared.heard.Heard.TheVariants.{Nothing, Kept, Out}
 use Rattle.c8_sealed.specs.declared.error.NotTaken.{NotTaken}
 use Rattle.c8_sealed.specs.declared.error.NotTaken.TheVariants.{NotSealed, SeenBefore}
-use Rattle.c8_embed.specs.declared.session.Undelivered.{Undelivered}
-use Rattle.c8_embed.specs.declared.session.Undelivered.TheVariants as undelivered
+use Rattle.c8_embed.specs.declared.endpoint.Undelivered.{Undelivered}
+use Rattle.c8_embed.specs.declared.endpoint.Undelivered.TheVariants as undelivered
 use Rattle.c8_refusals.specs.Errors as refusing
 use Rattle.c8_refusals.specs.declared.error.OpenError.{OpenError}
 use Rattle.c8_refusals.specs.declared.error.OpenError.TheVariants as opens

@@ -1,4 +1,4 @@
--- What a `Handle` owns: nothing where it is closed, and else what a `Box<Session>` of the C library's heap owns.
+-- What a `Handle` owns: nothing where it is closed, and else what a `Box<Endpoint>` of the C library's heap owns.
 pub mod Lent
 use Rattle.std.specs.Prelude.{Option, None, Some}
 use base.Fml.{Fml, feq}
@@ -9,10 +9,10 @@ use Rattle.std.specs.Box.Ownership.{box_owns}
 use Rattle.std.specs.Coded.{coded_option}
 use Rattle.std.specs.Global.{Global}
 use Rattle.std.specs.contracts.impls.GlobalAllocator.TheImpl.{ghosts}
-use Rattle.c8_embed.specs.contracts.session.Session as Session
+use Rattle.c8_embed.specs.contracts.endpoint.Endpoint as Endpoint
 
 abbrev pub session_row : RattleType
-session_row = Session.the_row
+session_row = Endpoint.the_row
 
 abbrev pub held_owns : Global → Ptr → Option session_row.Denot → Fml
 held_owns alloc p None = feq Ptr p null_ptr

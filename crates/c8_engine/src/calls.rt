@@ -1,5 +1,5 @@
 //! The calls of a session's peer, and its turn.
-ghost use Rattle.std.specs.Prelude.{◌≡◌, ◌≤◌, None};
+ghost use Rattle.std.specs.Prelude.{◌≡◌, ◌≤◌, ◌⊎◌, None};
 ghost use Rattle.c8_engine.specs.Codes.{closed_code, nobody_code};
 ghost use Rattle.c8_engine.specs.Calls.{IfOpen, IfSession, HasTicked, HasHeard, HasLeft, HasDecided, HasSaved, HasMadeTurn};
 
@@ -9,6 +9,7 @@ use crate::codes::{
 };
 use crate::handle::Handle;
 use c8_game::{Keys, Player};
+use c8_wire::Watcher;
 
 /// Enters the own player's next key set.
 #[unsafe(no_mangle)]
@@ -92,6 +93,26 @@ pub extern "C" fn c8_turn(handle: &mut Handle) -> u32
         return closed_code();
     }
     turn_code(handle.session().engine.turn())
+}
+
+/// From now on each turn at player 1 shows a watcher, 5 or 6, the confirmed rows that it has not acknowledged.
+#[unsafe(no_mangle)]
+pub extern "C" fn c8_watched(handle: &mut Handle, watcher: u8) -> u32
+    ensures closed { handle.old.value ≡ None → (result ≡ closed_code) × (handle.new ≡ handle.old) }
+    ensures watched { IfOpen handle.old.value handle.new.value (λ e f.
+        (f ≡ e) × ((result ≡ 0) ⊎ (result ≡ nobody_code))) }
+    ensures seats { 5 ≤ watcher → watcher ≤ 6 → (handle.old.value ≡ None → ⊥) → result ≡ 0 }
+    ensures nobody { (5 ≤ watcher → watcher ≤ 6 → ⊥) → (handle.old.value ≡ None → ⊥)
+        → (result ≡ nobody_code) × (handle.new ≡ handle.old) }
+{
+    if !handle.is_open() {
+        return closed_code();
+    }
+    let Some(watcher) = Watcher::new(watcher) else {
+        return nobody_code();
+    };
+    handle.session().engine.show_to(watcher);
+    0
 }
 
 /// From now on each step rolls back by `depth` frames, to test an engine's machine; 0 ends the test.

@@ -1,10 +1,10 @@
 //! A session on a handle. A handle of zeros is closed: it has none.
 ghost use Rattle.std.specs.Prelude.{◌≡◌, Option, None, Some, IsSome, is_some, MatchOption};
 ghost use Rattle.std.specs.Borrow.{sem};
-ghost use Rattle.c8_embed.specs.declared.session.Session.{Session};
+ghost use Rattle.c8_embed.specs.declared.endpoint.Endpoint.{Endpoint};
 ghost use Rattle.c8_engine.specs.Held.{held_owns, session_coded};
 
-use c8_embed::Session;
+use c8_embed::Endpoint;
 use c8_parts::Parts;
 use std::alloc::Global;
 use std::marker::Model;
@@ -15,7 +15,7 @@ use std::ptr;
 pub struct Handle {
     at: *mut u8,
     alloc: Global,
-    pub ghost value: { Option Session } by { session_coded },
+    pub ghost value: { Option Endpoint } by { session_coded },
 }
 
 impl Model for Handle {
@@ -36,13 +36,13 @@ impl Handle {
     }
 
     /// Makes an open handle.
-    pub(crate) fn of(session: Box<Session>) -> Handle
+    pub(crate) fn of(session: Box<Endpoint>) -> Handle
         ensures { result.value ≡ Some session.value }
     {
         Handle::of_parts(Parts::of(session))
     }
 
-    fn of_parts(parts: Parts<Session, Global>) -> Handle
+    fn of_parts(parts: Parts<Endpoint, Global>) -> Handle
         ensures { result.value ≡ Some parts.value }
     {
         let Parts { at, alloc } = parts;
@@ -52,7 +52,7 @@ impl Handle {
         }
     }
 
-    fn into_parts(self) -> Option<Parts<Session, Global>>
+    fn into_parts(self) -> Option<Parts<Endpoint, Global>>
         ensures { MatchOption result (self.value ≡ None) (λ p. self.value ≡ Some p.value) }
     {
         let Handle { at, alloc } = self;
@@ -60,7 +60,7 @@ impl Handle {
             None
         } else {
             Some(Parts {
-                at: at as *mut Session,
+                at: at as *mut Endpoint,
                 alloc,
             })
         }
@@ -74,12 +74,12 @@ impl Handle {
     }
 
     /// Lends the session of an open handle.
-    pub(crate) fn session(&mut self) -> &mut Session
+    pub(crate) fn session(&mut self) -> &mut Endpoint
         requires { IsSome self.old.value }
         ensures* writes_back { sem 𝓛 (LendsSession self.entry result) }
         ensures value { self.old.value ≡ Some result.now }
     {
-        unsafe { &mut *(self.at as *mut Session) }
+        unsafe { &mut *(self.at as *mut Endpoint) }
     }
 }
 

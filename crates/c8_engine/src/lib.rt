@@ -1,4 +1,4 @@
-//! A session for C: one peer on a handle, with the calls of c8_embed's `Session`. `embed/c8.h` declares the exports.
+//! A session for C: one peer on a handle, with the calls of c8_embed's `Endpoint`. `embed/c8.h` declares the exports.
 //!
 //! [`Handle`] is the struct of one pointer that C sees. The clause of each export says what it does to the engine of an
 //! open handle (`specs/Calls.antt`) and which number it answers (`specs/Codes.antt`). `proofs/` has by hand what a raw
@@ -16,7 +16,9 @@ mod saying;
 mod sealing;
 mod stepping;
 
-pub use calls::{c8_check, c8_checkpoint, c8_decide, c8_deliver, c8_leave, c8_tick, c8_turn};
+pub use calls::{
+    c8_check, c8_checkpoint, c8_decide, c8_deliver, c8_leave, c8_tick, c8_turn, c8_watched,
+};
 pub use explaining::c8_explain;
 pub use handle::Handle;
 pub use opening::{c8_close, c8_open, c8_open_journal};

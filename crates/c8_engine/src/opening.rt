@@ -6,7 +6,7 @@ ghost use Rattle.c8_engine.specs.Calls.{IsOpenWith};
 use crate::codes::{file_code, game_code, nobody_code, open_code};
 use crate::handle::Handle;
 use c8_disk::FileDisk;
-use c8_embed::{Engine, Medium, Session};
+use c8_embed::{Endpoint, Engine, Medium};
 use c8_game::{Game, Player};
 use c8_log::SLOT_LENGTH;
 use c8_peer::OpenError;
@@ -127,7 +127,7 @@ fn open_on(
         Ok(engine) => engine,
         Err((error, _)) => return open_code(error),
     };
-    match Box::new(alloc, Session::new(engine, number)) {
+    match Box::new(alloc, Endpoint::new(engine, number)) {
         Ok(session) => {
             *handle = Handle::of(session);
             0

@@ -2,7 +2,7 @@
 ghost use Rattle.std.specs.Prelude.{◌≡◌, ◌≢◌, ◌≤◌, ◌<◌, None, IfSome};
 ghost use Rattle.c8_peer.specs.Asked.{saying_of};
 ghost use Rattle.c8_engine.specs.Codes.{closed_code, nobody_code};
-ghost use Rattle.c8_embed.specs.Session.{IsAsBefore};
+ghost use Rattle.c8_embed.specs.Endpoint.{IsAsBefore};
 ghost use Rattle.c8_engine.specs.Calls.{IfSession, IsKind, HasSaid, HasSaidKind, HasRefusedToSay};
 
 use crate::codes::{closed_code, nobody_code, say_code};
@@ -10,8 +10,8 @@ use crate::handle::Handle;
 use c8_game::Player;
 use c8_peer::Kind;
 
-/// Writes the next packet of this turn to the front of `out`, and for whom it is to `to`. Returns its length; 0 once the turn
-/// has no more, and at a closed handle.
+/// Writes the next packet of this turn to the front of `out`, and the seat that it is for to `to`: a player, or a watcher of
+/// `c8_watched`. Returns its length; 0 once the turn has no more, and at a closed handle.
 #[unsafe(no_mangle)]
 pub extern "C" fn c8_next(handle: &mut Handle, out: &mut [u8; 198], to: &mut u8) -> u32
     ensures closed { handle.old.value ≡ None → (result ≡ 0) × (handle.new ≡ handle.old) }
@@ -22,8 +22,8 @@ pub extern "C" fn c8_next(handle: &mut Handle, out: &mut [u8; 198], to: &mut u8)
         return 0;
     }
     match handle.session().next_packet(out) {
-        Some((player, size)) => {
-            *to = player.number;
+        Some((seat, size)) => {
+            *to = seat.number;
             size as u32
         }
         None => 0,

@@ -1,11 +1,11 @@
 //! A session with a secret.
 ghost use Rattle.std.specs.Prelude.{◌≡◌, ℕ, List, None, MatchOption};
 ghost use Rattle.c8_engine.specs.Codes.{closed_code, bad_secret_code, sealed_already_code};
-ghost use Rattle.c8_engine.specs.Calls.{IfOpen, IfSession, AreSecrets, HasSecrets};
+ghost use Rattle.c8_engine.specs.Calls.{IfSession, AreSecrets, HasSecrets, TellsSender};
 
 use crate::codes::{bad_secret_code, closed_code, sealed_already_code};
 use crate::handle::Handle;
-use c8_embed::Session;
+use c8_embed::Endpoint;
 use c8_sealed::{Secret, Secrets};
 
 /// From now on the session sends and takes sealed packets, with the secret of the players and, if there are any bytes, that of
@@ -22,7 +22,7 @@ pub extern "C" fn c8_secrets(handle: &mut Handle, secret: &[u8; 32], watchers: &
     seal_with(handle.session(), secret, watchers)
 }
 
-fn seal_with(session: &mut Session, secret: &[u8; 32], watchers: &[u8]) -> u32
+fn seal_with(session: &mut Endpoint, secret: &[u8; 32], watchers: &[u8]) -> u32
     ensures { HasSecrets session.old secret.now watchers.now result session.new }
 {
     let Some(secrets) = secrets_of(secret, watchers) else {
@@ -59,19 +59,21 @@ fn secrets_of(secret: &[u8; 32], watchers: &[u8]) -> Option<Secrets>
     }
 }
 
-/// Returns the player whose sealed packet the last delivery took, and writes whether it is the newest of that player; 0 if
-/// it took none.
+/// Returns the seat of the player or watcher whose sealed packet the last delivery took, and writes whether it is the newest
+/// of that sender; 0 if it took none.
 #[unsafe(no_mangle)]
 pub extern "C" fn c8_sender(handle: &mut Handle, newest: &mut bool) -> u8
     ensures same { handle.new.value ≡ handle.old.value }
+    ensures closed { handle.old.value ≡ None → result ≡ 0 }
+    ensures sender { IfSession handle.old.value handle.new.value (λ e f. TellsSender e.sender result newest.new) }
 {
     if !handle.is_open() {
         return 0;
     }
     match handle.session().sender() {
-        Some((player, is_newest)) => {
-            *newest = is_newest;
-            player.number
+        Some(sender) => {
+            *newest = sender.is_newest;
+            sender.from.number
         }
         None => 0,
     }

@@ -9,9 +9,9 @@ use Rattle.c8_peer.specs.Steps.{DiskOutcome}
 use Rattle.c8_peer.specs.Peer.{PeerValue, IsAnswered, disk_outcome_of}
 use Rattle.c8_peer.specs.Runs.{Does, IsDone, IsRun}
 use Rattle.c8_live.specs.Entered.{entered_by, entered_in, HasEntered}
-use Rattle.c8_live.specs.Runs.{does}
-use Rattle.c8_live.specs.Turns.{Doing, Ticks, doing, HasDone}
-use Rattle.c8_live.proofs.RunLemmas.{RunsJoin, still, joined, once}
+use Rattle.c8_session.specs.Runs.{does}
+use Rattle.c8_session.specs.Turns.{Doing, Ticks, doing, HasDone}
+use Rattle.c8_session.specs.checked.Joins.{RunsJoin, still, joined, once}
 
 -- a call that is no tick enters nothing
 none_by : (call : Call) (answer : Option Reply) → (doing call ≡ Ticks → ⊥) → entered_by call answer ≡ []

@@ -1,18 +1,18 @@
 -- How runs of one peer join.
-use Rattle.std.proofs.Common.{◌≡◌, ℕ, List, [], ◌∷◌, ◌++◌, length, true, false, Option, Some, None, refl, sym, ap, subst, ◌∙◌, map}
+use Rattle.std.proofs.Common.{◌≡◌, ℕ, List, [], ◌∷◌, ◌++◌, length, true, false, Option, None, refl, sym, ap, subst, ◌∙◌}
 use Rattle.std.proofs.Common.{append_assoc, arith, suc}
 use Rattle.std.specs.Prelude.{option_to_list}
-use Rattle.std.proofs.lemmas.List.{map-append, append-nil, length-append}
+use Rattle.std.proofs.lemmas.List.{append-nil, length-append}
 use Rattle.c8_game.specs.Rules.{Rules}
 use Rattle.c8_disk.specs.declared.disk.Disk.{Ghosts}
-use Rattle.c8_disk.specs.checked.RunLaws.{same_then}
-use Rattle.c8_peer.specs.State.{State, Call, Reply}
-use Rattle.c8_peer.specs.Steps.{Works, Stepped}
+use Rattle.c8_disk.specs.declared.error.DiskError.{DiskError}
+use Rattle.c8_peer.specs.State.{State}
+use Rattle.c8_peer.specs.Steps.{Stepped}
 use Rattle.c8_peer.specs.Opening.{opening_record, Stands, opened}
 use Rattle.c8_peer.specs.Opened.{bodies_found, IsOpened}
 use Rattle.c8_peer.specs.TrueChecks.{HasTrueChecks}
-use Rattle.c8_peer.specs.Peer.{PeerValue, IsAnswered, known_by, begun_by, disk_outcome_of}
-use Rattle.c8_peer.specs.Runs.{Deed, Does, IsDone, IsRun, TellsTruly}
+use Rattle.c8_peer.specs.Peer.{PeerValue, known_by, begun_by}
+use Rattle.c8_peer.specs.Runs.{TellsTruly}
 use Rattle.c8_record.specs.Body.{records_of}
 use Rattle.c8_game.specs.declared.row.Row.{Row}
 use Rattle.c8_known.specs.Journal.{Record}
@@ -23,52 +23,8 @@ use Rattle.c8_check.specs.Checks.{begun_at}
 use Rattle.c8_board.specs.Tokens.{Begins}
 use Rattle.c8_live.specs.declared.error.SessionError.{SessionError}
 use Rattle.c8_live.specs.declared.error.SessionError.TheVariants.{Disk, Wire}
-use Rattle.c8_live.specs.Runs.{does, HasRunOn, IsEnd}
-
-abbrev pub still : {D : Type 0} (disk : Ghosts D) (p : PeerValue D) → HasRunOn disk p p
-still disk p = record {
-  rules = refl;
-  room = refl;
-  me = refl;
-  calls = [];
-  answers = [];
-  run = refl;
-  disk_is = record { capacity = refl; arms = refl; no_fewer = omega arith };
-}
-
--- a run under other names of the same game, match and player
-pub run_of : (rules rules2 : Rules) (room room2 me me2 : ℕ) (s t : State) (deeds : List Deed) (answers : List (Option Reply))
-    → rules2 ≡ rules → room2 ≡ room → me2 ≡ me
-    → IsRun rules2 room2 me2 s deeds answers t → IsRun rules room me s deeds answers t
-run_of rules rules2 room room2 me me2 s t deeds answers same_rules same_room same_me run =
-    subst (λ (x : Rules). IsRun x room me s deeds answers t) same_rules
-    (subst (λ (x : ℕ). IsRun rules2 x me s deeds answers t) same_room (subst (λ (x : ℕ). IsRun rules2 room2 x s deeds answers t) same_me run))
-
--- runs join, as c8_peer states it
-abbrev pub RunsJoin : Type 0
-RunsJoin = (rules : Rules) (room me : ℕ) (s t u : State) (deeds more : List Deed) (answers others : List (Option Reply))
-    → IsRun rules room me s deeds answers t → IsRun rules room me t more others u
-    → IsRun rules room me s (deeds ++ more) (answers ++ others) u
-
-abbrev pub joined : {D : Type 0} (disk : Ghosts D) → RunsJoin → (first middle last : PeerValue D) → HasRunOn disk first middle
-    → HasRunOn disk middle last → HasRunOn disk first last
-joined disk join first middle last one two =
-    let answers = one.answers ++ two.answers in
-    let more = run_of first.rules middle.rules first.room middle.room first.me middle.me middle.state last.state (map does two.calls)
-    two.answers one.rules one.room one.me two.run in
-    record {
-      rules = two.rules ∙ one.rules;
-      room = two.room ∙ one.room;
-      me = two.me ∙ one.me;
-      calls = one.calls ++ two.calls;
-      answers = answers;
-      run =
-          subst (λ (deeds : List Deed). IsRun first.rules first.room first.me first.state deeds answers last.state)
-          (sym (map-append does one.calls two.calls))
-          (join first.rules first.room first.me first.state middle.state last.state (map does one.calls) (map does two.calls) one.answers
-          two.answers one.run more);
-      disk_is = same_then disk first.disk middle.disk last.disk one.disk_is two.disk_is;
-    }
+use Rattle.c8_live.specs.Ends.{IsEnd}
+use Rattle.c8_session.specs.Runs.{HasRunOn, IsStopped}
 
 -- rows that begin others of the same number are these
 more_than_none : (n : ℕ) → suc n ≡ 0 → ⊥
@@ -84,44 +40,14 @@ begins_whole early late begins same =
     (nothing_left begins.rest (omega (arith, same, length-append early begins.rest, ap length begins.is)))
     ∙ append-nil early
 
--- one call
-abbrev pub once : {D : Type 0} (disk : Ghosts D) (old new : PeerValue D) (call : Call) (reply : Reply) → IsAnswered disk old call reply new
-    → IsDone old.rules old.room old.me old.state (Does call (disk_outcome_of reply)) (Some reply) new.state → HasRunOn disk old new
-once disk old new call reply is deed = record {
-  rules = is.same.rules;
-  room = is.same.room;
-  me = is.same.me;
-  calls = (call, disk_outcome_of reply) ∷ [];
-  answers = Some reply ∷ [];
-  run = (new.state, deed, refl);
-  disk_is = is.same.disk_is;
-}
-
--- a saying, which does not change the peer
-abbrev pub says : {D : Type 0} (disk : Ghosts D) (p : PeerValue D) (call : Call) (reply : Reply)
-    → IsDone p.rules p.room p.me p.state (Does call Works) (Some reply) p.state → HasRunOn disk p p
-says disk p call reply deed = record {
-  rules = refl;
-  room = refl;
-  me = refl;
-  calls = (call, Works) ∷ [];
-  answers = Some reply ∷ [];
-  run = (p.state, deed, refl);
-  disk_is = record { capacity = refl; arms = refl; no_fewer = omega arith };
-}
-
 -- what ends a session after the second part of a run ends it after both
-pub ended : {D : Type 0} (disk : Ghosts D) → RunsJoin → (first middle last : PeerValue D) (error : SessionError)
-    → HasRunOn disk first middle → IsEnd disk middle last error → IsEnd disk first last error
-ended disk join first middle last (Disk why) ran end = record {
-  before = end.before;
-  ran = joined disk join first middle end.before ran end.ran;
-  call = end.call;
-  reply = end.reply;
-  answered = end.answered;
-  refused = end.refused;
-}
-ended disk join first middle last (Wire failed) ran end = tt
+pub ended : {D : Type 0} (disk : Ghosts D)
+    → ((first middle last : PeerValue D) (why : DiskError) → HasRunOn disk first middle → IsStopped disk middle last why
+    → IsStopped disk first last why)
+    → (first middle last : PeerValue D) (error : SessionError) → HasRunOn disk first middle → IsEnd disk middle last error
+    → IsEnd disk first last error
+ended disk stopped first middle last (Disk why) ran end = stopped first middle last why ran end
+ended disk stopped first middle last (Wire failed) ran end = tt
 
 -- the machine began where it did before, in terms of the same rules
 pub begun_still : {D : Type 0} (disk : Ghosts D) (old new : PeerValue D) → HasRunOn disk old new

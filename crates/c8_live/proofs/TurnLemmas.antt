@@ -2,39 +2,18 @@
 use Rattle.std.proofs.Common.{◌≡◌, ◌≤◌, inl, inr, ℕ, suc, List, [], ◌∷◌, ◌++◌, Option, Some, Ok, refl, sym, ap, subst, ◌+◌, ◌∙◌, arith}
 use Rattle.std.proofs.Common.{append-nil, append_assoc}
 use Rattle.std.proofs.lemmas.List.{length-append}
-use Rattle.std.proofs.lemmas.List.Elements.{All-nil, All-cons, All-append}
+use Rattle.std.proofs.lemmas.List.Elements.{All-nil, All-cons}
 use Rattle.c8_disk.specs.declared.disk.Disk.{Ghosts as DiskGhosts}
 use Rattle.c8_peer.specs.State.{Call, Reply, Said}
 use Rattle.c8_peer.specs.Steps.{DiskOutcome, Works}
-use Rattle.c8_peer.specs.Peer.{PeerValue, IsAnswered, IsSaid, disk_outcome_of}
+use Rattle.c8_peer.specs.Peer.{PeerValue, IsSaid}
 use Rattle.c8_peer.specs.Runs.{Does, IsDone}
 use Rattle.c8_transport.specs.declared.wire.Wire.{Ghosts as WireGhosts}
-use Rattle.c8_live.specs.Runs.{HasRunOn}
-use Rattle.c8_live.specs.Turns.{Doing, Hears, Ticks, LetsGo, Cuts, Saves, Speaks, doing, HasDone, HasDoneOnce, AreDeliveriesOf, HasHeardOf}
-use Rattle.c8_live.specs.Turns.{HasHeard, WereSaid, HasSpoken, IsTurn, AreTurns}
+use Rattle.c8_session.specs.Runs.{HasRunOn}
 use Rattle.c8_transport.specs.Wire.{MayTake, most_packets}
-use Rattle.c8_live.proofs.RunLemmas.{RunsJoin, still, joined, once, says}
-
--- ---- calls of one kind
-
-module _ {D : Type 0} (disk : DiskGhosts D) where
-  abbrev pub done_still : (what : Doing) (p : PeerValue D) → HasDone disk what p p
-  done_still what p = record { ran = still disk p; alike = All-nil (λ (call : Call × DiskOutcome). doing call.0 ≡ what) }
-
-  abbrev pub done_joined : RunsJoin → (what : Doing) (first middle last : PeerValue D) → HasDone disk what first middle
-      → HasDone disk what middle last → HasDone disk what first last
-  done_joined join what first middle last one two = record {
-    ran = joined disk join first middle last one.ran two.ran;
-    alike = All-append (λ (call : Call × DiskOutcome). doing call.0 ≡ what) one.ran.calls two.ran.calls one.alike two.alike;
-  }
-
-  abbrev pub done_once : (old new : PeerValue D) (call : Call) (reply : Reply) → IsAnswered disk old call reply new
-      → IsDone old.rules old.room old.me old.state (Does call (disk_outcome_of reply)) (Some reply) new.state → HasDone disk (doing call) old new
-  done_once old new call reply is deed = record {
-    ran = once disk old new call reply is deed;
-    alike = All-cons (λ (c : Call × DiskOutcome). doing c.0 ≡ doing call) (call, disk_outcome_of reply) [] refl
-        (All-nil (λ (c : Call × DiskOutcome). doing c.0 ≡ doing call));
-  }
+use Rattle.c8_session.specs.Turns.{Hears, Ticks, Speaks, doing, HasDoneOnce, HasTurned}
+use Rattle.c8_session.specs.checked.Joins.{RunsJoin, joined, says, done_still, done_joined, turned_ran}
+use Rattle.c8_live.specs.Turns.{AreDeliveriesOf, HasHeardOf, HasHeard, WereSaid, HasSpoken, IsTurn, AreTurns}
 
 -- ---- what was heard
 
@@ -151,34 +130,24 @@ module _ {D W : Type 0} (disk : DiskGhosts D) (wire : WireGhosts W) where
 
   -- ---- turns
 
-  abbrev pub turn_of : (old heard ticked let_go cut new : PeerValue D) (before between after : W)
-      → HasHeard disk wire most_packets old heard before between → HasDoneOnce disk Ticks heard ticked → HasDone disk LetsGo ticked let_go
-      → HasDone disk Cuts let_go cut → HasDoneOnce disk Saves cut new → HasSpoken disk wire new between after → IsTurn disk wire old new before after
-  turn_of old heard ticked let_go cut new before between after hears ticks lets_go cuts saves speaks =
-      record {
-        heard = heard;
-        ticked = ticked;
-        let_go = let_go;
-        cut = cut;
-        between = between;
-        hears = hears;
-        ticks = ticks;
-        lets_go = lets_go;
-        cuts = cuts;
-        saves = saves;
-        speaks = speaks;
-      }
-
-  abbrev pub none_done : (what : Doing) (p : PeerValue D) → HasDoneOnce disk what p p
-  none_done what p = (done_still disk what p, omega arith)
+  abbrev pub turn_of : (old heard ticked new : PeerValue D) (before between after : W)
+      → HasHeard disk wire most_packets old heard before between → HasDoneOnce disk Ticks heard ticked → HasTurned disk ticked new
+      → HasSpoken disk wire new between after → IsTurn disk wire old new before after
+  turn_of old heard ticked new before between after hears ticks turns speaks = record {
+    heard = heard;
+    ticked = ticked;
+    between = between;
+    hears = hears;
+    ticks = ticks;
+    turns = turns;
+    speaks = speaks;
+  }
 
   pub turn_ran : RunsJoin → (old new : PeerValue D) (before after : W) → IsTurn disk wire old new before after → HasRunOn disk old new
   turn_ran join old new before after turn =
       joined disk join old turn.heard new turn.hears.heard.0.ran
       (joined disk join turn.heard turn.ticked new turn.ticks.0.ran
-      (joined disk join turn.ticked turn.let_go new turn.lets_go.ran
-      (joined disk join turn.let_go turn.cut new turn.cuts.ran
-      (joined disk join turn.cut new new turn.saves.0.ran turn.speaks.done.ran))))
+      (joined disk join turn.ticked new new (turned_ran disk join turn.ticked new turn.turns) turn.speaks.done.ran))
 
   pub turns_more : (n : ℕ) (old middle new : PeerValue D) (before between after : W) → AreTurns disk wire n old middle before between
       → IsTurn disk wire middle new between after

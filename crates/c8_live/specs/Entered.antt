@@ -7,7 +7,7 @@ use Rattle.c8_peer.specs.State.{Call, Tick, Deliver, Say, Show, Leave, Decide, C
 use Rattle.c8_peer.specs.Steps.{DiskOutcome}
 use Rattle.c8_peer.specs.Peer.{PeerValue, IsAnswered}
 use Rattle.c8_transport.specs.declared.wire.Wire.{Ghosts as WireGhosts}
-use Rattle.c8_live.specs.Runs.{HasRunOn}
+use Rattle.c8_session.specs.Runs.{HasRunOn}
 use Rattle.c8_live.specs.Turns.{IsTurn}
 
 -- whether the answer is that of a tick that was taken

@@ -1,43 +1,14 @@
--- What a turn of a session is: which calls of its peer it makes, in which order, and which packets its wire takes.
+-- What a turn of a session over a wire is: what its peer hears, which calls it makes, and which packets the wire takes.
 use Rattle.std.specs.Prelude.{◌≡◌, ◌⊎◌, ◌≤◌, ℕ, zero, suc, List, [], ◌∷◌, ◌++◌, length, Option, Some, Ok}
-use Rattle.std.specs.List.{All}
 use Rattle.c8_disk.specs.declared.disk.Disk.{Ghosts as DiskGhosts}
 use Rattle.c8_wire.specs.Packet.{Packet}
 use Rattle.c8_wire.specs.Spelling.{Spells}
-use Rattle.c8_peer.specs.State.{Call, Reply, Tick, Deliver, Say, Show, Leave, Decide, Checkpoint, Said}
+use Rattle.c8_peer.specs.State.{Call, Reply, Deliver, Said}
 use Rattle.c8_peer.specs.Steps.{DiskOutcome}
 use Rattle.c8_peer.specs.Peer.{PeerValue}
+use Rattle.c8_session.specs.Turns.{Hears, Ticks, Speaks, HasDone, HasDoneOnce, HasTurned}
 use Rattle.c8_transport.specs.Wire.{most_packets}
 use Rattle.c8_transport.specs.declared.wire.Wire.{Ghosts as WireGhosts}
-use Rattle.c8_live.specs.Runs.{HasRunOn}
-
--- ---- which calls
-
-pub data Doing : Type 0 where
-  Hears : Doing
-  Ticks : Doing
-  LetsGo : Doing
-  Cuts : Doing
-  Saves : Doing
-  Speaks : Doing
-
-abbrev pub doing : Call → Doing
-doing (Deliver told) = Hears
-doing (Tick keys) = Ticks
-doing (Leave leaver) = LetsGo
-doing (Decide leaver) = Cuts
-doing Checkpoint = Saves
-doing (Say to what) = Speaks
-doing (Show watcher) = Speaks
-
--- a run of calls of one kind
-pub record HasDone {D : Type 0} (disk : DiskGhosts D) (what : Doing) (old new : PeerValue D) : Type 0 where
-  pub ran : HasRunOn disk old new
-  pub alike : All (λ (call : Call × DiskOutcome). doing call.0 ≡ what) ran.calls
-
--- the same with at most one call
-abbrev pub HasDoneOnce : {D : Type 0} → DiskGhosts D → Doing → PeerValue D → PeerValue D → Type 0
-HasDoneOnce disk what old new = (done : HasDone disk what old new) × (length done.ran.calls ≤ 1)
 
 -- ---- what is heard
 
@@ -84,19 +55,15 @@ pub record HasSpoken {D W : Type 0} (disk : DiskGhosts D) (wire : WireGhosts W) 
 
 -- ---- turns
 
--- A turn: the peer hears at most `most_packets` packets of the wire, ticks at most once, drops players, cuts, records
--- at most one part of a checkpoint, and speaks. If the disk or the wire fails, nothing more follows.
+-- A turn: the peer hears at most `most_packets` packets of the wire, ticks at most once, makes the turn's other calls,
+-- and speaks. If the disk or the wire fails, nothing more follows.
 pub record IsTurn {D W : Type 0} (disk : DiskGhosts D) (wire : WireGhosts W) (old new : PeerValue D) (before after : W) : Type 0 where
   pub heard : PeerValue D
   pub ticked : PeerValue D
-  pub let_go : PeerValue D
-  pub cut : PeerValue D
   pub between : W
   pub hears : HasHeard disk wire most_packets old heard before between
   pub ticks : HasDoneOnce disk Ticks heard ticked
-  pub lets_go : HasDone disk LetsGo ticked let_go
-  pub cuts : HasDone disk Cuts let_go cut
-  pub saves : HasDoneOnce disk Saves cut new
+  pub turns : HasTurned disk ticked new
   pub speaks : HasSpoken disk wire new between after
 
 -- this number of turns, one after another; between two of them the wire gives and takes nothing

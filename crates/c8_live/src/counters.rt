@@ -1,7 +1,7 @@
 //! Counts of a peer's threads, for other threads to read.
-use crate::session::Session;
 use c8_disk::Disk;
 use c8_game::{MOST_PLAYERS, Player};
+use c8_session::Session;
 use c8_transport::Losses;
 use std::sync::atomic::{AtomicBool, AtomicU64, Ordering};
 

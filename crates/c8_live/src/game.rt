@@ -10,13 +10,14 @@ ghost use Rattle.c8_machine.specs.State.{state};
 ghost use Rattle.c8_digest.specs.Origin.{run_since};
 ghost use Rattle.c8_peer.specs.Peer.{known_by, begun_by, IsSound};
 ghost use Rattle.c8_live.specs.Published.{IsShown, MayShow, pen_at, viewer_at};
-ghost use Rattle.c8_live.specs.Runs.{HasRunOn, IsEnd};
+ghost use Rattle.c8_live.specs.Ends.{IsEnd};
 ghost use Rattle.c8_live.specs.Turns.{IsTurn, AreTurns};
+ghost use Rattle.c8_session.specs.Runs.{HasRunOn};
 
 use crate::counters::Counters;
 use crate::error::SessionError;
-use crate::laws::{confirmed_rows_grow, machines_begin_where_they_did, peers_run_on, turns_join};
-use crate::session::Session;
+use crate::laws::{confirmed_rows_grow, machines_begin_where_they_did, sessions_end, turns_join};
+use crate::turn::make_turn;
 use c8_board::laws::starts_tell_origins;
 use c8_board::{Board, Pen, Viewer};
 use c8_disk::Disk;
@@ -24,6 +25,8 @@ use c8_game::{Game, Keys};
 use c8_machine::Machine;
 use c8_peer::Peer;
 use c8_record::laws::checkpoints_are_in_order;
+use c8_session::Session;
+use c8_session::laws::peers_run_on;
 use c8_transport::{Gate, Wire, Worker};
 use std::alloc::{AllocError, Global};
 
@@ -67,7 +70,9 @@ pub fn game_worker<D: Disk, K: KeySource, W: Wire, G: Gate>(
         × (pen.new.from ≡ pen.old.from) }
     ensures begins { Begins pen.old.rows pen.new.rows }
 {
+    // For the proof: turns join, and what was published stays.
     peers_run_on::<D>();
+    sessions_end::<D>();
     turns_join::<D, W>();
     confirmed_rows_grow::<D>();
     machines_begin_where_they_did::<D>();
@@ -96,7 +101,7 @@ fn turn_with<D: Disk, K: KeySource, W: Wire>(
     ensures ran { HasRunOn D.Disk session.old.peer session.new.peer }
     ensures end { IfErr result (IsEnd D.Disk session.old.peer session.new.peer) }
 {
-    if session.turn(keys.next_keys(), wire)? {
+    if make_turn(session, keys.next_keys(), wire)? {
         keys.taken();
     }
     Ok(())
@@ -120,7 +125,7 @@ pub fn open_board<D: Disk>(
 {
     // For the proof: the peer is sound, its frames are within the game's, and a start can name the place where its
     // machine began.
-    let _down = peer.is_down();
+    peer.is_sound();
     let _confirmed = peer.confirmed();
     checkpoints_are_in_order();
     starts_tell_origins();
@@ -169,7 +174,7 @@ fn publish_more<D: Disk>(peer: &Peer<'_, D>, published: u32, board: &Board, pen:
     ensures sound { IsSound D.Disk peer.now }
 {
     // For the proof: the peer is sound.
-    let _down = peer.is_down();
+    peer.is_sound();
     if peer.confirmed() == published {
         return published;
     }
@@ -187,7 +192,7 @@ fn publish<D: Disk>(peer: &Peer<'_, D>, board: &Board, pen: &mut Pen) -> u32
     ensures sound { IsSound D.Disk peer.now }
 {
     // For the proof: the peer is sound, and its frames are within the game's.
-    let _down = peer.is_down();
+    peer.is_sound();
     let _confirmed = peer.confirmed();
     let (count, machine) = peer.base();
     show(peer, count, machine, board, pen);

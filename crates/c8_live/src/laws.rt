@@ -18,8 +18,10 @@ ghost use Rattle.c8_wire.specs.Spelling.{Spells};
 ghost use Rattle.c8_live.specs.declared.error.SessionError.{SessionError};
 ghost use Rattle.c8_live.specs.Entered.{entered_by, HasEntered};
 ghost use Rattle.c8_live.specs.Parts.{IsHandedOn};
-ghost use Rattle.c8_live.specs.Runs.{HasRunOn, IsEnd};
-ghost use Rattle.c8_live.specs.Turns.{Doing, Ticks, Speaks, doing, HasDone, HasHeardOf, HasHeard, HasSpoken, IsTurn, AreTurns};
+ghost use Rattle.c8_live.specs.Ends.{IsEnd};
+ghost use Rattle.c8_live.specs.Turns.{HasHeardOf, HasHeard, HasSpoken, IsTurn, AreTurns};
+ghost use Rattle.c8_session.specs.Runs.{HasRunOn};
+ghost use Rattle.c8_session.specs.Turns.{Doing, Ticks, Speaks, doing, HasDone};
 ghost use Rattle.c8_transport.specs.Wire.{MayTake};
 
 use c8_disk::Disk;
@@ -29,37 +31,16 @@ use c8_peer::laws::{
 };
 use c8_record::laws::what_a_journal_says_stays;
 use c8_roll::laws::a_run_may_begin_on_the_way;
+use c8_session::laws::peers_run_on;
 use c8_transport::Wire;
 
-/// Runs of a peer: no call (`still`), one more call (`call`), one run after another (`joined`). What ends a session
-/// after the second part ends it after both (`ended`).
-pub fn peers_run_on<D: Disk>()
-    ensures still { (p : PeerValue D) → HasRunOn D.Disk p p }
-    ensures call { (first old new : PeerValue D) (call : Call) (reply : Reply)
-        → HasRunOn D.Disk first old → IsCall call → IsAnswered D.Disk old call reply new
-        → HasRunOn D.Disk first new }
-    ensures joined { (first middle last : PeerValue D)
-        → HasRunOn D.Disk first middle → HasRunOn D.Disk middle last → HasRunOn D.Disk first last }
-    ensures ended { (first middle last : PeerValue D) (error : SessionError)
+/// What ends a session after the second part of a run ends it after both.
+pub fn sessions_end<D: Disk>()
+    ensures { (first middle last : PeerValue D) (error : SessionError)
         → HasRunOn D.Disk first middle → IsEnd D.Disk middle last error
         → IsEnd D.Disk first last error }
 {
-    runs_join();
-    calls_are_deeds::<D>();
-}
-
-/// Calls of one kind: none (`still`), one (`once`), some after others (`joined`).
-pub fn doings_join<D: Disk>()
-    ensures still { (what : Doing) (p : PeerValue D) → HasDone D.Disk what p p }
-    ensures once { (old new : PeerValue D) (call : Call) (reply : Reply)
-        → IsCall call → IsAnswered D.Disk old call reply new
-        → (done : HasDone D.Disk (doing call) old new) × (length done.ran.calls ≡ 1) }
-    ensures joined { (what : Doing) (first middle last : PeerValue D)
-        → HasDone D.Disk what first middle → HasDone D.Disk what middle last
-        → HasDone D.Disk what first last }
-{
-    runs_join();
-    calls_are_deeds::<D>();
+    peers_run_on::<D>();
 }
 
 /// What a player enters: nothing without a call (`still`), nothing by calls that are no ticks (`none`), a tick's key

@@ -1,9 +1,8 @@
 //! The live session of one peer: it plays a game with others, turn by turn, over a network that may lose, delay or
 //! repeat datagrams.
 //!
-//! [`Session`] is the loop: each call of [`Session::turn`] hears, enters a key set and speaks over a `Wire` of
-//! c8_transport. c8_peer decides what each call does, and c8_schedule when each call comes. The contract of
-//! `Session::turn` says that a turn changes its peer by these calls alone, in their order, and that its wire takes only
+//! [`make_turn`] runs a `Session` of c8_session over a `Wire` of c8_transport: it hears, enters a key set and speaks. Its
+//! contract says that a turn changes its peer by the calls of a turn alone, in their order, and that the wire takes only
 //! what the peer said. [`Progress`] and [`tell_end`] print how far the peer is and how it ended, by a [`Gauge`].
 //!
 //! A peer may run in two threads. [`game_worker`] makes the turns of a session with the key sets of a [`KeySource`],
@@ -19,10 +18,8 @@ pub mod laws;
 mod net;
 mod progress;
 mod relay;
-mod rollbacks;
-mod session;
+mod turn;
 
-pub use c8_schedule::Life;
 pub use counters::{Counters, Standing};
 pub use error::SessionError;
 pub use game::{KeySource, game_worker, open_board};
@@ -30,5 +27,4 @@ pub use gauge::{Gauge, Reading};
 pub use net::{PLACES, net_worker};
 pub use progress::{Progress, tell_end};
 pub use relay::Relay;
-pub use rollbacks::Rollbacks;
-pub use session::Session;
+pub use turn::{listen, make_turn};

@@ -2,9 +2,9 @@
 
 use crate::counters::Standing;
 use crate::gauge::{Gauge, Reading};
-use crate::session::Session;
 use c8_disk::Disk;
 use c8_game::{MOST_PLAYERS, Player};
+use c8_session::Session;
 use std::io;
 use std::io::Write;
 use std::time::Duration;

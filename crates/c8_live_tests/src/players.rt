@@ -2,7 +2,8 @@
 use crate::way::Way;
 use c8_disk::MemDisk;
 use c8_game::{Game, Keys, Player};
-use c8_live::Session;
+use c8_live::make_turn;
+use c8_session::Session;
 use c8_peer::Peer;
 use std::alloc::Global;
 
@@ -68,7 +69,7 @@ impl Hand {
     /// Makes a turn with the next key set, and returns whether it succeeded. A set that is refused is entered again.
     pub(crate) fn makes_turn(&mut self, session: &mut Session<'_, MemDisk>, way: &mut Way) -> bool {
         let next = self.sets.get(self.taken).copied().unwrap_or_default();
-        match session.turn(Some(next), way) {
+        match make_turn(session, Some(next), way) {
             Ok(is_taken) => {
                 if is_taken {
                     self.taken = self.taken.saturating_add(1);

@@ -5,7 +5,8 @@ use crate::step::{DATA, FREEZE, FROZEN, HELLO, Step, WELCOME};
 use crate::way::Way;
 use c8_disk::MemDisk;
 use c8_game::{Game, Keys, Player};
-use c8_live::{Counters, Progress, Session};
+use c8_live::{Counters, Progress, listen, make_turn};
+use c8_session::Session;
 use c8_peer::{Kind, Peer};
 use c8_wire::{Datagram, LONGEST_DATAGRAM, Seat, Watcher, view};
 use std::alloc::Global;
@@ -275,11 +276,11 @@ impl<'g> Table<'g> {
     }
 
     fn listens(&mut self, alloc: Global, wanted: &str) -> bool {
-        self.session.listen(&mut self.way).is_ok() && self.has_sent(alloc, wanted)
+        listen(&mut self.session, &mut self.way).is_ok() && self.has_sent(alloc, wanted)
     }
 
     fn plays(&mut self, alloc: Global, keys: Option<u16>, is_taken: bool, wanted: &str) -> bool {
-        match self.session.turn(keys.map(Keys), &mut self.way) {
+        match make_turn(&mut self.session, keys.map(Keys), &mut self.way) {
             Ok(taken) => taken == is_taken && self.has_sent(alloc, wanted),
             Err(_) => false,
         }

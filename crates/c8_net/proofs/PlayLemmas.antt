@@ -17,7 +17,8 @@ use Rattle.c8_keys.specs.declared.lines.Played.{Played}
 use Rattle.c8_live.specs.declared.error.SessionError.{SessionError}
 use Rattle.c8_live.specs.declared.error.SessionError.TheVariants as sessions
 use Rattle.c8_transport.specs.declared.error.WireFailed.TheVariants as failures
-use Rattle.c8_live.specs.Runs.{HasRunOn, IsEnd}
+use Rattle.c8_session.specs.Runs.{HasRunOn}
+use Rattle.c8_live.specs.Ends.{IsEnd}
 use Rattle.c8_net.specs.Errors.{error_of_session, error_of_unopened}
 use Rattle.c8_net.specs.declared.error.Unopened.{Unopened}
 use Rattle.c8_net.specs.declared.error.Unopened.TheVariants as unopened

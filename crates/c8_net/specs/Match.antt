@@ -16,7 +16,8 @@ use Rattle.c8_refusals.specs.declared.error.OpenError.TheVariants as opens
 use Rattle.c8_keys.specs.KeySets.{IsFaultOfSets}
 use Rattle.c8_keys.specs.declared.lines.Played.{Played}
 use Rattle.c8_live.specs.declared.error.SessionError.{SessionError}
-use Rattle.c8_live.specs.Runs.{HasRunOn, IsStopped, IsEnd}
+use Rattle.c8_session.specs.Runs.{HasRunOn, IsStopped}
+use Rattle.c8_live.specs.Ends.{IsEnd}
 use Rattle.c8_net.specs.declared.error.PeerError.{PeerError}
 use Rattle.c8_net.specs.declared.error.PeerError.TheVariants.{Game, Secret, Keys, Open, Disk, Socket, Lost}
 use Rattle.c8_udp.specs.declared.error.SocketError.TheVariants as sockets

@@ -12,10 +12,10 @@ use c8_disk::Disk;
 use c8_game::Game;
 use c8_inlet::{Putter, Taker, inlet};
 use c8_live::{
-    Counters, KeySource, PLACES, Progress, Relay, Session, Standing, game_worker, net_worker,
-    open_board,
+    Counters, KeySource, PLACES, Progress, Relay, Standing, game_worker, net_worker, open_board,
 };
 use c8_peer::Peer;
+use c8_session::Session;
 use c8_transport::{Wire, WireFailed, Worker};
 use c8_udp::Bell;
 use std::alloc::{AllocError, Global};

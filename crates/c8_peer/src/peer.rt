@@ -99,13 +99,19 @@ impl<'g, D: Disk> Peer<'g, D> {
     ghost use Rattle.c8_peer.specs.Peer.{KeepsWithOrWithout, LeavesJournal, IsSound, RunsFrames, known_by, mode_of};
 
     /// Returns whether the disk refused a record. If so, close the peer and open its disk again.
-    /// Proofs also get from here what holds for every peer (`IsSound`).
     pub fn is_down(&self) -> bool
         ensures value { self.now.state.mode ≡ mode_of result }
         ensures sound { IsSound D.Disk self.now }
     {
         self.game.in_range();
         self.journal.is_down()
+    }
+
+    /// For proofs: what holds for every open peer.
+    pub fn is_sound(&self)
+        ensures { IsSound D.Disk self.now }
+    {
+        let _down = self.is_down();
     }
 
     /// Arms the disk: chooses which of its calls fail from now on.
@@ -138,7 +144,7 @@ impl<'g, D: Disk> Peer<'g, D> {
         ensures disk { result ≡ self.entry.disk }
         ensures sound { IsSound D.Disk self.entry }
     {
-        let _down = self.is_down();
+        self.is_sound();
         self.journal.close()
     }
 
@@ -190,11 +196,11 @@ impl<'g, D: Disk> Peer<'g, D> {
             Ok(()) => {
                 make_known(&mut self.known, lent);
                 go_on(&mut self.roll, &self.known);
-                let _down = self.is_down();
+                self.is_sound();
                 Ok(())
             }
             Err(error) => {
-                let _down = self.is_down();
+                self.is_sound();
                 Err(error)
             }
         }

@@ -8,9 +8,9 @@ use Rattle.c8_peer.specs.Peer.{PeerValue, known_by, begun_by}
 use Rattle.c8_screen.specs.Points.{Points}
 use Rattle.c8_transport.specs.declared.wire.Wire.{Ghosts as WireGhosts}
 use Rattle.c8_live.specs.Entered.{HasHandedIn}
-use Rattle.c8_live.specs.Over.{IsOver}
+use Rattle.c8_session.specs.Rest.{IsOver}
 use Rattle.c8_live.specs.Turns.{HasHeard}
-use Rattle.c8_live.specs.declared.session.Session.{Session}
+use Rattle.c8_session.specs.declared.session.Session.{Session}
 use Rattle.c8_net.specs.declared.arguments.Asked.{Asked}
 use Rattle.c8_play.specs.declared.console.Console.{Ghosts as ConsoleGhosts}
 use Rattle.c8_play.specs.declared.desk.Desk.{Desk}

@@ -1,7 +1,8 @@
 //! A match that is played at a desk.
 
 ghost use Rattle.std.specs.Prelude.{◌≡◌, ◌≤◌, ◌↔◌, ℕ, IsTrue, IfOk, IfErr};
-ghost use Rattle.c8_live.specs.Runs.{HasRunOn, IsEnd};
+ghost use Rattle.c8_session.specs.Runs.{HasRunOn};
+ghost use Rattle.c8_live.specs.Ends.{IsEnd};
 ghost use Rattle.c8_net.specs.Match.{HasEnded};
 ghost use Rattle.c8_play.specs.Desk.{IsSameDesk};
 ghost use Rattle.c8_play.specs.Frames.{IsFrame, IsSeen, HasPlayed, HasWaited, AreFrames, IsEnough, IsEndOfPlay};
@@ -15,11 +16,13 @@ use crate::status::StatusRow;
 use c8_beat::Lateness;
 use c8_disk::Disk;
 use c8_game::{Game, Player};
-use c8_live::laws::{hearings_join, peers_run_on};
-use c8_live::{Session, SessionError};
+use c8_live::laws::{hearings_join, sessions_end};
+use c8_live::{SessionError, listen, make_turn};
 use c8_net::{Asked, Ended, Line, Performance, Unopened, sealer_of};
 use c8_peer::Peer;
 use c8_sealed::Sealed;
+use c8_session::Session;
+use c8_session::laws::peers_run_on;
 use c8_transport::{Losses, Wire};
 use std::io;
 use std::io::Write;
@@ -144,7 +147,9 @@ pub fn play_frames<D: Disk, W: Wire, C: Console>(
         wire.old wire.new desk.old desk.new 0 leads) }
     ensures ended { IfOk result (λ made. IsEndOfPlay asked.now made session.new desk.new) }
 {
+    // For the proof: frames join, and what ends one ends the play.
     peers_run_on::<D>();
+    sessions_end::<D>();
     let mut lead = Lead::new(game.window(), rate);
     let mut status = StatusRow::new(desk.now(), asked.player, session.peer().players());
     status.begin(Chime::new(asked.is_muted));
@@ -189,13 +194,15 @@ fn wait<D: Disk, W: Wire, C: Console>(
     ensures waited { HasWaited D.Disk W.Wire C.Console session.old.peer session.new.peer
         wire.old wire.new desk.old desk.new }
 {
+    // For the proof: what is heard while it waits joins.
     peers_run_on::<D>();
+    sessions_end::<D>();
     hearings_join::<D, W>();
     for _ in 0..MOST_RESTS {
         if desk.rest_unless_due() {
             break;
         }
-        session.listen(wire)?;
+        listen(session, wire)?;
         status.note(session);
     }
     desk.sit_out();
@@ -251,10 +258,10 @@ fn enter<D: Disk, W: Wire, C: Console>(
 {
     let keys = desk.begin();
     if lead.leaves_out(session.peer()) {
-        let _taken = session.turn(None, wire)?;
+        let _taken = make_turn(session, None, wire)?;
         return Ok(Entry::LeftOut);
     }
-    if session.turn(Some(keys), wire)? {
+    if make_turn(session, Some(keys), wire)? {
         desk.entered();
         Ok(Entry::Taken)
     } else {

@@ -6,7 +6,7 @@ use crate::console::{Log, Still, Written};
 use crate::waits::asked_for;
 use c8_disk::MemDisk;
 use c8_game::{Game, Keys, Player};
-use c8_live::Session;
+use c8_session::Session;
 use c8_peer::{Kind, Peer};
 use c8_play::{Desk, Pace, play_frames};
 use c8_transport::{Traffic, Wire, WireFailed};

@@ -7,7 +7,7 @@ use crate::alone::{DRAWS, whole};
 use crate::console::{Log, Sent, Still, Written};
 use c8_disk::MemDisk;
 use c8_game::{Game, Player};
-use c8_live::Session;
+use c8_session::Session;
 use c8_net::Asked;
 use c8_peer::Peer;
 use c8_play::{Desk, Pace, play_frames};

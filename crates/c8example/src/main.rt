@@ -6,7 +6,8 @@ use c8_disk::MemDisk;
 use c8_game::{Game, Keys, Player};
 use c8_inlet::{Packet, Putter, Taker, inlet};
 use c8_keys::{Played, write_report};
-use c8_live::Session;
+use c8_live::make_turn;
+use c8_session::Session;
 use c8_peer::Peer;
 use c8_transport::{Wire, WireFailed};
 use c8_wire::Seat;
@@ -96,8 +97,8 @@ fn meet<W: Write>(one: &mut Side<'_>, two: &mut Side<'_>, out: &mut W) -> Option
         if one.session.is_over() && two.session.is_over() {
             break;
         }
-        one.session.turn(Some(Keys(turn / 7)), &mut one.wire).ok()?;
-        two.session.turn(Some(Keys(turn * 3)), &mut two.wire).ok()?;
+        make_turn(&mut one.session, Some(Keys(turn / 7)), &mut one.wire).ok()?;
+        make_turn(&mut two.session, Some(Keys(turn * 3)), &mut two.wire).ok()?;
     }
     report(&one.session, out)?;
     report(&two.session, out)

@@ -3,7 +3,7 @@
 use crate::sys;
 use std::ops::Deref;
 
-/// A datagram to send, sealed if the session has a secret, and the player that it is for. It dereferences to its bytes.
+/// A datagram to send, sealed if the session has a secret, and the seat that it is for. It dereferences to its bytes.
 #[derive(Clone, Copy, Debug)]
 pub struct Packet {
     pub(crate) bytes: [u8; sys::PACKET],
@@ -12,7 +12,7 @@ pub struct Packet {
 }
 
 impl Packet {
-    /// The player that it is for, 1 to 4.
+    /// The player that it is for, 1 to 4, or the watcher, 5 or 6.
     pub fn to(&self) -> u8 {
         self.to
     }
@@ -26,11 +26,11 @@ impl Deref for Packet {
     }
 }
 
-/// The player that sealed a delivered packet.
+/// Who sealed a delivered packet.
 #[derive(Clone, Copy, Debug, PartialEq, Eq, Hash)]
 pub struct Sender {
-    /// Its number, 1 to 4.
-    pub player: u8,
-    /// Whether no packet that it sealed later came before. Then the player is where this one came from: send there.
+    /// A player, 1 to 4, or a watcher, 5 or 6.
+    pub seat: u8,
+    /// Whether no packet that it sealed later came before. Then the sender is where this one came from: send there.
     pub is_newest: bool,
 }

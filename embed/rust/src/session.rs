@@ -115,12 +115,12 @@ impl Session {
         done(self.handle.secrets(secret, watchers.map_or(&[], |watchers| &watchers[..])))
     }
 
-    /// The player whose sealed packet the last delivery accepted.
+    /// Who sealed the packet that the last delivery accepted.
     pub fn sender(&self) -> Option<Sender> {
         let mut is_newest = false;
         match self.handle.sender(&mut is_newest) {
             0 => None,
-            player => Some(Sender { player, is_newest }),
+            seat => Some(Sender { seat, is_newest }),
         }
     }
 
@@ -151,6 +151,11 @@ impl Session {
     /// The packets of this turn that are still to be sent.
     pub fn packets(&mut self) -> Packets<'_> {
         Packets { session: self }
+    }
+
+    /// Shows watcher 5 or 6 the confirmed rows from now on: at player 1 each turn has a packet for it.
+    pub fn show_to(&mut self, watcher: u8) -> Result<(), Refusal> {
+        done(self.handle.watched(watcher))
     }
 
     /// Whether the match is over for this session: it was dropped, or everything was confirmed and acknowledged for more

@@ -58,6 +58,7 @@ extern "C" {
     fn c8_tick(session: *mut Raw, input: u16) -> u32;
     fn c8_turn(session: *mut Raw) -> u32;
     fn c8_next(session: *mut Raw, out: *mut u8, to: *mut u8) -> u32;
+    fn c8_watched(session: *mut Raw, watcher: u8) -> u32;
     fn c8_is_over(session: *mut Raw) -> bool;
     fn c8_is_lost(session: *mut Raw) -> bool;
     fn c8_step(session: *mut Raw, from: *mut u32, rows: *mut u16, words: usize) -> u32;
@@ -124,6 +125,10 @@ impl Handle {
 
     pub fn next(&mut self, out: &mut [u8; PACKET], to: &mut u8) -> u32 {
         unsafe { c8_next(self.0.get(), out.as_mut_ptr(), to) }
+    }
+
+    pub fn watched(&mut self, watcher: u8) -> u32 {
+        unsafe { c8_watched(self.0.get(), watcher) }
     }
 
     pub fn is_over(&self) -> bool {

@@ -155,10 +155,10 @@ fn a_packet_opens_with_its_secret_alone_and_once() {
     let second = one.say(2, Kind::Hello).unwrap();
     assert_eq!((first.len(), second.len()), (48, 48));
     assert_eq!(two.deliver(&second), Ok(Heard::Nothing));
-    assert_eq!(two.sender(), Some(Sender { player: 1, is_newest: true }));
+    assert_eq!(two.sender(), Some(Sender { seat: 1, is_newest: true }));
     assert_eq!((two.deliver(&second), two.sender()), (Err(Refusal::SeenBefore), None));
     assert_eq!(two.deliver(&first), Ok(Heard::Nothing));
-    assert_eq!(two.sender(), Some(Sender { player: 1, is_newest: false }));
+    assert_eq!(two.sender(), Some(Sender { seat: 1, is_newest: false }));
 
     assert_eq!(one.deliver(&first), Err(Refusal::NotSealed));
     assert_eq!(sealed(2, 2).deliver(&first), Err(Refusal::NotSealed));

@@ -51,11 +51,11 @@ impl<'g, D: Disk> Peer<'g, D> {
             Ok(()) => {
                 note(&mut self.checks);
                 go_on(&mut self.roll, &self.known);
-                let _down = self.is_down();
+                self.is_sound();
                 Ok(said)
             }
             Err(error) => {
-                let _down = self.is_down();
+                self.is_sound();
                 Err(CheckError::Disk(error))
             }
         }

@@ -88,7 +88,7 @@ impl<'g, D: Disk> Peer<'g, D> {
             (Delivered result) self.new }
     {
         // For the proof: what holds for every peer.
-        let _down = self.is_down();
+        self.is_sound();
         let sender = self.sender_of(datagram);
         match self.judge(sender, datagram) {
             Ok(Verdict::Nothing) => {
@@ -117,7 +117,7 @@ impl<'g, D: Disk> Peer<'g, D> {
         ensures plays { Plays (known_by self.now) result.number }
     {
         // For the proof: what holds for every peer.
-        let _down = self.is_down();
+        self.is_sound();
         let Some(sender) = datagram.header().from().player() else {
             unreachable!();
         };
@@ -176,7 +176,7 @@ impl<'g, D: Disk> Peer<'g, D> {
             (Delivered result) self.new }
     {
         // For the proof: what holds for every peer.
-        let _down = self.is_down();
+        self.is_sound();
         let Some(watcher) = datagram.header().from().watcher() else {
             unreachable!();
         };

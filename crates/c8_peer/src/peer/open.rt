@@ -120,7 +120,7 @@ fn open_in<'g, D: Disk>(
         memory,
     };
     // For the proof: the peer is sound.
-    let _down = peer.is_down();
+    peer.is_sound();
     Ok(peer)
 }
 

@@ -34,7 +34,7 @@ pub returns-in_err-turn_with-clause-end : goal.returns-in_err-turn_with-clause-e
 returns-in_err-turn_with-clause-end g c =
     let error = err_from_is_err_and c.from_residual.result c.from_residual.ensures.1 in
     rw (error.1, error.2)
-    (c.peers_run_on.ensures.ended c.args.session.now.peer c.loop-turn.session.peer c.turn_with.new.session.peer c.in_err-turn_with.field-0.0
+    (c.sessions_end.ensures c.args.session.now.peer c.loop-turn.session.peer c.turn_with.new.session.peer c.in_err-turn_with.field-0.0
     c.loop-turn.invariant.ran c.in_err-turn_with.ensures.end)
 
 pub returns-in_err-turn_with-clause-begins : goal.returns-in_err-turn_with-clause-begins

@@ -4,7 +4,7 @@ use Rattle.c8_board.specs.Tokens.{Begins}
 use Rattle.c8_known.specs.Confirmed.{confirmed_rows}
 use Rattle.c8_peer.specs.Peer.{known_by, begun_by, IsSound}
 use Rattle.c8_live.specs.Published.{IsShown}
-use Rattle.c8_live.specs.Runs.{HasRunOn}
+use Rattle.c8_session.specs.Runs.{HasRunOn}
 use Rattle.c8_live.specs.Turns.{AreTurns}
 use Rattle.c8_live.proofs.game.game_worker.Given as goal
 

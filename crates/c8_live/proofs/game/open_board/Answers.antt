@@ -13,7 +13,7 @@ use Rattle.c8_live.proofs.game.open_board.Goals as goal
 pub open_at-requires : goal.open_at-requires
 open_at-requires g c κs within =
     let peer = c.args.peer.now in
-    let sound = c.is_down-down.ensures.sound in
+    let sound = c.is_sound.ensures in
     let rows = confirmed_rows (known_by peer) in
     let few = c.confirmed-confirmed.ensures.within in
     let same = c.confirmed-confirmed.ensures.value in
@@ -42,7 +42,7 @@ open_at-requires g c κs within =
 pub returns-clause-shows : goal.returns-clause-shows
 returns-clause-shows g c =
     let peer = c.args.peer.now in
-    let sound = c.is_down-down.ensures.sound in
+    let sound = c.is_sound.ensures in
     let rows = confirmed_rows (known_by peer) in
     let begins = c.starts_tell_origins.ensures (begun_by peer)
     (c.checkpoints_are_in_order.ensures.origin peer.rules peer.me peer.room peer.state.journal sound.range sound.plays.0 sound.plays.1

@@ -16,7 +16,7 @@ show-requires g c κs within =
     let few = c.confirmed-confirmed.ensures.within in
     let same = c.confirmed-confirmed.ensures.value in
     let counted = c.base-count.ensures.confirmed in
-    let range = c.is_down-down.ensures.sound.range in (
+    let range = c.is_sound.ensures.range in (
       within,
       (
         refl,

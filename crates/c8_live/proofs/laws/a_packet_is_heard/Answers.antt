@@ -1,8 +1,8 @@
 -- A packet is heard by no call, or by one delivery of what its bytes spell.
 use Rattle.std.proofs.Common.{inl, Ok, refl}
 use Rattle.c8_peer.specs.State.{Deliver}
-use Rattle.c8_live.specs.Turns.{Hears}
-use Rattle.c8_live.proofs.TurnLemmas.{done_still, done_once}
+use Rattle.c8_session.specs.Turns.{Hears}
+use Rattle.c8_session.specs.checked.Joins.{done_still, done_once}
 use Rattle.c8_live.proofs.laws.a_packet_is_heard.Goals as goal
 
 pub returns-clause-none : goal.returns-clause-none

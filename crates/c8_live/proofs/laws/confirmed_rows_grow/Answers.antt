@@ -2,7 +2,7 @@
 use Rattle.std.proofs.Common.{List, map, false, subst}
 use Rattle.c8_known.specs.Journal.{Record}
 use Rattle.c8_record.specs.Allowed.{IsJournal}
-use Rattle.c8_live.specs.Runs.{does}
+use Rattle.c8_session.specs.Runs.{does}
 use Rattle.c8_live.proofs.RunLemmas.{grown_rows}
 use Rattle.c8_live.proofs.laws.confirmed_rows_grow.Goals as goal
 

@@ -6,7 +6,7 @@ use Rattle.c8_peer.specs.Opened.{bodies_found}
 use Rattle.c8_roll.specs.Roll.{RollValue, roll_since, roll_of}
 use Rattle.c8_peer.specs.Peer.{known_by, begun_by}
 use Rattle.c8_peer.specs.Runs.{TellsTruly}
-use Rattle.c8_live.specs.Runs.{does}
+use Rattle.c8_session.specs.Runs.{does}
 use Rattle.c8_live.proofs.RunLemmas.{opened_tells}
 use Rattle.c8_live.proofs.laws.true_checks_show_the_serial_run.Goals as goal
 

@@ -14,8 +14,8 @@ returns-then-leaves_out-clause-played g c =
     let judged = c.leaves_out.ensures in
     let handed = c.in_ok-_taken.ensures.handed_in in
     let none : c.in_ok-_taken._taken ≡ false =
-    none_taken g.D.Disk g.W.Wire g.C.Console c.in_ok-_taken._taken c.args.session.now.peer c.turn.new.self.peer c.args.wire.now
-    c.turn.new.wire handed in
+    none_taken g.D.Disk g.W.Wire g.C.Console c.in_ok-_taken._taken c.args.session.now.peer c.make_turn.new.session.peer c.args.wire.now
+    c.make_turn.new.wire handed in
     record {
       read = typing g.C.Console begun.new.self;
       keys = begun.result;
@@ -27,8 +27,8 @@ returns-then-leaves_out-clause-played g c =
           (frames_of c.args.lead.now) (frames_of c.leaves_out.new.self) c.peer.ensures
           (led_out (window_of c.args.lead.now) (patience_of c.args.lead.now) c.peer.result.now c.leaves_out.result
           (frames_of c.args.lead.now) (frames_of c.leaves_out.new.self) c.if-leaves_out.true judged.out judged.anew);
-      handed_in = subst (λ (taken : Bool). HasHandedIn g.D.Disk g.W.Wire None taken c.args.session.now.peer c.turn.new.self.peer
-          c.args.wire.now c.turn.new.wire) none handed;
+      handed_in = subst (λ (taken : Bool). HasHandedIn g.D.Disk g.W.Wire None taken c.args.session.now.peer c.make_turn.new.session.peer
+          c.args.wire.now c.make_turn.new.wire) none handed;
       counted = refl;
       forgets = begun.ensures.seen;
       drawn = begun.ensures.drawn;
@@ -50,7 +50,7 @@ returns-then-branch-clause-played g c =
           (led_taken (window_of c.args.lead.now) (patience_of c.args.lead.now) c.peer.result.now c.leaves_out.result
           (frames_of c.args.lead.now) (frames_of c.leaves_out.new.self) c.if-leaves_out.false judged.out judged.behind judged.counted);
       handed_in = subst (λ (taken : Bool). HasHandedIn g.D.Disk g.W.Wire (Some begun.result) taken c.args.session.now.peer
-          c.turn-2.new.self.peer c.args.wire.now c.turn-2.new.wire) c.if-branch.true c.in_ok-turn.ensures.handed_in;
+          c.make_turn-2.new.session.peer c.args.wire.now c.make_turn-2.new.wire) c.if-branch.true c.in_ok-make_turn.ensures.handed_in;
       counted = c.entered.ensures.counted;
       forgets = forgets_more c.args.desk.now begun.new.self c.entered.new.self begun.ensures.seen (inl c.entered.ensures.seen);
       drawn = c.entered.ensures.drawn ∙ begun.ensures.drawn;
@@ -72,7 +72,7 @@ returns-else-branch-clause-played g c =
           (led_refused (window_of c.args.lead.now) (patience_of c.args.lead.now) c.peer.result.now c.leaves_out.result
           (frames_of c.args.lead.now) (frames_of c.has_waited.new.self) c.if-leaves_out.false judged.out c.has_waited.ensures.frames);
       handed_in = subst (λ (taken : Bool). HasHandedIn g.D.Disk g.W.Wire (Some begun.result) taken c.args.session.now.peer
-          c.turn-2.new.self.peer c.args.wire.now c.turn-2.new.wire) c.if-branch.false c.in_ok-turn.ensures.handed_in;
+          c.make_turn-2.new.session.peer c.args.wire.now c.make_turn-2.new.wire) c.if-branch.false c.in_ok-make_turn.ensures.handed_in;
       counted = refl;
       forgets = begun.ensures.seen;
       drawn = begun.ensures.drawn;

@@ -10,7 +10,7 @@ pub returns-in_err-wait-clause-end : goal.returns-in_err-wait-clause-end
 returns-in_err-wait-clause-end g c =
     let error = err_from_is_err_and c.from_residual.result c.from_residual.ensures.1 in
     rw (error.1, error.2)
-    (c.peers_run_on.ensures.ended c.args.session.now.peer c.loop-turn.session.peer c.wait.new.session.peer c.in_err-wait.field-0.0
+    (c.sessions_end.ensures c.args.session.now.peer c.loop-turn.session.peer c.wait.new.session.peer c.in_err-wait.field-0.0
     c.loop-turn.invariant.ran c.in_err-wait.ensures.end)
 
 pub returns-in_err-play_frame-clause-ran : goal.returns-in_err-play_frame-clause-ran
@@ -25,7 +25,7 @@ returns-in_err-play_frame-clause-end g c =
     let first = c.args.session.now.peer in
     let error = err_from_is_err_and c.from_residual-in_err-play_frame.result c.from_residual-in_err-play_frame.ensures.1 in
     rw (error.1, error.2)
-    (c.peers_run_on.ensures.ended first c.wait.new.session.peer c.play_frame.new.session.peer c.in_err-play_frame.field-0.0
+    (c.sessions_end.ensures first c.wait.new.session.peer c.play_frame.new.session.peer c.in_err-play_frame.field-0.0
     (c.peers_run_on.ensures.joined first c.loop-turn.session.peer c.wait.new.session.peer c.loop-turn.invariant.ran c.in_ok-wait.ensures.ran)
     c.in_err-play_frame.ensures.end)
 

@@ -1,6 +1,6 @@
 -- One frame a turn so far, each after a wait, all with the window of the game and the patience of the rate.
 use Rattle.std.specs.Prelude.{◌≡◌, ◌≤◌}
-use Rattle.c8_live.specs.Runs.{HasRunOn}
+use Rattle.c8_session.specs.Runs.{HasRunOn}
 use Rattle.c8_play.specs.Frames.{AreFrames}
 use Rattle.c8_play.specs.Lead.{window_of, patience_of, frames_of}
 use Rattle.c8_play.proofs.live.play_frames.Given as goal

@@ -1,5 +1,5 @@
 -- The peer has heard packets and done nothing else, and the desk is as it was.
-use Rattle.c8_live.specs.Runs.{HasRunOn}
+use Rattle.c8_session.specs.Runs.{HasRunOn}
 use Rattle.c8_play.specs.Frames.{HasWaited}
 use Rattle.c8_play.proofs.live.wait.Given as goal
 

@@ -187,7 +187,7 @@ returns-in-Ok g c =
     let seen_now = view_more v rules room k.me k.me (last_run_of c.self.inside.roll) ran c.self.inside.journal c.append.new.self
     c.self.inside.memory r c.self.view_is longer
     (ap (λ (j : JournalValue g.row.D.Denot). j.pending) is) (ap (λ (j : JournalValue g.row.D.Denot). j.is_down) is) refl in
-    let leaves = subst (LeavesJournal g.D.Disk) seen_now c.is_down-down.ensures.sound.leaves in
+    let leaves = subst (LeavesJournal g.D.Disk) seen_now c.is_sound.ensures.leaves in
     let done : IsAnswered g.D.Disk v Checkpoint (Checked (Ok (next_said cut))) (with_record g.D.Disk v c.append.new.self.disk r v.state.memory ran) =
     records g.D.Disk v c.append.new.self.disk v.state.memory ran Checkpoint (Checked (Ok (next_said cut))) r mode comes refl kept runs leaves in
     subst (λ (x : PeerValue g.row.D.Denot). IsAnswered g.D.Disk v Checkpoint (Checked (Ok c.next_said-said.result)) x) (sym seen_now)
@@ -224,7 +224,7 @@ returns-in-Err g c =
     (ap (λ (j : JournalValue g.row.D.Denot). j.bodies) is) (ap (λ (j : JournalValue g.row.D.Denot). j.pending) is)
     (ap (λ (j : JournalValue g.row.D.Denot). j.is_down) is)
     (ap record_of body ∙ read_again r now.may.spelled) in
-    let leaves = subst (LeavesJournal g.D.Disk) seen_now c.is_down-down-in-Err.ensures.sound.leaves in
+    let leaves = subst (LeavesJournal g.D.Disk) seen_now c.is_sound-in-Err.ensures.leaves in
     let cause = append_cause g.D.Disk v rules room k.me c.self.inside.journal c.append.new.self.disk c.self.inside.memory r why
     c.self.view_is c.in-Err.ensures.failed c.in-Err.ensures.full c.in-Err.ensures.full_leaves in
     subst (λ (x : PeerValue g.row.D.Denot). IsAnswered g.D.Disk v Checkpoint (Checked (Err (checks.Disk why))) x) (sym seen_now)

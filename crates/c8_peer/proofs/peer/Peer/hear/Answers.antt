@@ -25,7 +25,7 @@ note-requires-clause-memory g c =
     let p = packet_of c.args.datagram.now in
     let comes = comes_to v p verdicts.Nothing c.in-Ok-Nothing.field-0 c.requires.packet c.requires.stays c.requires.wire c.requires.admitted
     c.in-Ok-Nothing.ensures.judged.0 c.in-Ok-Nothing.field-0-is in
-    memory_noted g.D.Disk v p (taken (memory_after v.state.memory p) heards.Nothing) c.is_down-down.ensures.sound c.requires.packet comes
+    memory_noted g.D.Disk v p (taken (memory_after v.state.memory p) heards.Nothing) c.is_sound.ensures c.requires.packet comes
 
 pub keep-requires-clause-allowed : goal.keep-requires-clause-allowed
 keep-requires-clause-allowed g c =
@@ -35,7 +35,7 @@ keep-requires-clause-allowed g c =
     let comes = comes_to v p (verdicts.Keep c.in-Ok-Keep.record c.in-Ok-Keep.heard) c.in-Ok-Keep.field-0 c.requires.packet c.requires.stays
     c.requires.wire c.requires.admitted c.in-Ok-Keep.ensures.judged.0 c.in-Ok-Keep.field-0-is in
     record_allowed g.D.Disk v p (recorded (memory_after v.state.memory p) (Delivered (Ok c.in-Ok-Keep.heard)) r) r
-    c.is_down-down.ensures.sound c.requires.packet comes refl
+    c.is_sound.ensures c.requires.packet comes refl
 
 pub note-requires-in-Ok-clause-acks : goal.note-requires-in-Ok-clause-acks
 note-requires-in-Ok-clause-acks g c =
@@ -45,9 +45,9 @@ note-requires-in-Ok-clause-acks g c =
     let comes = comes_to v p (verdicts.Keep c.in-Ok-Keep.record c.in-Ok-Keep.heard) c.in-Ok-Keep.field-0 c.requires.packet c.requires.stays
     c.requires.wire c.requires.admitted c.in-Ok-Keep.ensures.judged.0 c.in-Ok-Keep.field-0-is in
     let may = record_allowed g.D.Disk v p (recorded (memory_after v.state.memory p) (Delivered (Ok c.in-Ok-Keep.heard)) r) r
-    c.is_down-down.ensures.sound c.requires.packet comes refl in
+    c.is_sound.ensures c.requires.packet comes refl in
     subst (λ (x : PeerValue g.row.D.Denot). AcksWithin (known_by x) p.message) (sym c.in-Ok.ensures.ok)
-    (acks_kept g.D.Disk v p.message r c.is_down-down.ensures.sound may c.in-Ok-Keep.ensures.acks)
+    (acks_kept g.D.Disk v p.message r c.is_sound.ensures may c.in-Ok-Keep.ensures.acks)
 
 pub note-requires-in-Ok-clause-memory : goal.note-requires-in-Ok-clause-memory
 note-requires-in-Ok-clause-memory g c =
@@ -57,8 +57,8 @@ note-requires-in-Ok-clause-memory g c =
     let comes = comes_to v p (verdicts.Keep c.in-Ok-Keep.record c.in-Ok-Keep.heard) c.in-Ok-Keep.field-0 c.requires.packet c.requires.stays
     c.requires.wire c.requires.admitted c.in-Ok-Keep.ensures.judged.0 c.in-Ok-Keep.field-0-is in
     let stays = memory_noted g.D.Disk v p (recorded (memory_after v.state.memory p) (Delivered (Ok c.in-Ok-Keep.heard)) r)
-    c.is_down-down.ensures.sound c.requires.packet comes in
-    let sound = c.is_down-down.ensures.sound in
+    c.is_sound.ensures c.requires.packet comes in
+    let sound = c.is_sound.ensures in
     let may = record_allowed g.D.Disk v p (recorded (memory_after v.state.memory p) (Delivered (Ok c.in-Ok-Keep.heard)) r) r sound
     c.requires.packet comes refl in
     let later = heard_later (verdicts.Keep c.in-Ok-Keep.record c.in-Ok-Keep.heard) c.in-Ok-Keep.field-0 c.in-Ok-Keep.ensures.judged.1
@@ -75,7 +75,7 @@ returns-in-Ok-Nothing g c =
     let comes = comes_to v p verdicts.Nothing c.in-Ok-Nothing.field-0 c.requires.packet c.requires.stays c.requires.wire c.requires.admitted
     c.in-Ok-Nothing.ensures.judged.0 c.in-Ok-Nothing.field-0-is in
     subst (λ (x : PeerValue g.row.D.Denot). IsAnswered g.D.Disk v (Deliver (Ok p)) (Delivered (Ok heards.Nothing)) x) (sym c.note.ensures)
-    (answers g.D.Disk v (memory_after v.state.memory p) (Deliver (Ok p)) (Delivered (Ok heards.Nothing)) c.is_down-down.ensures.sound
+    (answers g.D.Disk v (memory_after v.state.memory p) (Deliver (Ok p)) (Delivered (Ok heards.Nothing)) c.is_sound.ensures
     c.requires.up comes refl)
 
 pub returns-in-Ok-Alarm : goal.returns-in-Ok-Alarm
@@ -85,7 +85,7 @@ returns-in-Ok-Alarm g c =
     let comes = comes_to v p verdicts.Alarm c.in-Ok-Alarm.field-0 c.requires.packet c.requires.stays c.requires.wire c.requires.admitted
     c.in-Ok-Alarm.ensures.judged.0 c.in-Ok-Alarm.field-0-is in
     subst (λ (x : PeerValue g.row.D.Denot). IsAnswered g.D.Disk v (Deliver (Ok p)) (Delivered (Err refusals.Desync)) x) (sym c.raise_alarm.ensures)
-    (answers g.D.Disk v _ (Deliver (Ok p)) (Delivered (Err refusals.Desync)) c.is_down-down.ensures.sound c.requires.up comes refl)
+    (answers g.D.Disk v _ (Deliver (Ok p)) (Delivered (Err refusals.Desync)) c.is_sound.ensures c.requires.up comes refl)
 
 pub returns-in-Ok : goal.returns-in-Ok
 returns-in-Ok g c =
@@ -137,5 +137,5 @@ returns-in-Err g c =
     let v = c.args.self.now in
     let p = packet_of c.args.datagram.now in
     let comes = heard_is v p c.requires.packet c.requires.stays c.requires.wire c.requires.admitted ∙ c.in-Err.ensures.judged.0 in
-    answers g.D.Disk v v.state.memory (Deliver (Ok p)) (Delivered (Err c.in-Err.error)) c.is_down-down.ensures.sound c.requires.up comes
+    answers g.D.Disk v v.state.memory (Deliver (Ok p)) (Delivered (Err c.in-Err.error)) c.is_sound.ensures c.requires.up comes
     c.in-Err.ensures.judged.1

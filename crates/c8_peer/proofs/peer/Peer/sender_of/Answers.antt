@@ -9,7 +9,7 @@ use Rattle.c8_peer.proofs.peer.Peer.sender_of.Goals as goal
 pub returns-clause-plays : goal.returns-clause-plays
 returns-clause-plays g c =
     let v = c.args.self.now in
-    let sound = c.is_down-down.ensures.sound in
+    let sound = c.is_sound.ensures in
     let from = ap (λ (head : HeadValue). head.from) c.header.ensures in
     let players = players_known v.rules v.me v.state.journal in
     record {
@@ -19,7 +19,7 @@ returns-clause-plays g c =
 
 pub unreachable-requires : goal.unreachable-requires
 unreachable-requires g c =
-    let sound = c.is_down-down.ensures.sound in
+    let sound = c.is_sound.ensures in
     let from = ap (λ (head : HeadValue). head.from) c.header.ensures in
     let n = c.from.result.number in
     let low : 1 ≤ n = omega (arith, c.from.ensures, from, c.requires.from_one) in

@@ -93,7 +93,7 @@ returns-clause-opened g c =
     c.read_journal.new.known (checked c.read_journal.new.checks) c.in_ok-log.log c.in_ok-log.last read c.in_ok-journal.journal number
     begun c.new-memory.result fresh
     (origin_of c.beginning.result) (last_run_of c.over-roll.result) c.beginning.ensures c.over-roll.ensures.ran
-    c.is_down-down.ensures.sound
+    c.is_sound.ensures
     (same_then g.D.Disk c.args.disk c.in_ok-log.log.disk c.in_ok-journal.journal.disk c.in_ok-log.ensures.same c.in_ok-journal.ensures.same)
     (asks_after g.D.Disk (AllRead g.D.Disk c.args.disk rules c.args.room me) (BeginRun g.D.Disk c.args.disk rules c.args.room me)
     c.args.disk c.in_ok-log.log.disk c.in_ok-journal.journal.disk (Ok tt) read.asks

@@ -1,0 +1,135 @@
+-- What the calls of an endpoint do: with a secret it sends and takes sealed packets, without one bare datagrams.
+use Rattle.std.specs.Prelude.{ℕ, ◌≡◌, ◌↔◌, ◌*◌, ◌-◌, ◌^◌, Bool, true, false, IsTrue, List, [], take, Option, None, Some, IsSome, Result, Ok, Err}
+use Rattle.c8_disk.specs.declared.file.FileDisk.{FileDisk}
+use Rattle.c8_known.specs.Journal.{epoch}
+use Rattle.c8_wire.specs.checked.Read.{read}
+use Rattle.c8_peer.specs.Asked.{saying_of}
+use Rattle.c8_peer.specs.Peer.{IsAnswered, IsSaid, IsStep}
+use Rattle.c8_peer.specs.State.{Call, Reply, Said, Deliver, Say, Delivered}
+use Rattle.c8_peer.specs.declared.heard.Heard.{Heard}
+use Rattle.c8_peer.specs.declared.kind.Kind.{Kind}
+use Rattle.c8_refusals.specs.declared.error.Refused.{Refused}
+use Rattle.c8_refusals.specs.declared.error.Unsayable.{Unsayable}
+use Rattle.c8_sealed.specs.Counters.{IsNewest}
+use Rattle.c8_sealed.specs.Given.{GivenValue, counters_of}
+use Rattle.c8_sealed.specs.Opened.{AreKeysOf}
+use Rattle.c8_sealed.specs.Sealer.{SealerValue, HasSealed, IsTaking}
+use Rattle.c8_sealed.specs.declared.error.NotTaken.{NotTaken}
+use Rattle.c8_sealed.specs.declared.keys.Secrets.{Secrets}
+use Rattle.c8_session.specs.Turns.{IsSayingTo}
+use Rattle.c8_embed.specs.Engine.{EngineValue}
+use Rattle.c8_embed.specs.Journal.{disk}
+use Rattle.c8_embed.specs.declared.medium.Medium.{Medium}
+use Rattle.c8_embed.specs.declared.endpoint.Endpoint.{Endpoint}
+use Rattle.c8_embed.specs.declared.endpoint.Sender.{Sender}
+use Rattle.c8_embed.specs.declared.endpoint.Undelivered.{Undelivered}
+use Rattle.c8_embed.specs.declared.endpoint.Undelivered.TheVariants as undelivered
+
+-- the engine of an endpoint
+abbrev pub EngineOf : Type 0
+EngineOf = EngineValue (FileDisk Medium)
+
+-- a call of the peer, and the rows that were given stay
+pub record HasCalled (old new : EngineOf) (call : Call) (reply : Reply) : Type 0 where
+  pub answered : IsAnswered disk old.peer call reply new.peer
+  pub steps : new.steps ≡ old.steps
+  pub depth : new.depth ≡ old.depth
+
+-- ---- a secret
+
+-- The sealer of an endpoint that has sealed and taken nothing: the keys of these secrets, the own seat, and the counters of the epoch.
+pub record IsFirstSealer (endpoint : Endpoint) (secrets : Secrets) (s : SealerValue) : Type 0 where
+  pub keys : AreKeysOf secrets endpoint.number s.seal.keys
+  pub seat : s.seal.seat.number ≡ endpoint.engine.peer.me
+  pub session : s.seal.session ≡ endpoint.number
+  pub next : s.next ≡ epoch endpoint.engine.peer.state.journal * 2 ^ 32
+  pub left : s.left ≡ 2 ^ 32 - 1
+  pub taken : s.taken ≡ []
+
+-- the endpoint gets a sealer, unless it has one
+abbrev pub HasSealing : Endpoint → Secrets → Bool → Endpoint → Type 0
+HasSealing old secrets true new = (s : SealerValue) × IsFirstSealer old secrets s × (old.sealer ≡ None) × (new.sealer ≡ Some s)
+    × (new.engine ≡ old.engine) × (new.number ≡ old.number)
+HasSealing old secrets false new = IsSome old.sealer × (new.sealer ≡ old.sealer) × (new.engine ≡ old.engine) × (new.number ≡ old.number)
+
+-- ---- what comes
+
+abbrev pub answer_of : Result Heard Refused → Result Heard Undelivered
+answer_of (Ok heard) = Ok heard
+answer_of (Err why) = Err (undelivered.Refused why)
+
+-- a datagram is delivered to the peer
+pub record IsHeard (old new : EngineOf) (datagram : List ℕ) (answer : Result Heard Undelivered) : Type 0 where
+  pub reply : Result Heard Refused
+  pub called : HasCalled old new (Deliver (read datagram)) (Delivered reply)
+  pub answer_is : answer ≡ answer_of reply
+
+-- what was found in received bytes: a datagram, and who sealed it, if that is known
+pub record Opened : Type 0 where
+  pub datagram : List ℕ
+  pub sender : Option Sender
+
+abbrev pub opened_as : List ℕ → Option Sender → Opened
+opened_as datagram sender = record { datagram = datagram; sender = sender }
+
+-- who sealed a packet that was taken, and whether its counter is greater than all that were taken from there before
+abbrev pub IsSenderOf : SealerValue → GivenValue → Option Sender → Type 0
+IsSenderOf before given None = ⊥
+IsSenderOf before given (Some sender) = (sender.from.number ≡ given.from)
+    × (IsTrue sender.is_newest ↔ IsNewest (counters_of given.from before.taken) given.counter)
+
+-- The datagram of received bytes: the bytes themselves, or with a sealer what it takes of them.
+abbrev pub IsOpenedAs : Option SealerValue → List ℕ → Result Opened NotTaken → Option SealerValue → Type 0
+IsOpenedAs None bytes (Ok opened) after = (opened.datagram ≡ bytes) × (opened.sender ≡ None) × (after ≡ None)
+IsOpenedAs None bytes (Err why) after = ⊥
+IsOpenedAs (Some before) bytes (Ok opened) after =
+    (given : GivenValue) × (sealer : SealerValue) × IsTaking before bytes (Ok given) sealer × (opened.datagram ≡ given.datagram)
+    × IsSenderOf before given opened.sender × (after ≡ Some sealer)
+IsOpenedAs (Some before) bytes (Err why) after = (sealer : SealerValue) × IsTaking before bytes (Err why) sealer × (after ≡ Some sealer)
+
+-- a datagram is delivered, and nothing else
+abbrev pub IsPassedOn : EngineOf → EngineOf → Result Opened NotTaken → Result Heard Undelivered → Type 0
+IsPassedOn old new (Ok opened) answer = IsHeard old new opened.datagram answer
+IsPassedOn old new (Err why) answer = (answer ≡ Err (undelivered.NotTaken why)) × (new ≡ old)
+
+-- nobody, if nothing was taken
+abbrev pub sender_in : Result Opened NotTaken → Option Sender
+sender_in (Ok opened) = opened.sender
+sender_in (Err why) = None
+
+pub record HasDelivered (old : Endpoint) (bytes : List ℕ) (answer : Result Heard Undelivered) (new : Endpoint) : Type 0 where
+  pub opened : Result Opened NotTaken
+  pub is_opened : IsOpenedAs old.sealer bytes opened new.sealer
+  pub passed : IsPassedOn old.engine new.engine opened answer
+  pub sender : new.sender ≡ sender_in opened
+  pub number : new.number ≡ old.number
+
+-- ---- what goes
+
+-- the first `size` bytes are the packet of a datagram
+abbrev pub IsWrapped : Option SealerValue → List ℕ → ℕ → List ℕ → Option SealerValue → Type 0
+IsWrapped None datagram size out after = (take size out ≡ datagram) × (after ≡ None)
+IsWrapped (Some before) datagram size out after = (sealer : SealerValue) × HasSealed before datagram out size sealer × (after ≡ Some sealer)
+
+-- they are that of a datagram that the peer says in this call
+pub record HasSent (old new : Endpoint) (call : Call) (size : ℕ) (out : List ℕ) : Type 0 where
+  pub datagram : List ℕ
+  pub said : IsSaid old.engine.peer call datagram
+  pub wrapped : IsWrapped old.sealer datagram size out new.sealer
+  pub engine : new.engine ≡ old.engine
+  pub number : new.number ≡ old.number
+
+-- they are the packet of some datagram to this seat
+abbrev pub HasNext : Endpoint → ℕ → ℕ → List ℕ → Endpoint → Type 0
+HasNext old to size out new = (call : Call) × IsSayingTo to call × HasSent old new call size out
+
+-- nothing was sent, and no counter is used up
+pub record IsAsBefore (old new : Endpoint) : Type 0 where
+  pub engine : new.engine ≡ old.engine
+  pub sealer : new.sealer ≡ old.sealer
+  pub number : new.number ≡ old.number
+
+abbrev pub HasSaidSealed : Endpoint → ℕ → Kind → Result (Option ℕ) Unsayable → List ℕ → Endpoint → Type 0
+HasSaidSealed old to kind (Ok (Some size)) out new = HasSent old new (Say to (saying_of kind)) size out
+HasSaidSealed old to kind (Ok None) out new = IsAsBefore old new
+HasSaidSealed old to kind (Err why) out new = IsStep old.engine.peer (Say to (saying_of kind)) (Said (Err why)) old.engine.peer × IsAsBefore old new

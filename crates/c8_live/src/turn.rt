@@ -1,0 +1,141 @@
+//! The turns of a session over a wire: it hears, enters a key set, makes the turn and speaks.
+
+ghost use Rattle.std.specs.Prelude.{◌≡◌, [], ◌∷◌, IfOk, IfErr};
+ghost use Rattle.c8_live.specs.Ends.{IsEnd};
+ghost use Rattle.c8_live.specs.Entered.{entered_of, HasEntered, HasTicked, HasHandedIn};
+ghost use Rattle.c8_live.specs.Turns.{HasHeardOf, HasHeard, HasSpoken, IsTurn};
+ghost use Rattle.c8_session.specs.Runs.{HasRunOn};
+ghost use Rattle.c8_session.specs.Turns.{Ticks, HasDoneOnce};
+ghost use Rattle.c8_transport.specs.Wire.{most_packets};
+
+use crate::error::SessionError;
+use crate::laws::{
+    a_packet_is_heard, entries_join, hearings_join, sayings_join, sessions_end, turns_run_on,
+};
+use c8_disk::Disk;
+use c8_game::Keys;
+use c8_peer::{Refused, TickError};
+use c8_session::laws::{doings_join, peers_run_on};
+use c8_session::{MOST_DATAGRAMS, Session};
+use c8_transport::{LONGEST_PACKET, MOST_PACKETS, Wire, WireFailed};
+use c8_wire::{LONGEST_DATAGRAM, view};
+
+/// Makes one turn. The peer hears at most 256 packets of the wire, enters `keys` (with `None` it does not tick), drops
+/// silent players and cuts if it is player 1, records at most one part of a checkpoint, and speaks. Returns whether the
+/// key set was taken: the peer refuses it at the window's limit, after the last frame, and when it is down or dropped;
+/// enter it again in the next turn. An error of the disk or of the wire ends the session.
+pub fn make_turn<D: Disk, W: Wire>(
+    session: &mut Session<'_, D>,
+    keys: Option<Keys>,
+    wire: &mut W,
+) -> Result<bool, SessionError>
+    ensures turn { IsTurn D.Disk W.Wire session.old.peer session.new.peer wire.old wire.new }
+    ensures handed_in { IfOk result (λ taken. HasHandedIn D.Disk W.Wire keys taken
+        session.old.peer session.new.peer wire.old wire.new) }
+    ensures entered { IfOk result (λ taken. HasEntered D.Disk (entered_of keys taken)
+        session.old.peer session.new.peer) }
+    ensures ran { HasRunOn D.Disk session.old.peer session.new.peer }
+    ensures end { IfErr result (IsEnd D.Disk session.old.peer session.new.peer) }
+{
+    // For the proof: the parts of the turn join.
+    sessions_end::<D>();
+    peers_run_on::<D>();
+    entries_join::<D>();
+    turns_run_on::<D, W>();
+    session.begin();
+    session.forget_rollbacks();
+    hear(session, wire)?;
+    let is_taken = enter(session, keys)?;
+    session.turn()?;
+    speak(session, wire)?;
+    let _ended = session.end();
+    Ok(is_taken)
+}
+
+/// Hears at most 256 packets of the wire between two turns, so that the next turn has less to hear. The next turn sends
+/// the replies. An error of the disk or of the wire ends the session.
+pub fn listen<D: Disk, W: Wire>(
+    session: &mut Session<'_, D>,
+    wire: &mut W,
+) -> Result<(), SessionError>
+    ensures heard { HasHeard D.Disk W.Wire most_packets session.old.peer session.new.peer wire.old wire.new }
+    ensures ran { HasRunOn D.Disk session.old.peer session.new.peer }
+    ensures end { IfErr result (IsEnd D.Disk session.old.peer session.new.peer) }
+{
+    session.forget_rollbacks();
+    hear(session, wire)
+}
+
+/// Delivers the packets that wait.
+fn hear<D: Disk, W: Wire>(session: &mut Session<'_, D>, wire: &mut W) -> Result<(), SessionError>
+    ensures heard { HasHeard D.Disk W.Wire most_packets session.old.peer session.new.peer wire.old wire.new }
+    ensures end { IfErr result (IsEnd D.Disk session.old.peer session.new.peer) }
+{
+    // For the proof: what was heard in the loop joins.
+    sessions_end::<D>();
+    hearings_join::<D, W>();
+    let mut packet = [0; LONGEST_PACKET];
+    for _ in 0..MOST_PACKETS {
+        match wire.receive(&mut packet)? {
+            Some(size) => deliver(session, &packet[..size])?,
+            None => break,
+        }
+    }
+    Ok(())
+}
+
+/// Delivers a packet. Bytes that spell no datagram change nothing.
+fn deliver<D: Disk>(session: &mut Session<'_, D>, packet: &[u8]) -> Result<(), SessionError>
+    ensures ran { HasHeardOf D.Disk (packet.now ∷ []) session.old.peer session.new.peer }
+    ensures end { IfErr result (IsEnd D.Disk session.old.peer session.new.peer) }
+{
+    // For the proof: what is heard of one packet, and that a refused record ends the session.
+    a_packet_is_heard::<D>();
+    peers_run_on::<D>();
+    let Ok(datagram) = view(packet) else {
+        return Ok(());
+    };
+    match session.deliver_datagram(&datagram) {
+        Err(Refused::Disk(error)) => Err(SessionError::Disk(error)),
+        _ => Ok(()),
+    }
+}
+
+/// Enters a key set, if there is one, and returns whether it was taken.
+fn enter<D: Disk>(session: &mut Session<'_, D>, keys: Option<Keys>) -> Result<bool, SessionError>
+    ensures ran { HasDoneOnce D.Disk Ticks session.old.peer session.new.peer }
+    ensures ticked { IfOk result (λ taken. HasTicked D.Disk keys taken session.old.peer session.new.peer) }
+    ensures entered { IfOk result (λ taken. HasEntered D.Disk (entered_of keys taken)
+        session.old.peer session.new.peer) }
+    ensures end { IfErr result (IsEnd D.Disk session.old.peer session.new.peer) }
+{
+    // For the proof: a tick is one call, and enters what it took.
+    peers_run_on::<D>();
+    doings_join::<D>();
+    entries_join::<D>();
+    let Some(keys) = keys else {
+        return Ok(false);
+    };
+    match session.tick(keys) {
+        Ok(()) => Ok(true),
+        Err(TickError::Disk(error)) => Err(SessionError::Disk(error)),
+        Err(_) => Ok(false),
+    }
+}
+
+/// Sends the datagrams of this turn.
+fn speak<D: Disk, W: Wire>(session: &mut Session<'_, D>, wire: &mut W) -> Result<(), WireFailed>
+    ensures spoke { HasSpoken D.Disk W.Wire session.old.peer wire.old wire.new }
+    ensures peer { session.new.peer ≡ session.old.peer }
+{
+    // For the proof: what was said in the loop joins.
+    sayings_join::<D, W>();
+    let mut datagram = [0; LONGEST_DATAGRAM];
+    for _ in 0..MOST_DATAGRAMS {
+        match session.next_datagram(&mut datagram) {
+            Some((to, size)) => wire.send(to, &datagram[..size])?,
+            None => break,
+        }
+    }
+    Ok(())
+}

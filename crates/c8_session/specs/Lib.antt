@@ -1,0 +1,4 @@
+pub mod Rest
+pub mod Runs
+pub mod Turns
+pub mod checked

@@ -1,0 +1,66 @@
+-- What a turn does to a peer, and which calls it may make in which order.
+use Rattle.std.specs.Prelude.{◌≡◌, ◌≤◌, ℕ, length}
+use Rattle.std.specs.List.{All}
+use Rattle.c8_disk.specs.declared.disk.Disk.{Ghosts}
+use Rattle.c8_peer.specs.Lawful.{IsCall}
+use Rattle.c8_peer.specs.State.{Call, Tick, Deliver, Say, Show, Leave, Decide, Checkpoint}
+use Rattle.c8_peer.specs.Steps.{DiskOutcome}
+use Rattle.c8_peer.specs.Peer.{PeerValue}
+use Rattle.c8_session.specs.Runs.{HasRunOn}
+
+-- ---- which calls
+
+pub data Doing : Type 0 where
+  Hears : Doing
+  Ticks : Doing
+  Drops : Doing
+  Cuts : Doing
+  Saves : Doing
+  Speaks : Doing
+
+abbrev pub doing : Call → Doing
+doing (Deliver told) = Hears
+doing (Tick keys) = Ticks
+doing (Leave leaver) = Drops
+doing (Decide leaver) = Cuts
+doing Checkpoint = Saves
+doing (Say to what) = Speaks
+doing (Show watcher) = Speaks
+
+-- a run of calls of one kind
+pub record HasDone {D : Type 0} (disk : Ghosts D) (what : Doing) (old new : PeerValue D) : Type 0 where
+  pub ran : HasRunOn disk old new
+  pub alike : All (λ (call : Call × DiskOutcome). doing call.0 ≡ what) ran.calls
+
+-- the same with at most one call
+abbrev pub HasDoneOnce : {D : Type 0} → Ghosts D → Doing → PeerValue D → PeerValue D → Type 0
+HasDoneOnce disk what old new = (done : HasDone disk what old new) × (length done.ran.calls ≤ 1)
+
+-- ---- turns
+
+-- A turn, but for what it hears, enters and says: it drops players, cuts, and records at most one part of a checkpoint.
+-- If the disk refuses a record, nothing more follows.
+pub record HasTurned {D : Type 0} (disk : Ghosts D) (old new : PeerValue D) : Type 0 where
+  pub dropped : PeerValue D
+  pub cut : PeerValue D
+  pub drops : HasDone disk Drops old dropped
+  pub cuts : HasDone disk Cuts dropped cut
+  pub saves : HasDoneOnce disk Saves cut new
+
+-- ---- datagrams
+
+-- the seat that a saying is to; 0 for any other call
+abbrev pub addressee : Call → ℕ
+addressee (Say to what) = to
+addressee (Show watcher) = watcher
+addressee (Deliver told) = 0
+addressee (Tick keys) = 0
+addressee (Leave leaver) = 0
+addressee (Decide leaver) = 0
+addressee Checkpoint = 0
+
+-- the call says something to this seat
+pub record IsSayingTo (seat : ℕ) (call : Call) : Type 0 where
+  pub lawful : IsCall call
+  pub speaks : doing call ≡ Speaks
+  pub to : addressee call ≡ seat

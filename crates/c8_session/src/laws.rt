@@ -1,0 +1,43 @@
+//! Facts for callers that belong to no single call.
+ghost use Rattle.std.specs.Prelude.{◌≡◌, ◌∷◌, [], length};
+ghost use Rattle.c8_disk.specs.declared.error.DiskError.{DiskError};
+ghost use Rattle.c8_peer.specs.Lawful.{IsCall};
+ghost use Rattle.c8_peer.specs.Peer.{PeerValue, IsAnswered};
+ghost use Rattle.c8_peer.specs.State.{Call, Reply};
+ghost use Rattle.c8_session.specs.Runs.{HasRunOn, IsStopped};
+ghost use Rattle.c8_session.specs.Turns.{Doing, doing, HasDone, HasTurned};
+
+use c8_disk::Disk;
+use c8_peer::laws::{calls_are_deeds, runs_join};
+
+/// Runs of a peer: no call (`still`), one more call (`call`), a turn (`turned`), one run after another (`joined`). What
+/// stops the second part stops both (`stopped`).
+pub fn peers_run_on<D: Disk>()
+    ensures still { (p : PeerValue D) → HasRunOn D.Disk p p }
+    ensures call { (first old new : PeerValue D) (call : Call) (reply : Reply)
+        → HasRunOn D.Disk first old → IsCall call → IsAnswered D.Disk old call reply new
+        → HasRunOn D.Disk first new }
+    ensures turned { (old new : PeerValue D) → HasTurned D.Disk old new → HasRunOn D.Disk old new }
+    ensures joined { (first middle last : PeerValue D)
+        → HasRunOn D.Disk first middle → HasRunOn D.Disk middle last → HasRunOn D.Disk first last }
+    ensures stopped { (first middle last : PeerValue D) (why : DiskError)
+        → HasRunOn D.Disk first middle → IsStopped D.Disk middle last why
+        → IsStopped D.Disk first last why }
+{
+    runs_join();
+    calls_are_deeds::<D>();
+}
+
+/// Calls of one kind: none (`still`), one (`once`), some after others (`joined`).
+pub fn doings_join<D: Disk>()
+    ensures still { (what : Doing) (p : PeerValue D) → HasDone D.Disk what p p }
+    ensures once { (old new : PeerValue D) (call : Call) (reply : Reply)
+        → IsCall call → IsAnswered D.Disk old call reply new
+        → (done : HasDone D.Disk (doing call) old new) × (length done.ran.calls ≡ 1) }
+    ensures joined { (what : Doing) (first middle last : PeerValue D)
+        → HasDone D.Disk what first middle → HasDone D.Disk what middle last
+        → HasDone D.Disk what first last }
+{
+    runs_join();
+    calls_are_deeds::<D>();
+}

@@ -1,0 +1,22 @@
+//! The session of one peer, without input or output: which calls a turn makes, and which datagrams are due.
+//!
+//! [`Session`] is a peer with what it remembers from turn to turn. A program delivers datagrams and enters a key set; then
+//! [`Session::turn`] drops silent players, cuts and records a part of a checkpoint, and [`Session::next_datagram`] returns
+//! the turn's datagrams, one a call. c8_live runs this loop over a wire, and c8_embed inside an engine. The contracts say
+//! which calls the peer gets, and in which order; *when* each is due is decided by a [`Schedule`], and nothing that is
+//! proved of a match rests on it.
+#![tactic(auto)]
+
+mod calls;
+pub mod laws;
+mod rollbacks;
+mod schedule;
+mod session;
+mod silence;
+mod speaking;
+mod turn;
+
+pub use rollbacks::Rollbacks;
+pub use session::Session;
+pub use silence::Life;
+pub use speaking::MOST_DATAGRAMS;

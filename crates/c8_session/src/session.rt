@@ -1,0 +1,155 @@
+//! The session of a peer.
+ghost use Rattle.std.specs.Prelude.{◌≡◌, ◌↔◌, IfSome, IsTrue};
+ghost use Rattle.c8_peer.specs.Peer.{IsSound};
+ghost use Rattle.c8_session.specs.Rest.{IsOver};
+
+use crate::rollbacks::Rollbacks;
+use crate::schedule::Schedule;
+use crate::silence::Life;
+use crate::speaking::MOST_WATCHERS;
+use c8_disk::Disk;
+use c8_game::{Game, Player};
+use c8_peer::Peer;
+use std::fmt;
+
+/// A peer with what it remembers from turn to turn.
+#[derive(Drop)]
+pub struct Session<'g, D: Disk> {
+    pub(crate) peer: Peer<'g, D>,
+    pub(crate) schedule: Schedule,
+    /// Which watchers are shown the confirmed rows, by seat.
+    pub(crate) is_shown: [bool; MOST_WATCHERS],
+    /// The next place of this turn at which a datagram may be due, or [`NOT_SPEAKING`].
+    pub(crate) place: u8,
+    pub(crate) rollbacks: Rollbacks,
+}
+
+/// The place between the end of a turn and the calls of the next one that come before its datagrams.
+pub(crate) const NOT_SPEAKING: u8 = u8::MAX;
+
+/// Prints the peer.
+impl<'g, D: Disk> fmt::Debug for Session<'g, D> {
+    fn fmt<W: fmt::Write>(&self, f: &mut fmt::Formatter<W>) -> fmt::Result {
+        let peer = &self.peer;
+        write!(f, "Session {{ peer: {peer:?} }}")
+    }
+}
+
+impl<'g, D: Disk> Session<'g, D> {
+    /// Creates the session of a peer, before its first turn. Once `interval` frames were confirmed since the last
+    /// checkpoint, the next one begins: one record a turn, 37 in all. A later opening of the journal starts there. With
+    /// `interval` 0 it makes no checkpoints. With `patience` player 1 drops a player after that many silent turns.
+    pub fn new(
+        peer: Peer<'g, D>,
+        game: &Game,
+        patience: Option<u64>,
+        interval: u32,
+    ) -> Session<'g, D>
+        ensures { result.peer ≡ peer.entry }
+    {
+        Session {
+            peer,
+            schedule: Schedule::new(game, patience, interval),
+            is_shown: [false; MOST_WATCHERS],
+            place: NOT_SPEAKING,
+            rollbacks: Rollbacks::default(),
+        }
+    }
+
+    /// Returns the peer.
+    pub fn peer(&self) -> &Peer<'g, D>
+        ensures { result.now ≡ self.now.peer }
+    {
+        &self.peer
+    }
+
+    /// For proofs: what holds for every open peer.
+    pub fn is_sound(&self)
+        ensures { IsSound D.Disk self.now.peer }
+    {
+        self.peer.is_sound();
+    }
+
+    /// Returns the number of frames of the game.
+    pub fn frames(&self) -> u32 {
+        self.schedule.frames()
+    }
+
+    /// Begins a turn: each player has been silent for one turn more.
+    pub fn begin(&mut self)
+        ensures { self.new.peer ≡ self.old.peer }
+    {
+        self.schedule.begin();
+    }
+
+    /// Ends a turn after its datagrams. Returns whether there was one to end.
+    pub fn end(&mut self) -> bool
+        ensures { self.new.peer ≡ self.old.peer }
+    {
+        if self.place == NOT_SPEAKING {
+            return false;
+        }
+        self.place = NOT_SPEAKING;
+        self.schedule.end(&self.peer);
+        true
+    }
+
+    /// Returns the rollbacks since the last `forget_rollbacks`.
+    pub fn rollbacks(&self) -> Rollbacks {
+        self.rollbacks
+    }
+
+    /// Counts rollbacks from 0 again.
+    pub fn forget_rollbacks(&mut self)
+        ensures { self.new.peer ≡ self.old.peer }
+    {
+        self.rollbacks = Rollbacks::default();
+    }
+
+    /// Counts this as a sign of life of a player from now on. Without this call it is a datagram that an open link
+    /// admitted.
+    pub fn counts(&mut self, life: Life)
+        ensures { self.new.peer ≡ self.old.peer }
+    {
+        self.schedule.counts(life);
+    }
+
+    /// Returns whether the others know more of this player than its journal does: a later epoch, or more inputs. The
+    /// journal that this came from is gone. Such a player cannot play on, and player 1 may drop it.
+    pub fn is_lost(&self) -> bool
+        ensures { result ≡ self.now.schedule.is_lost }
+    {
+        self.schedule.is_lost()
+    }
+
+    /// Returns how many turns have begun since the last sign of life of the player, or since the start.
+    pub fn silent(&self, player: Player) -> u64 {
+        self.schedule.silent(player)
+    }
+
+    /// Returns whether the session is over: the peer knows that it was dropped, or it has rested for more than 120 turns.
+    pub fn is_over(&self) -> bool
+        ensures { IsTrue result ↔ IsOver self.now }
+    {
+        self.peer.dropped() || self.schedule.has_rested()
+    }
+
+    /// Makes player 1 drop this player in the next turn, whether or not it is silent. At another player's peer it
+    /// changes nothing.
+    pub fn give_up(&mut self, player: Player)
+        ensures { self.new.peer ≡ self.old.peer }
+    {
+        self.schedule.give_up(player);
+    }
+
+    /// Returns the other player with this number: `None` for this peer's own number and for one that nobody has.
+    pub(crate) fn other(&self, number: u8) -> Option<Player>
+        ensures { IfSome result (λ player. player.number ≡ number) }
+    {
+        if number == self.peer.me().number {
+            None
+        } else {
+            Player::new(number)
+        }
+    }
+}

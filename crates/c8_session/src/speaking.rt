@@ -1,0 +1,86 @@
+//! The datagrams of a turn, one after another.
+ghost use Rattle.std.specs.Prelude.{◌≡◌, ◌≤◌, ◌<◌, IfSome, take};
+ghost use Rattle.c8_peer.specs.Peer.{IsSaid};
+ghost use Rattle.c8_peer.specs.State.{Call};
+ghost use Rattle.c8_session.specs.Turns.{IsSayingTo};
+
+use crate::schedule::MOST_DUE;
+use crate::session::Session;
+use c8_disk::Disk;
+use c8_game::MOST_PLAYERS;
+use c8_wire::{LONGEST_DATAGRAM, Seat, Watcher};
+
+/// The seat of the first watcher.
+const FIRST_WATCHER: u8 = 5;
+
+/// How many watchers a match has.
+pub(crate) const MOST_WATCHERS: usize = 2;
+
+/// How many places of a turn are about players. Each watcher has one place after them.
+const PLACES_OF_PLAYERS: u8 = MOST_DUE * MOST_PLAYERS as u8;
+
+/// The most datagrams of a turn: one at each place.
+pub const MOST_DATAGRAMS: u8 = PLACES_OF_PLAYERS + MOST_WATCHERS as u8;
+
+impl<'g, D: Disk> Session<'g, D> {
+    /// Starts to show a watcher the confirmed rows: one SHOW a turn, from the first row that the watcher has not
+    /// acknowledged. Only player 1's peer shows rows.
+    pub fn show_to(&mut self, watcher: Watcher)
+        ensures { self.new.peer ≡ self.old.peer }
+    {
+        self.is_shown[usize::from(watcher.number - FIRST_WATCHER)] = true;
+    }
+
+    /// Writes the next datagram of this turn to the front of `out`, and returns its addressee and its length, at most
+    /// 174 bytes. Once the turn has no more datagrams it returns `None`, until the next turn. A datagram that the peer
+    /// refuses to say is left out.
+    pub fn next_datagram(&mut self, out: &mut [u8; LONGEST_DATAGRAM]) -> Option<(Seat, usize)>
+        ensures peer { self.new.peer ≡ self.old.peer }
+        ensures said { IfSome result (λ said. (call : Call) × IsSayingTo said.0.number call
+            × IsSaid self.old.peer call (take said.1 out.new)) }
+        ensures fits { IfSome result (λ said. said.1 ≤ LONGEST_DATAGRAM) }
+    {
+        for place in self.place..MOST_DATAGRAMS {
+            self.place = place + 1;
+            if let Some(said) = self.say_at(place, out) {
+                return Some(said);
+            }
+        }
+        None
+    }
+
+    /// Writes the datagram that is due at this place, if any.
+    fn say_at(&self, place: u8, out: &mut [u8; LONGEST_DATAGRAM]) -> Option<(Seat, usize)>
+        requires { place < MOST_DATAGRAMS }
+        ensures said { IfSome result (λ said. (call : Call) × IsSayingTo said.0.number call
+            × IsSaid self.now.peer call (take said.1 out.new)) }
+        ensures fits { IfSome result (λ said. said.1 ≤ LONGEST_DATAGRAM) }
+    {
+        if place >= PLACES_OF_PLAYERS {
+            return self.show_at(place - PLACES_OF_PLAYERS, out);
+        }
+        let to = self.other(place / MOST_DUE + 1)?;
+        let kind = self.schedule.due(&self.peer, to, place % MOST_DUE)?;
+        match self.peer.say(to, kind, out) {
+            Ok(size) => Some((Seat::from(to), size)),
+            Err(_) => None,
+        }
+    }
+
+    /// Writes a SHOW to this watcher, the first or the second, if it is shown the rows.
+    fn show_at(&self, place: u8, out: &mut [u8; LONGEST_DATAGRAM]) -> Option<(Seat, usize)>
+        requires { place < MOST_WATCHERS }
+        ensures said { IfSome result (λ said. (call : Call) × IsSayingTo said.0.number call
+            × IsSaid self.now.peer call (take said.1 out.new)) }
+        ensures fits { IfSome result (λ said. said.1 ≤ LONGEST_DATAGRAM) }
+    {
+        if !self.is_shown[usize::from(place)] {
+            return None;
+        }
+        let watcher = Watcher::new(FIRST_WATCHER + place)?;
+        match self.peer.say_show(watcher, out) {
+            Ok(size) => Some((Seat::from(watcher), size)),
+            Err(_) => None,
+        }
+    }
+}

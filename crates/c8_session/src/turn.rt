@@ -1,0 +1,86 @@
+//! A turn, but for what comes in and what goes out.
+ghost use Rattle.std.specs.Prelude.{IfErr};
+ghost use Rattle.c8_session.specs.Runs.{IsStopped};
+ghost use Rattle.c8_session.specs.Turns.{Drops, Cuts, Saves, HasDone, HasDoneOnce, HasTurned};
+
+use crate::laws::{doings_join, peers_run_on};
+use crate::session::Session;
+use c8_disk::{Disk, DiskError};
+use c8_peer::{CheckError, DecideError, LeaveError};
+
+impl<'g, D: Disk> Session<'g, D> {
+    /// Makes a turn, but for hearing, ticking and speaking. Player 1 drops players who were silent for too long, and cuts
+    /// those whose drop round is ready. Every peer records a part of a checkpoint if one is due. Then `next_datagram`
+    /// returns the datagrams of this turn. If the disk refuses a record the peer is down, and the turn stops there.
+    pub fn turn(&mut self) -> Result<(), DiskError>
+        ensures turned { HasTurned D.Disk self.old.peer self.new.peer }
+        ensures stopped { IfErr result (IsStopped D.Disk self.old.peer self.new.peer) }
+    {
+        // For the proof: a part that is not reached has done nothing, and what stops the second part stops both.
+        doings_join::<D>();
+        peers_run_on::<D>();
+        self.drop_silent()?;
+        self.cut()?;
+        self.save()?;
+        self.place = 0;
+        Ok(())
+    }
+
+    /// If this is player 1, drops the players who have been silent for too long, and those of `give_up`.
+    fn drop_silent(&mut self) -> Result<(), DiskError>
+        ensures ran { HasDone D.Disk Drops self.old.peer self.new.peer }
+        ensures stopped { IfErr result (IsStopped D.Disk self.old.peer self.new.peer) }
+    {
+        // For the proof: so far the loop has only dropped players.
+        doings_join::<D>();
+        peers_run_on::<D>();
+        for number in 1..self.peer.players() + 1 {
+            if let Some(player) = self.other(number)
+                && self.schedule.drops(player)
+                && let Err(LeaveError::Disk(error)) = self.leave(player)
+            {
+                return Err(error);
+            }
+        }
+        Ok(())
+    }
+
+    /// If this is player 1, cuts the leavers whose drop round is ready.
+    fn cut(&mut self) -> Result<(), DiskError>
+        ensures ran { HasDone D.Disk Cuts self.old.peer self.new.peer }
+        ensures stopped { IfErr result (IsStopped D.Disk self.old.peer self.new.peer) }
+    {
+        // For the proof: so far the loop has only cut.
+        doings_join::<D>();
+        peers_run_on::<D>();
+        for number in 1..self.peer.players() + 1 {
+            if let Some(player) = self.other(number)
+                && let Err(DecideError::Disk(error)) = self.decide(player)
+            {
+                return Err(error);
+            }
+        }
+        Ok(())
+    }
+
+    /// Records the next part of a checkpoint, if one is under way or due.
+    fn save(&mut self) -> Result<(), DiskError>
+        ensures ran { HasDoneOnce D.Disk Saves self.old.peer self.new.peer }
+        ensures stopped { IfErr result (IsStopped D.Disk self.old.peer self.new.peer) }
+    {
+        // For the proof: a checkpoint is one call.
+        doings_join::<D>();
+        peers_run_on::<D>();
+        if !self.schedule.saves(&self.peer) {
+            return Ok(());
+        }
+        match self.checkpoint() {
+            Ok(part) => {
+                self.schedule.saved(part);
+                Ok(())
+            }
+            Err(CheckError::Disk(error)) => Err(error),
+            Err(_) => Ok(()),
+        }
+    }
+}
