@@ -128,8 +128,8 @@ c8_answer c8_turn(c8_session *);
 uint32_t c8_next(c8_session *, uint8_t out[C8_PACKET], uint8_t *to);
 
 /* Shows watcher 5 or 6 the confirmed rows from now on: at player 1 each turn has a packet for it among those of c8_next,
- * from the first row on that the watcher has not acknowledged. Any other number is refused with
- * 102; C8_CLOSED at a closed session. */
+ * from the first row on that the watcher has not acknowledged. With a secret it also needs the watchers' one, or c8_next
+ * leaves its packets out. Any other number is refused with 102; C8_CLOSED at a closed session. */
 c8_answer c8_watched(c8_session *, uint8_t watcher);
 
 /* Whether the match is over for this session: it was dropped, or everything was confirmed and acknowledged for more than

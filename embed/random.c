@@ -169,7 +169,7 @@ static void open_all(void) {
 static void sender(c8_session *s, uint32_t answer) {
     bool newest = false, is_refused = answer == C8_NOT_SEALED || answer == C8_SEEN_BEFORE;
     uint8_t from = c8_sender(s, &newest);
-    if (from > 4) fail("from nobody", from);
+    if (from > 6) fail("from nobody", from);
     if (!from && newest) fail("the newest of nobody", 0);
     if (s->at && (from != 0) != (is_sealed[s - sessions] && !is_refused)) fail("a sender", from);
     if (is_refused && !is_sealed[s - sessions]) fail("no secret, and refused", answer);
@@ -401,8 +401,9 @@ static void play_sealed(void) {
     openings += 2;
 }
 
-/* Two players, both asked to show watcher 5 the rows: player 1 does so in each turn, player 2 never. */
-static void play_watched(void) {
+/* Two players, both asked to show watcher 5 the rows: player 1 does so in each turn, player 2 never. Without a secret of the
+ * watchers a match with a secret shows nothing, and ends as any other. */
+static void play_watched(bool has_secret, const uint8_t *of_watchers) {
     enum { FRAMES = 300 };
     c8_session two[2] = {{0}, {0}};
     uint8_t packet[C8_PACKET], id[32] = {3}, to;
@@ -412,6 +413,7 @@ static void play_watched(void) {
     if (c8_watched(&two[0], 5) != C8_CLOSED) fail("a closed session is watched", 0);
     for (uint8_t i = 0; i < 2; i++) {
         if (c8_open(text, text_length, i + 1, 6, 0, &two[i])) fail("not opened", i);
+        if (has_secret && c8_secret(&two[i], secret, of_watchers)) fail("no secret", i);
         if (c8_watched(&two[i], 4) != 102 || c8_watched(&two[i], 7) != 102 || c8_watched(&two[i], 5)) fail("seats", i);
     }
     for (; turns < 4 * FRAMES && !(c8_is_over(&two[0]) && c8_is_over(&two[1])); turns++)
@@ -425,7 +427,9 @@ static void play_watched(void) {
                 else fail("to nobody", to);
             }
         }
-    if (shown != turns) fail("not one packet a turn", shown);
+    for (int i = 0; i < 2; i++)
+        if (c8_confirmed(&two[i]) != FRAMES) fail("no end", c8_confirmed(&two[i]));
+    if (shown != (has_secret && !of_watchers ? 0 : turns)) fail("not one packet a turn", shown);
     c8_close(&two[0]), c8_close(&two[1]);
     openings += 2;
 }
@@ -460,7 +464,9 @@ int main(int count, char **words) {
         }
     }
     play_sealed();
-    play_watched();
+    play_watched(false, NULL);
+    play_watched(true, watchers);
+    play_watched(true, NULL);
     fail_disk();
     what = "the end";
     for (int i = 0; i < SESSIONS; i++) c8_close(&sessions[i]);

@@ -35,6 +35,13 @@ pub record HasCalled (old new : EngineOf) (call : Call) (reply : Reply) : Type 0
   pub steps : new.steps ≡ old.steps
   pub depth : new.depth ≡ old.depth
 
+-- nothing has changed: no counter is used up, and the last sender is known as before
+pub record IsAsBefore (old new : Endpoint) : Type 0 where
+  pub engine : new.engine ≡ old.engine
+  pub sealer : new.sealer ≡ old.sealer
+  pub number : new.number ≡ old.number
+  pub sender : new.sender ≡ old.sender
+
 -- ---- a secret
 
 -- The sealer of an endpoint that has sealed and taken nothing: the keys of these secrets, the own seat, and the counters of the epoch.
@@ -49,8 +56,8 @@ pub record IsFirstSealer (endpoint : Endpoint) (secrets : Secrets) (s : SealerVa
 -- the endpoint gets a sealer, unless it has one
 abbrev pub HasSealing : Endpoint → Secrets → Bool → Endpoint → Type 0
 HasSealing old secrets true new = (s : SealerValue) × IsFirstSealer old secrets s × (old.sealer ≡ None) × (new.sealer ≡ Some s)
-    × (new.engine ≡ old.engine) × (new.number ≡ old.number)
-HasSealing old secrets false new = IsSome old.sealer × (new.sealer ≡ old.sealer) × (new.engine ≡ old.engine) × (new.number ≡ old.number)
+    × (new.engine ≡ old.engine) × (new.number ≡ old.number) × (new.sender ≡ old.sender)
+HasSealing old secrets false new = IsSome old.sealer × IsAsBefore old new
 
 -- ---- what comes
 
@@ -118,16 +125,11 @@ pub record HasSent (old new : Endpoint) (call : Call) (size : ℕ) (out : List �
   pub wrapped : IsWrapped old.sealer datagram size out new.sealer
   pub engine : new.engine ≡ old.engine
   pub number : new.number ≡ old.number
+  pub sender : new.sender ≡ old.sender
 
 -- they are the packet of some datagram to this seat
 abbrev pub HasNext : Endpoint → ℕ → ℕ → List ℕ → Endpoint → Type 0
 HasNext old to size out new = (call : Call) × IsSayingTo to call × HasSent old new call size out
-
--- nothing was sent, and no counter is used up
-pub record IsAsBefore (old new : Endpoint) : Type 0 where
-  pub engine : new.engine ≡ old.engine
-  pub sealer : new.sealer ≡ old.sealer
-  pub number : new.number ≡ old.number
 
 abbrev pub HasSaidSealed : Endpoint → ℕ → Kind → Result (Option ℕ) Unsayable → List ℕ → Endpoint → Type 0
 HasSaidSealed old to kind (Ok (Some size)) out new = HasSent old new (Say to (saying_of kind)) size out

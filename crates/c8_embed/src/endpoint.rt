@@ -1,7 +1,6 @@
 //! The engine that a handle for C owns: with a secret it sends and takes sealed packets.
 ghost use Rattle.std.specs.Prelude.{◌≡◌, ◌≤◌, None, Ok, Err, IfOk, IfSome, MatchOption, MatchResult, length};
-ghost use Rattle.c8_embed.specs.Endpoint.{HasSealing, answer_of, opened_as, IsOpenedAs, HasDelivered, IsSenderOf, IsWrapped, HasNext, IsAsBefore, HasSaidSealed};
-ghost use Rattle.c8_sealed.specs.Given.{GivenValue};
+ghost use Rattle.c8_embed.specs.Endpoint.{HasSealing, answer_of, opened_as, IsOpenedAs, HasDelivered, IsWrapped, HasNext, IsAsBefore, HasSaidSealed};
 
 use crate::engine::Engine;
 use crate::medium::Medium;
@@ -10,6 +9,7 @@ use c8_game::Player;
 use c8_peer::{Heard, Kind, Refused, Unsayable};
 use c8_seal::LONGEST_SEALED;
 use c8_sealed::{Counters, NotTaken, Seal, SealKeys, Sealer, Secrets, Taken};
+use c8_session::MOST_DATAGRAMS;
 use c8_wire::{LONGEST_DATAGRAM, Seat};
 
 /// An engine over a journal in memory or in a file. The memory of its game is never freed.
@@ -48,6 +48,7 @@ impl Endpoint {
         ensures engine { result.engine ≡ engine.entry }
         ensures number { result.number ≡ number }
         ensures sealer { result.sealer ≡ None }
+        ensures sender { result.sender ≡ None }
     {
         Endpoint {
             engine,
@@ -99,17 +100,21 @@ impl Endpoint {
     }
 
     /// Writes the next packet of this turn to the front of `out`, and returns its addressee and its length, at most 198
-    /// bytes: as [`Engine::next_datagram`], sealed if there is a secret. It returns `None` too once the counters of this
-    /// epoch are used up.
+    /// bytes: as [`Engine::next_datagram`], sealed if there is a secret. It leaves out what cannot be sealed: rows for a
+    /// watcher if the watchers have no secret, and everything once the counters of this epoch are used up.
     pub fn next_packet(&mut self, out: &mut [u8; LONGEST_SEALED]) -> Option<(Seat, usize)>
         ensures next { IfSome result (λ next. HasNext self.old next.0.number next.1 out.new self.new) }
         ensures none { result ≡ None → IsAsBefore self.old self.new }
         ensures fits { IfSome result (λ next. next.1 ≤ LONGEST_SEALED) }
     {
         let mut datagram = [0; LONGEST_DATAGRAM];
-        let (to, size) = self.engine.next_datagram(&mut datagram)?;
-        let size = wrap(&mut self.sealer, &datagram[..size], out)?;
-        Some((to, size))
+        for _ in 0..MOST_DATAGRAMS + 1 {
+            let (to, size) = self.engine.next_datagram(&mut datagram)?;
+            if let Some(size) = wrap(&mut self.sealer, &datagram[..size], out) {
+                return Some((to, size));
+            }
+        }
+        None
     }
 
     /// Writes a datagram of a kind to a player to the front of `out`, sealed if there is a secret, and returns its length.

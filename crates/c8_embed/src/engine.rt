@@ -4,6 +4,7 @@ ghost use Rattle.c8_wire.specs.checked.Read.{read};
 ghost use Rattle.c8_peer.specs.Opened.{IsOpened, IsRefusedOpening};
 ghost use Rattle.c8_peer.specs.Peer.{IsAnswered, IsSaid, known_by};
 ghost use Rattle.c8_peer.specs.State.{Call, Tick, Deliver, Leave, Decide, Checkpoint, Ticked, Delivered, Left, Decided, Checked};
+ghost use Rattle.c8_session.specs.Runs.{IsStopped};
 ghost use Rattle.c8_session.specs.Turns.{HasTurned, IsSayingTo};
 ghost use Rattle.c8_embed.specs.Steps.{IsStepped};
 
@@ -178,12 +179,13 @@ impl<'g, D: Disk> Engine<'g, D> {
         self.session.checkpoint()
     }
 
-    /// Makes a turn, but for hearing and ticking. Player 1 drops players who were silent for too long, and cuts those
+    /// Makes the part of a turn between ticking and speaking. Player 1 drops players who were silent for too long, and cuts those
     /// whose drop round is ready. Every peer records a part of a checkpoint if one is due. Then
     /// [`Engine::next_datagram`] returns the datagrams of this turn, one a call. If the disk refuses a record the peer is
     /// down.
     pub fn turn(&mut self) -> Result<(), DiskError>
         ensures turned { HasTurned D.Disk self.old.peer self.new.peer }
+        ensures stopped { IfErr result (IsStopped D.Disk self.old.peer self.new.peer) }
         ensures steps { self.new.steps ≡ self.old.steps }
         ensures depth { self.new.depth ≡ self.old.depth }
     {

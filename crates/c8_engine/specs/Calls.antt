@@ -1,5 +1,5 @@
 -- What the calls of a handle do to its session.
-use Rattle.std.specs.Prelude.{ℕ, ◌≡◌, ◌≢◌, ◌⊎◌, ◌/◌, min, Bool, true, false, List, [], ◌∷◌, ◌++◌, length, map, Option, None, Some, Result, Err}
+use Rattle.std.specs.Prelude.{ℕ, ◌≡◌, ◌≢◌, ◌⊎◌, ◌/◌, min, Bool, true, false, List, [], ◌∷◌, ◌++◌, length, map, Option, None, Some, Result, Err, IfErr}
 use Rattle.c8_disk.specs.declared.error.DiskError.{DiskError}
 use Rattle.c8_disk.specs.declared.file.FileDisk.{FileDisk}
 use Rattle.c8_game.specs.Rules.{Rules, session_of}
@@ -20,6 +20,7 @@ use Rattle.c8_refusals.specs.declared.error.CheckError.{CheckError}
 use Rattle.c8_embed.specs.declared.medium.Medium.{Medium}
 use Rattle.c8_embed.specs.declared.endpoint.Endpoint.{Endpoint}
 use Rattle.c8_embed.specs.declared.endpoint.Sender.{Sender}
+use Rattle.c8_session.specs.Runs.{IsStopped}
 use Rattle.c8_session.specs.Turns.{HasTurned}
 use Rattle.c8_embed.specs.Endpoint.{EngineOf, HasCalled, HasSealing, HasDelivered, HasSent, HasNext, IsAsBefore}
 use Rattle.c8_embed.specs.declared.endpoint.Undelivered.{Undelivered}
@@ -36,7 +37,8 @@ IfSession (Some e) (Some f) P = P e f
 
 -- the same of its engine, and the secret stays
 abbrev pub IfOpen : Option Endpoint → Option Endpoint → (EngineOf → EngineOf → Type 0) → Type 0
-IfOpen old new P = IfSession old new (λ e f. P e.engine f.engine × (f.sealer ≡ e.sealer) × (f.number ≡ e.number))
+IfOpen old new P =
+    IfSession old new (λ e f. P e.engine f.engine × (f.sealer ≡ e.sealer) × (f.number ≡ e.number) × (f.sender ≡ e.sender))
 
 -- The handle has a session of this player in this room, of the game that the text spells. Its engine was given nothing.
 pub record IsOpenedBy (text : List ℕ) (player room : ℕ) (session : Endpoint) : Type 0 where
@@ -48,6 +50,7 @@ pub record IsOpenedBy (text : List ℕ) (player room : ℕ) (session : Endpoint)
   pub depth : session.engine.depth ≡ 0
   pub number : session.number ≡ session_of rules room
   pub sealer : session.sealer ≡ None
+  pub sender : session.sender ≡ None
 
 abbrev pub IsOpenWith : List ℕ → ℕ → ℕ → Option Endpoint → Type 0
 IsOpenWith text player room None = ⊥
@@ -81,6 +84,7 @@ pub record HasSaved (old new : EngineOf) (code : ℕ) : Type 0 where
 pub record HasMadeTurn (old new : EngineOf) (code : ℕ) : Type 0 where
   pub reply : Result (Unit {0}) DiskError
   pub turned : HasTurned disk old.peer new.peer
+  pub stopped : IfErr reply (IsStopped disk old.peer new.peer)
   pub steps : new.steps ≡ old.steps
   pub depth : new.depth ≡ old.depth
   pub code_is : code ≡ turn_code reply
@@ -116,10 +120,10 @@ pub record HasRefusedToSay (e : Endpoint) (to kind leaver code : ℕ) (f : Endpo
 
 -- ---- secrets
 
--- who sealed the packet that was taken last: the number of the seat, 0 for nobody
-abbrev pub TellsSender : Option Sender → ℕ → Bool → Type 0
-TellsSender None seat newest = seat ≡ 0
-TellsSender (Some sender) seat newest = (seat ≡ sender.from.number) × (newest ≡ sender.is_newest)
+-- who sealed the packet that was taken last: the number of the seat, and 0 for nobody, which leaves `newest` as it was
+abbrev pub TellsSender : Option Sender → ℕ → Bool → Bool → Type 0
+TellsSender None seat before newest = (seat ≡ 0) × (newest ≡ before)
+TellsSender (Some sender) seat before newest = (seat ≡ sender.from.number) × (newest ≡ sender.is_newest)
 
 -- the secret of the players, and that of the watchers if there are any bytes
 abbrev pub secret_in : List ℕ → Option (List ℕ)

@@ -37,7 +37,7 @@ use Rattle.c8_refusals.specs.declared.error.CheckError.TheVariants as checks
 abbrev pub closed_code : ℕ
 closed_code = 101
 
--- a number that is no player's
+-- a number that is no player, watcher or kind, whichever the call wants
 abbrev pub nobody_code : ℕ
 nobody_code = 102
 

@@ -1,5 +1,5 @@
 //! The calls of a session's peer, and its turn.
-ghost use Rattle.std.specs.Prelude.{◌≡◌, ◌≤◌, ◌⊎◌, None};
+ghost use Rattle.std.specs.Prelude.{◌≡◌, ◌≤◌, None};
 ghost use Rattle.c8_engine.specs.Codes.{closed_code, nobody_code};
 ghost use Rattle.c8_engine.specs.Calls.{IfOpen, IfSession, HasTicked, HasHeard, HasLeft, HasDecided, HasSaved, HasMadeTurn};
 
@@ -99,9 +99,8 @@ pub extern "C" fn c8_turn(handle: &mut Handle) -> u32
 #[unsafe(no_mangle)]
 pub extern "C" fn c8_watched(handle: &mut Handle, watcher: u8) -> u32
     ensures closed { handle.old.value ≡ None → (result ≡ closed_code) × (handle.new ≡ handle.old) }
-    ensures watched { IfOpen handle.old.value handle.new.value (λ e f.
-        (f ≡ e) × ((result ≡ 0) ⊎ (result ≡ nobody_code))) }
-    ensures seats { 5 ≤ watcher → watcher ≤ 6 → (handle.old.value ≡ None → ⊥) → result ≡ 0 }
+    ensures watched { 5 ≤ watcher → watcher ≤ 6
+        → IfOpen handle.old.value handle.new.value (λ e f. (f ≡ e) × (result ≡ 0)) }
     ensures nobody { (5 ≤ watcher → watcher ≤ 6 → ⊥) → (handle.old.value ≡ None → ⊥)
         → (result ≡ nobody_code) × (handle.new ≡ handle.old) }
 {

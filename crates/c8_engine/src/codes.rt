@@ -17,7 +17,7 @@ pub(crate) fn closed_code() -> u32
     101
 }
 
-/// What a call answers to a number that is no player's.
+/// What a call answers to a number that is no player, watcher or kind, whichever it wants.
 pub(crate) fn nobody_code() -> u32
     ensures { result ≡ nobody_code }
 {

@@ -68,7 +68,10 @@ fn explain(number: u32, text: &mut Text) -> fmt::Result {
 fn own(number: u8, text: &mut Text) -> fmt::Result {
     match number {
         1 => write!(text, "Closed: the handle is closed"),
-        2 => write!(text, "NoPlayer: not the number of a player, or of a kind"),
+        2 => write!(
+            text,
+            "NoPlayer: not the number of a player, a watcher or a kind, whichever the call wants"
+        ),
         3 => write!(text, "NotSealed: {}", NotTaken::NotSealed),
         4 => write!(text, "SeenBefore: {}", NotTaken::SeenBefore),
         5 => write!(

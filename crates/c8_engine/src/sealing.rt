@@ -1,5 +1,5 @@
 //! A session with a secret.
-ghost use Rattle.std.specs.Prelude.{◌≡◌, ℕ, List, None, MatchOption};
+ghost use Rattle.std.specs.Prelude.{◌≡◌, None, MatchOption};
 ghost use Rattle.c8_engine.specs.Codes.{closed_code, bad_secret_code, sealed_already_code};
 ghost use Rattle.c8_engine.specs.Calls.{IfSession, AreSecrets, HasSecrets, TellsSender};
 
@@ -64,8 +64,9 @@ fn secrets_of(secret: &[u8; 32], watchers: &[u8]) -> Option<Secrets>
 #[unsafe(no_mangle)]
 pub extern "C" fn c8_sender(handle: &mut Handle, newest: &mut bool) -> u8
     ensures same { handle.new.value ≡ handle.old.value }
-    ensures closed { handle.old.value ≡ None → result ≡ 0 }
-    ensures sender { IfSession handle.old.value handle.new.value (λ e f. TellsSender e.sender result newest.new) }
+    ensures closed { handle.old.value ≡ None → (result ≡ 0) × (newest.new ≡ newest.old) }
+    ensures sender { IfSession handle.old.value handle.new.value
+        (λ e f. TellsSender e.sender result newest.old newest.new) }
 {
     if !handle.is_open() {
         return 0;

@@ -3,8 +3,8 @@ use crate::way::Way;
 use c8_disk::MemDisk;
 use c8_game::{Game, Keys, Player};
 use c8_live::make_turn;
-use c8_session::Session;
 use c8_peer::Peer;
+use c8_session::Session;
 use std::alloc::Global;
 
 /// The games of two, three and four players. V0 counts the loops, V1 those in which key 5 is down.

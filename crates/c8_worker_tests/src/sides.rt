@@ -11,9 +11,9 @@ use c8_game::{Game, Keys, Player};
 use c8_inlet::inlet;
 use c8_keys::key_sets;
 use c8_live::{Counters, KeySource, Relay, Standing, game_worker, open_board};
-use c8_session::Session;
 use c8_machine::Machine;
 use c8_peer::Peer;
+use c8_session::Session;
 use c8_transport::{Gate, Wire};
 use std::alloc::{AllocError, Global};
 

@@ -48,7 +48,7 @@ macro_rules! refusals {
 refusals! {
     /// The C handle is closed. A `Session` never answers it.
     Closed = 101,
-    /// Not the number of a player.
+    /// Not the number of a player, or of a watcher where a call wants one.
     NoPlayer = 102,
     // a secret, and sealed packets
     /// A packet of a stranger, or an altered one.

@@ -22,4 +22,5 @@ returns-clause-decided c = λ from to.
       }),
       refl,
       refl,
+      refl,
     )

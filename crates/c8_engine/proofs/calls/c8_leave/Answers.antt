@@ -22,4 +22,5 @@ returns-clause-left c = λ from to.
       }),
       refl,
       refl,
+      refl,
     )

@@ -20,4 +20,5 @@ returns-in-Ok-new-clause-opened c = λ done text spells.
       depth = ap (λ (e : EngineOf). e.depth) engine ∙ opened.2;
       number = c.new.ensures.number ∙ c.session-number.ensures;
       sealer = c.new.ensures.sealer;
+      sender = c.new.ensures.sender;
     })

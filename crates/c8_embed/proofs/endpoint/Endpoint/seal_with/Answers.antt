@@ -34,5 +34,6 @@ returns c =
         refl,
         refl,
         refl,
+        refl,
       );
     }
