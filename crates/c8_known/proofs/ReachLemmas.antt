@@ -1,4 +1,4 @@
--- The least reach of all players is the number of confirmed frames.
+-- The number of confirmed frames is the least reach of all players, or the own ticks if these are fewer.
 use Rattle.std.proofs.Common.{◌≡◌, ℕ, zero, suc, ◌+◌, ◌-◌, ◌<◌, ◌≤◌, ◌⊎◌, List, [], ◌∷◌, length, map, min, take, fold, true, false, Option}
 use Rattle.std.proofs.Common.{Some, None, refl, sym, ap, subst, ◌∙◌, inl, inr, arith, slice_index_or}
 use Rattle.std.specs.List.{slice_get}

@@ -1,4 +1,4 @@
--- How runs of one peer join.
+-- What a run of a peer keeps: where its machine began, confirmed rows, and true checkpoints.
 use Rattle.std.proofs.Common.{◌≡◌, ℕ, List, [], ◌∷◌, ◌++◌, length, true, false, Option, None, refl, sym, ap, subst, ◌∙◌}
 use Rattle.std.proofs.Common.{append_assoc, arith, suc}
 use Rattle.std.specs.Prelude.{option_to_list}

@@ -1,9 +1,8 @@
 //! The live session of one peer: it plays a game with others, turn by turn, over a network that may lose, delay or
 //! repeat datagrams.
 //!
-//! [`make_turn`] runs a `Session` of c8_session over a `Wire` of c8_transport: it hears, enters a key set and speaks. Its
-//! contract says that a turn changes its peer by the calls of a turn alone, in their order, and that the wire takes only
-//! what the peer said. [`Progress`] and [`tell_end`] print how far the peer is and how it ended, by a [`Gauge`].
+//! [`make_turn`] runs a `Session` of c8_session over a `Wire` of c8_transport: it hears, enters a key set and speaks. By its
+//! contract the peer changes by a turn's calls alone, in their order, and the wire takes only what the peer said. [`Progress`] and [`tell_end`] print how far the peer is and how it ended, by a [`Gauge`].
 //!
 //! A peer may run in two threads. [`game_worker`] makes the turns of a session with the key sets of a [`KeySource`],
 //! and publishes the confirmed machine on a board, which [`open_board`] opens. [`net_worker`] moves packets between a

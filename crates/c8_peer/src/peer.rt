@@ -107,7 +107,7 @@ impl<'g, D: Disk> Peer<'g, D> {
         self.journal.is_down()
     }
 
-    /// For proofs: what holds for every open peer.
+    /// For proofs: what holds for every peer between two calls.
     pub fn is_sound(&self)
         ensures { IsSound D.Disk self.now }
     {

@@ -38,8 +38,7 @@ HasDoneOnce disk what old new = (done : HasDone disk what old new) × (length do
 
 -- ---- turns
 
--- A turn, but for what it hears, enters and says: it drops players, cuts, and records at most one part of a checkpoint.
--- If the disk refuses a record, nothing more follows.
+-- The part of a turn between ticking and speaking: it drops players, cuts, and records at most one part of a checkpoint.
 pub record HasTurned {D : Type 0} (disk : Ghosts D) (old new : PeerValue D) : Type 0 where
   pub dropped : PeerValue D
   pub cut : PeerValue D

@@ -1,10 +1,10 @@
 //! The session of one peer, without input or output: which calls a turn makes, and which datagrams are due.
 //!
-//! [`Session`] is a peer with what it remembers from turn to turn. A program delivers datagrams and enters a key set; then
-//! [`Session::turn`] drops silent players, cuts and records a part of a checkpoint, and [`Session::next_datagram`] returns
-//! the turn's datagrams, one a call. c8_live runs this loop over a wire, and c8_embed inside an engine. The contracts say
-//! which calls the peer gets, and in which order; *when* each is due is decided by a [`Schedule`], and nothing that is
-//! proved of a match rests on it.
+//! [`Session`] is a peer, and what its session remembers from turn to turn. A program calls [`Session::begin`], delivers
+//! datagrams and enters a key set; then [`Session::turn`] drops silent players, cuts and records a part of a checkpoint,
+//! [`Session::next_datagram`] returns the turn's datagrams, one a call, and [`Session::end`] ends the turn. c8_live runs this
+//! loop over a wire, and c8_embed inside an engine. The contracts say which calls the peer gets, and in which order. *When*
+//! each is due is decided by `src/schedule.rt`, and nothing that is proved of a match rests on it.
 #![tactic(auto)]
 
 mod calls;

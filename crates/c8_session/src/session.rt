@@ -12,7 +12,7 @@ use c8_game::{Game, Player};
 use c8_peer::Peer;
 use std::fmt;
 
-/// A peer with what it remembers from turn to turn.
+/// A peer, and what its session remembers from turn to turn.
 #[derive(Drop)]
 pub struct Session<'g, D: Disk> {
     pub(crate) peer: Peer<'g, D>,
@@ -24,7 +24,7 @@ pub struct Session<'g, D: Disk> {
     pub(crate) rollbacks: Rollbacks,
 }
 
-/// The place between the end of a turn and the calls of the next one that come before its datagrams.
+/// `place` while no datagrams are due: from the end of a turn until the next `turn`.
 pub(crate) const NOT_SPEAKING: u8 = u8::MAX;
 
 /// Prints the peer.
@@ -63,7 +63,7 @@ impl<'g, D: Disk> Session<'g, D> {
         &self.peer
     }
 
-    /// For proofs: what holds for every open peer.
+    /// For proofs: what holds for every peer between two calls.
     pub fn is_sound(&self)
         ensures { IsSound D.Disk self.now.peer }
     {

@@ -1,4 +1,4 @@
-//! A turn, but for what comes in and what goes out.
+//! The part of a turn between ticking and speaking.
 ghost use Rattle.std.specs.Prelude.{IfErr};
 ghost use Rattle.c8_session.specs.Runs.{IsStopped};
 ghost use Rattle.c8_session.specs.Turns.{Drops, Cuts, Saves, HasDone, HasDoneOnce, HasTurned};
@@ -9,7 +9,7 @@ use c8_disk::{Disk, DiskError};
 use c8_peer::{CheckError, DecideError, LeaveError};
 
 impl<'g, D: Disk> Session<'g, D> {
-    /// Makes a turn, but for hearing, ticking and speaking. Player 1 drops players who were silent for too long, and cuts
+    /// Makes the part of a turn between ticking and speaking. Player 1 drops players who were silent for too long, and cuts
     /// those whose drop round is ready. Every peer records a part of a checkpoint if one is due. Then `next_datagram`
     /// returns the datagrams of this turn. If the disk refuses a record the peer is down, and the turn stops there.
     pub fn turn(&mut self) -> Result<(), DiskError>

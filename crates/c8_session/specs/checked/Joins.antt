@@ -1,4 +1,4 @@
--- How runs of one peer join, and calls of one kind: the parts are seen, so that what a caller says of each joins too.
+-- Runs of one peer join, and so do calls of one kind. The parts are seen, so that what a caller says of each joins too.
 use Rattle.std.proofs.Common.{◌≡◌, ℕ, List, [], ◌∷◌, ◌++◌, Option, Some, refl, subst, sym, ◌∙◌, map, arith}
 use Rattle.std.proofs.lemmas.List.{map-append}
 use Rattle.std.proofs.lemmas.List.Elements.{All-nil, All-cons, All-append}

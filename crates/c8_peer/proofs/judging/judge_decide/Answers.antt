@@ -3,7 +3,7 @@ use Rattle.std.proofs.Common.{rules}
 use Rattle.c8_peer.specs.Calls.{decide}
 use Rattle.c8_peer.proofs.judging.judge_decide.Goals as goal
 
--- these refusals follow from the definition alone
+-- with every refusal ruled out, the answer follows from the definition
 pub returns-clause-judged : goal.returns-clause-judged
 unfolding decide
 returns-clause-judged c = search rules
