@@ -2,10 +2,11 @@
 use Rattle.std.proofs.Common.{◌≡◌, ℕ, List, [], ◌++◌, codes, Option, Some, None, Result, Ok, Err, sym, subst}
 use Rattle.std.specs.Prelude.{OnOk, IfSome, option_map}
 use Rattle.std.specs.Io.KnownBytes.{Appends}
-use Rattle.std.proofs.KnownBytes.{Appends-nil, Appends-trans}
+use Rattle.std.proofs.KnownBytes.{Appends-trans}
 use Rattle.c8_game.specs.declared.row.Player.{Player}
 use Rattle.c8_audit.specs.declared.verdict.Verdicts.{Verdicts}
 use Rattle.c8_keys.specs.Report.{Grows}
+use Rattle.c8_keys.specs.checked.Grows.{grows_then}
 use Rattle.c8_audit_command.specs.Printed.{checks_text, verdicts_text, Tells}
 
 pub true_checks : {T E : Type 0} (before after : Option (List ℕ)) (untrue : Option Player) (told : Result T E) → untrue ≡ None
@@ -14,26 +15,11 @@ pub true_checks : {T E : Type 0} (before after : Option (List ℕ)) (untrue : Op
 true_checks before after untrue (Ok done) none appends = (0, subst (λ (o : Option Player). Appends before after (checks_text o 0)) (sym none) appends)
 true_checks before after untrue (Err error) none appends = tt
 
-pub grows_by : (a b : Option (List ℕ)) (text : List ℕ) → Appends a b text → Grows a b
-grows_by a b text appends = (text, appends)
-
-pub grows_then : (a b c : Option (List ℕ)) → Grows a b → Grows b c → Grows a c
-grows_then a b c first next = (first.0 ++ next.0, Appends-trans a b c first.0 next.0 first.1 next.1)
-
-pub grows_last : {T E : Type 0} (a b c d : Option (List ℕ)) (text : List ℕ) (told : Result T E) → Grows a b → Grows b c
-    → OnOk told (Appends c d text) → OnOk told (Grows a d)
-grows_last a b c d text (Ok done) first next last = grows_then a c d (grows_then a b c first next) (text, last)
-grows_last a b c d text (Err error) first next last = tt
-
 -- a text that may be unknown, but is known
 pub some_of : (f : List ℕ → List ℕ) (P : List ℕ → Type 0) (o : Option (List ℕ)) (x : List ℕ) → o ≡ Some x → IfSome (option_map f o) P
     → (y : List ℕ) × P y
 some_of f P (Some z) x is has = (f z, has)
 some_of f P None x is has = absurd cc
-
--- nothing more is printed
-pub grows_no_more : (a : Option (List ℕ)) → Grows a a
-grows_no_more a = ([], Appends-nil a)
 
 -- the verdicts, after the lines of the journals, and before what follows
 pub tells_by : (a b c d e f : Option (List ℕ)) (verdicts : Verdicts) → Grows a b → Grows b c → Grows c d

@@ -4,8 +4,8 @@ use crate::help::{ENDING, SIM_ENDING};
 use c8_audit_command::{AUDIT, audit_given};
 use c8_command::Status;
 use c8_front::{
-    Argument, Form, Outline, RUN, SHOW, Terminals, is_explained, status_at, tell, with_commands,
-    word_of, words_in,
+    Argument, Form, Outline, RUN, SHOW, Terminals, Threaded, is_explained, status_at, tell,
+    with_commands, word_of, words_in,
 };
 use c8_host::{HOST, JOIN, host_given, join_given};
 use c8_keys::run_files;
@@ -24,11 +24,7 @@ use std::env::Args;
 use std::fs::File;
 use std::io;
 use std::io::{Read, Write};
-use std::net::Net;
 use std::rt::Files;
-use std::sync::Wait;
-use std::thread::Threads;
-use std::time::Clock;
 
 /// Runs the program with these arguments, and returns its exit status. `input` is standard input. Output goes to `out`,
 /// and refusals to `refused`.
@@ -41,7 +37,7 @@ pub fn answer<R, I, W: Write, E: Write + Send>(
     refused: &mut E,
 ) -> Status
 where
-    R: Files<File = File> + Net + Clock + Threads + Wait + Sync + AllocGlobal,
+    R: Threaded,
     I: Read + Drop,
 {
     let ended = obey(rt, args, input, out, terminals, refused);
@@ -58,7 +54,7 @@ fn obey<R, I, W: Write, E: Write + Send>(
     refused: &mut E,
 ) -> io::Result<Status>
 where
-    R: Files<File = File> + Net + Clock + Threads + Wait + Sync + AllocGlobal,
+    R: Threaded,
     I: Read + Drop,
 {
     let Some(words) = words_in(rt.alloc(), args, refused)? else {
@@ -122,7 +118,7 @@ fn carry_out<R, I, W: Write, E: Write + Send>(
     refused: &mut E,
 ) -> io::Result<Status>
 where
-    R: Files<File = File> + Net + Clock + Threads + Wait + Sync + AllocGlobal,
+    R: Threaded,
     I: Read + Drop,
 {
     match matches.subcommand() {
@@ -145,7 +141,7 @@ fn carry_out_alone<R, W: Write, E: Write + Send>(
     refused: &mut E,
 ) -> io::Result<Status>
 where
-    R: Files<File = File> + Net + Clock + Threads + Wait + Sync + AllocGlobal,
+    R: Threaded,
 {
     match name {
         "run" => {

@@ -1,4 +1,5 @@
 //! Why texts are not read from their files.
+use crate::refusal::Refusal;
 use thiserror::Error;
 
 /// Why a text was not read from its file.
@@ -23,4 +24,15 @@ pub enum TextsError {
     FirstMemory,
     #[error("out of memory for the second text")]
     SecondMemory,
+}
+
+impl TextsError {
+    /// Returns the refusal: the disk's for a file, and for memory that of the text for which it ran out.
+    pub fn refusal(self, first: Refusal, second: Refusal) -> Refusal {
+        match self {
+            TextsError::FirstFailed | TextsError::SecondFailed => Refusal::DISK,
+            TextsError::FirstMemory => first,
+            TextsError::SecondMemory => second,
+        }
+    }
 }

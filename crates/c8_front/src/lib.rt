@@ -1,7 +1,7 @@
 //! What all command lines share: their words, the parser's messages, and the exit status (`front`). A command is a table
 //! of what it takes, an [`Outline`], from which [`command_of`] makes clap's `Command` (`outline`); those of `run` and
-//! `show` are here (`commands`). [`is_same_file`] knows a file by another name, and [`Unhurried`] is a standard error that
-//! nobody has to read.
+//! `show` are here (`commands`). [`is_same_file`] knows a file by another name, [`Unhurried`] is a standard error that nobody
+//! has to read, and [`System`] and [`Threaded`] name what commands ask of the system.
 #![tactic(auto)]
 
 mod commands;
@@ -10,9 +10,11 @@ mod front;
 mod help;
 mod outline;
 mod stderr;
+mod system;
 
 pub use commands::{RUN, SHOW};
 pub use files::is_same_file;
 pub use front::{Terminals, is_explained, status_at, tell, word_of, words_in};
 pub use outline::{Argument, Form, Outline, command_of, line_of, with_commands};
 pub use stderr::Unhurried;
+pub use system::{System, Threaded};

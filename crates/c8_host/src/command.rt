@@ -1,7 +1,9 @@
-//! Runs `host` and `join`: each is a command line of `play` with its words filled in.
+//! Runs `host` and `join`: each is what `play` does, for a match of two with a secret.
 
-ghost use Rattle.std.specs.Prelude.{◌≡◌, ◌≢◌, IfOk, IfErr, IfSome};
+ghost use Rattle.std.specs.Prelude.{◌≡◌, ◌≢◌, IfOk, IfSome, Ok};
 ghost use Rattle.c8_command.specs.declared.status.Status.TheVariants as statuses;
+ghost use Rattle.c8_command.specs.declared.status.Status.{Status};
+ghost use Rattle.c8_host.specs.declared.command.Begun.TheVariants as begun;
 ghost use Rattle.c8_net.specs.Answers.{EndsMatch};
 
 use crate::addresses::{LIST, own_addresses};
@@ -9,18 +11,16 @@ use crate::digits::{digits_in, is_secret};
 use crate::inviting::{invitation, note};
 use crate::journals::journal_for;
 use c8_command::{Part, Refusal, Site, Status};
-use c8_front::{Terminals, command_of, is_explained, word_of};
+use c8_front::{System, Terminals, is_explained, word_of};
 use c8_game::Player;
-use c8_net::{Asked, asked_for, game_at, number_of, perform_given, refuse};
-use c8_play::{Live, PLAY, Pace, Terminal};
+use c8_net::{Asked, game_at, number_of, perform_given, refuse};
+use c8_play::{Live, Pace, Terminal};
 use c8_secret::{make_secret, random_bytes, write_secret};
 use clap::ArgMatches;
 use std::alloc::{AllocError, Global};
 use std::fs::File;
 use std::io::{Read, Write};
-use std::net::Net;
 use std::rt::Files;
-use std::time::Clock;
 use std::{fs, io};
 
 /// How many frames a second a match of two friends has.
@@ -39,12 +39,49 @@ const BAD: Refusal = Refusal {
 /// What a match takes beside what both commands ask for.
 #[derive(Drop)]
 pub(crate) struct Match {
+    /// The path of the game.
+    game: String,
     pub(crate) player: Player,
     local: String,
     remote: String,
     pub(crate) room: u64,
     /// The path of the secret.
     pub(crate) secret: String,
+}
+
+impl Match {
+    /// What `play` is asked for. Nothing is said of the tone and of refusals.
+    fn asked<'m, 'a>(&'a self, journal: &'a str, remotes: &'m [&'a str]) -> Asked<'m, 'a> {
+        Asked {
+            game: self.game.as_str(),
+            player: self.player,
+            journal,
+            local: self.local.as_str(),
+            remotes: Some(remotes),
+            watchers: [None, None],
+            secret: Some(self.secret.as_str()),
+            watch_secret: None,
+            room: self.room,
+            has_room: true,
+            turns: u64::MAX,
+            patience: None,
+            stop: None,
+            checkpoint: 0,
+            progress: false,
+            says_end: true,
+            is_muted: false,
+            explain: false,
+        }
+    }
+}
+
+/// Whether a match can begin.
+#[derive(Drop)]
+enum Begun {
+    /// The note stands on the screen, below the picture.
+    Match { wanted: Match, note: String },
+    /// What is missing was written.
+    Refused(Status),
 }
 
 /// Runs `host` as the command line asks: makes the secret if it is missing, shows the invitation, and plays as player 1.
@@ -56,7 +93,7 @@ pub fn host_given<R, W, E>(
     refused: &mut E,
 ) -> io::Result<Status>
 where
-    R: Files<File = File> + Net + Clock + AllocGlobal,
+    R: System,
     W: Write,
     E: Write,
     ensures { IfOk result (EndsMatch (W.contents out.old) (W.contents out.new)) }
@@ -68,40 +105,35 @@ where
         writeln!(refused, "error: host wants a terminal")?;
         return Ok(Status::CommandLine);
     };
-    match invited(rt, given, refused) {
-        Ok(Ok((wanted, note))) => {
+    match invited(rt, given, refused)? {
+        Begun::Match { wanted, note } => {
             let console = console.with_note(note.as_bytes());
-            play(rt, given, &wanted, console, out, refused)
+            play(rt, given, wanted, console, out, refused)
         }
-        Ok(Err(status)) => Ok(status),
-        Err(error) => Err(error),
+        Begun::Refused(status) => Ok(status),
     }
 }
 
-/// The match that a host invites to, and the note on the screen; the invitation is written. Returns the status if the
-/// secret's file fails.
-fn invited<R, E>(
-    rt: &R,
-    given: &ArgMatches<'_>,
-    refused: &mut E,
-) -> io::Result<Result<(Match, String), Status>>
+/// The match that a host invites to; the invitation is written. It is refused if the secret's file fails.
+fn invited<R, E>(rt: &R, given: &ArgMatches<'_>, refused: &mut E) -> io::Result<Begun>
 where
     R: Files<File = File> + AllocGlobal,
     E: Write,
-    ensures { IfOk result (λ invited. IfErr invited (λ status. status ≢ statuses.Done)) }
+    ensures { (status : Status) → result ≡ Ok (begun.Refused status) → status ≢ statuses.Done }
 {
     let secret = secret_path(rt.alloc(), given)?;
     let room = match made(rt, secret.as_str()) {
         Ok(drawn) => number_of(given, "room").unwrap_or(drawn),
         Err(error) => {
             let site = is_explained(given).then_some(Site::File(secret.as_str()));
-            return Ok(Err(Refusal::DISK.tell_at(site, &error, refused)?));
+            let status = Refusal::DISK.tell_at(site, &error, refused)?;
+            return Ok(Begun::Refused(status));
         }
     };
     let port = given.get_one::<u16>("port").unwrap_or(4001);
     let note = invite(rt, given, secret.as_str(), port, room, refused)?;
-    let wanted = hosted(rt.alloc(), secret, port, room)?;
-    Ok(Ok((wanted, note)))
+    let wanted = hosted(rt.alloc(), given, secret, port, room)?;
+    Ok(Begun::Match { wanted, note })
 }
 
 /// Writes the invitation, and returns the note on the screen.
@@ -123,8 +155,15 @@ where
 }
 
 /// The match of a host.
-fn hosted(alloc: Global, secret: String, port: u16, room: u64) -> Result<Match, AllocError> {
+fn hosted(
+    alloc: Global,
+    given: &ArgMatches<'_>,
+    secret: String,
+    port: u16,
+    room: u64,
+) -> Result<Match, AllocError> {
     Ok(Match {
+        game: format!(in alloc; "{}", word_of(given, "GAME"))?,
         player: Player::CHAIR,
         local: format!(in alloc; "0.0.0.0:{port}")?,
         remote: format!(in alloc; "{NONE}")?,
@@ -144,7 +183,7 @@ pub fn join_given<R, I, W, E>(
     refused: &mut E,
 ) -> io::Result<Status>
 where
-    R: Files<File = File> + Net + Clock + AllocGlobal,
+    R: System,
     I: Read + Drop,
     W: Write,
     E: Write,
@@ -157,32 +196,32 @@ where
         writeln!(refused, "error: join wants a terminal")?;
         return Ok(Status::CommandLine);
     };
-    match joined(rt, given, input, terminals, refused) {
-        Ok(Ok(wanted)) => play(rt, given, &wanted, console, out, refused),
-        Ok(Err(status)) => Ok(status),
-        Err(error) => Err(error),
+    match joined(rt, given, input, terminals, refused)? {
+        Begun::Match { wanted, .. } => play(rt, given, wanted, console, out, refused),
+        Begun::Refused(status) => Ok(status),
     }
 }
 
-/// The match that a friend joins. Returns the status if the secret is refused, or its file fails.
+/// The match that a friend joins. It is refused if the secret is none, or its file fails.
 fn joined<R, I, E>(
     rt: &R,
     given: &ArgMatches<'_>,
     input: I,
     terminals: Terminals,
     refused: &mut E,
-) -> io::Result<Result<Match, Status>>
+) -> io::Result<Begun>
 where
     R: Files<File = File> + AllocGlobal,
     I: Read + Drop,
     E: Write,
-    ensures { IfOk result (λ joined. IfErr joined (λ status. status ≢ statuses.Done)) }
+    ensures { (status : Status) → result ≡ Ok (begun.Refused status) → status ≢ statuses.Done }
 {
     let secret = secret_path(rt.alloc(), given)?;
     if let Some(status) = ask(rt, given, secret.as_str(), input, terminals, refused)? {
-        return Ok(Err(status));
+        return Ok(Begun::Refused(status));
     }
-    Ok(Ok(met(rt.alloc(), given, secret)?))
+    let (wanted, note) = (met(rt.alloc(), given, secret)?, String::new(rt.alloc()));
+    Ok(Begun::Match { wanted, note })
 }
 
 /// The match of a friend who joins.
@@ -190,6 +229,7 @@ fn met(alloc: Global, given: &ArgMatches<'_>, secret: String) -> Result<Match, A
     let address = word_of(given, "ADDRESS");
     let port = given.get_one::<u16>("port").unwrap_or(0);
     Ok(Match {
+        game: format!(in alloc; "{}", word_of(given, "GAME"))?,
         player: Player { number: 2 },
         local: format!(in alloc; "{}:{port}", all_for(address))?,
         remote: format!(in alloc; "{address}")?,
@@ -238,50 +278,34 @@ where
     }
 }
 
-/// Plays the match as `play` does, and says how a match with a journal is seen again.
+/// Plays the match with the journal that the command line asks for.
 fn play<R, W, E>(
     rt: &R,
     given: &ArgMatches<'_>,
-    wanted: &Match,
+    wanted: Match,
     console: Terminal<'_, R>,
     out: &mut W,
     refused: &mut E,
 ) -> io::Result<Status>
 where
-    R: Files<File = File> + Net + Clock + AllocGlobal,
+    R: System,
     W: Write,
     E: Write,
     ensures { IfOk result (EndsMatch (W.contents out.old) (W.contents out.new)) }
 {
-    let journal = journal_for(rt, given, wanted, refused)?;
-    let words = words_of(rt.alloc(), given, wanted, journal.as_str())?;
-    let matches = match matches_in(rt.alloc(), words.as_slice()) {
-        Ok(Ok(matches)) => matches,
-        Ok(Err(error)) => {
-            write!(refused, "{error}")?;
-            return Ok(Status::CommandLine);
-        }
-        Err(error) => return Err(error.into()),
-    };
+    let journal = journal_for(rt, given, &wanted, refused)?;
+    let remotes = [wanted.remote.as_str()];
     let asked = Asked {
-        says_end: true,
         is_muted: given.get_flag("mute"),
         explain: is_explained(given),
-        ..asked_for(&matches, wanted.player)
+        ..wanted.asked(journal.as_str(), &remotes)
     };
     let hold = given.get_one::<u8>("hold").unwrap_or(9).max(1);
     let pace = Pace { rate: RATE, hold };
     play_asked(rt, &asked, Live { console, pace }, out, refused)
 }
 
-/// What a command line of `play` asks for.
-fn matches_in<'a>(
-    alloc: Global,
-    words: &'a [String],
-) -> Result<Result<ArgMatches<'a>, clap::Error>, AllocError> {
-    Ok(command_of(alloc, &PLAY)?.try_get_matches_from(words))
-}
-
+/// Plays as `play` does, and says how a match with a journal is seen again.
 fn play_asked<R, W, E>(
     rt: &R,
     asked: &Asked<'_, '_>,
@@ -290,7 +314,7 @@ fn play_asked<R, W, E>(
     refused: &mut E,
 ) -> io::Result<Status>
 where
-    R: Files<File = File> + Net + Clock + AllocGlobal,
+    R: System,
     W: Write,
     E: Write,
     ensures { IfOk result (EndsMatch (W.contents out.old) (W.contents out.new)) }
@@ -304,43 +328,6 @@ where
         )?;
     }
     Ok(status)
-}
-
-/// The command line of `play` for a match.
-fn words_of(
-    alloc: Global,
-    given: &ArgMatches<'_>,
-    wanted: &Match,
-    journal: &str,
-) -> Result<Vec<String>, AllocError> {
-    let mut words = Vec::new(alloc);
-    add_words(alloc, given, wanted, journal, &mut words)?;
-    Ok(words)
-}
-
-fn add_words(
-    alloc: Global,
-    given: &ArgMatches<'_>,
-    wanted: &Match,
-    journal: &str,
-    words: &mut Vec<String>,
-) -> Result<(), AllocError> {
-    let Match {
-        player,
-        local,
-        remote,
-        room,
-        secret,
-    } = wanted;
-    words.push(format!(in alloc; "play")?)?;
-    words.push(format!(in alloc; "--room={room}")?)?;
-    words.push(format!(in alloc; "--secret={secret}")?)?;
-    words.push(format!(in alloc; "{}", word_of(given, "GAME"))?)?;
-    words.push(format!(in alloc; "{}", player.number)?)?;
-    words.push(format!(in alloc; "{journal}")?)?;
-    words.push(format!(in alloc; "{local}")?)?;
-    words.push(format!(in alloc; "{remote}")?)?;
-    Ok(())
 }
 
 /// The path of the secret: the one that is given, or that of the game with `.secret` behind it.

@@ -5,7 +5,7 @@ use Rattle.std.specs.Fmt.{◌++?◌}
 use Rattle.std.specs.Prelude.{OnOk, IfSome, option_map}
 use Rattle.std.specs.Io.KnownBytes.{Appends}
 use Rattle.std.specs.List.{flat_map, range_with_len}
-use Rattle.std.proofs.KnownBytes.{Appends-nil, Appends-trans}
+use Rattle.std.proofs.KnownBytes.{Appends-trans}
 use Rattle.std.proofs.Math.ListN.{get_or-append}
 use Rattle.std.proofs.lemmas.Bool.{cases_lt}
 use Rattle.std.proofs.lemmas.Grind.{flat_map-append}
@@ -14,21 +14,8 @@ use Rattle.std.proofs.lemmas.List.FromFn.{get_or-map-range_with_len, length-map-
 use Rattle.c8_screen.specs.Points.{Points}
 use Rattle.c8_machine.specs.State.{state}
 use Rattle.c8_keys.specs.Report.{mark_of, row_text, screen_text, frames_text, Grows, Reports}
+use Rattle.c8_keys.specs.checked.Grows.{grows_then}
 use Rattle.c8_keys.specs.declared.lines.Played.{Played}
-
-pub grows_by : (a b : Option (List ℕ)) (text : List ℕ) → Appends a b text → Grows a b
-grows_by a b text appends = (text, appends)
-
-pub grows_no_more : (a : Option (List ℕ)) → Grows a a
-grows_no_more a = ([], Appends-nil a)
-
-pub grows_then : (a b c : Option (List ℕ)) → Grows a b → Grows b c → Grows a c
-grows_then a b c first next = (first.0 ++ next.0, Appends-trans a b c first.0 next.0 first.1 next.1)
-
-pub grows_last : {T E : Type 0} (a b c : Option (List ℕ)) (text : List ℕ) (told : Result T E) → Grows a b → OnOk told (Appends b c text)
-    → OnOk told (Grows a c)
-grows_last a b c text (Ok done) first last = grows_then a b c first (text, last)
-grows_last a b c text (Err error) first last = tt
 
 pub grows_more : {T E : Type 0} (a b c : Option (List ℕ)) (told : Result T E) → Grows a b → OnOk told (Grows b c) → OnOk told (Grows a c)
 grows_more a b c (Ok done) first last = grows_then a b c first last

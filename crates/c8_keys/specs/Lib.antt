@@ -3,3 +3,4 @@ pub mod KeyLines
 pub mod KeySets
 pub mod Report
 pub mod Run
+pub mod checked

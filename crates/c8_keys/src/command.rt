@@ -11,7 +11,7 @@ use crate::error::{KeysError, RunError};
 use crate::explain::site_of;
 use crate::lines::{Played, play};
 use crate::report::write_report;
-use c8_command::{Refusal, Site, Status, Text, TextsError, read_both};
+use c8_command::{Refusal, Site, Status, Text, read_both};
 use c8_game::{Game, GameError};
 use std::alloc::Global;
 use std::io;
@@ -41,17 +41,10 @@ where
         }
         Err(error) => {
             let site = explain.then_some(error.site(game, keys));
-            unread(error).tell_at(site, &error, refused)
+            let game = RunError::Game(GameError::Memory).into();
+            let keys = RunError::Keys(KeysError::Memory).into();
+            error.refusal(game, keys).tell_at(site, &error, refused)
         }
-    }
-}
-
-/// Returns why the texts of two files were not read.
-fn unread(error: TextsError) -> Refusal {
-    match error {
-        TextsError::FirstFailed | TextsError::SecondFailed => Refusal::DISK,
-        TextsError::FirstMemory => RunError::Game(GameError::Memory).into(),
-        TextsError::SecondMemory => RunError::Keys(KeysError::Memory).into(),
     }
 }
 

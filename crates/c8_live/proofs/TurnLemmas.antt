@@ -11,7 +11,7 @@ use Rattle.c8_peer.specs.Runs.{Does, IsDone}
 use Rattle.c8_transport.specs.declared.wire.Wire.{Ghosts as WireGhosts}
 use Rattle.c8_session.specs.Runs.{HasRunOn}
 use Rattle.c8_transport.specs.Wire.{MayTake, most_packets}
-use Rattle.c8_session.specs.Turns.{Hears, Ticks, Speaks, doing, HasDoneOnce, HasTurned}
+use Rattle.c8_session.specs.Turns.{Hears, Ticks, Speaks, doing, HasCalledOnce, HasTurned}
 use Rattle.c8_session.specs.checked.Joins.{RunsJoin, joined, says, done_still, done_joined, turned_ran}
 use Rattle.c8_live.specs.Turns.{AreDeliveriesOf, HasHeardOf, HasHeard, WereSaid, HasSpoken, IsTurn, AreTurns}
 
@@ -131,7 +131,7 @@ module _ {D W : Type 0} (disk : DiskGhosts D) (wire : WireGhosts W) where
   -- ---- turns
 
   abbrev pub turn_of : (old heard ticked new : PeerValue D) (before between after : W)
-      → HasHeard disk wire most_packets old heard before between → HasDoneOnce disk Ticks heard ticked → HasTurned disk ticked new
+      → HasHeard disk wire most_packets old heard before between → HasCalledOnce disk Ticks heard ticked → HasTurned disk ticked new
       → HasSpoken disk wire new between after → IsTurn disk wire old new before after
   turn_of old heard ticked new before between after hears ticks turns speaks = record {
     heard = heard;
@@ -146,7 +146,7 @@ module _ {D W : Type 0} (disk : DiskGhosts D) (wire : WireGhosts W) where
   pub turn_ran : RunsJoin → (old new : PeerValue D) (before after : W) → IsTurn disk wire old new before after → HasRunOn disk old new
   turn_ran join old new before after turn =
       joined disk join old turn.heard new turn.hears.heard.0.ran
-      (joined disk join turn.heard turn.ticked new turn.ticks.0.ran
+      (joined disk join turn.heard turn.ticked new turn.ticks.0.done.ran
       (joined disk join turn.ticked new new (turned_ran disk join turn.ticked new turn.turns) turn.speaks.done.ran))
 
   pub turns_more : (n : ℕ) (old middle new : PeerValue D) (before between after : W) → AreTurns disk wire n old middle before between

@@ -6,7 +6,7 @@ use Rattle.c8_wire.specs.Spelling.{Spells}
 use Rattle.c8_peer.specs.State.{Call, Reply, Deliver, Said}
 use Rattle.c8_peer.specs.Steps.{DiskOutcome}
 use Rattle.c8_peer.specs.Peer.{PeerValue}
-use Rattle.c8_session.specs.Turns.{Hears, Ticks, Speaks, HasDone, HasDoneOnce, HasTurned}
+use Rattle.c8_session.specs.Turns.{Hears, Ticks, Speaks, HasDone, HasCalledOnce, HasTurned}
 use Rattle.c8_transport.specs.Wire.{most_packets}
 use Rattle.c8_transport.specs.declared.wire.Wire.{Ghosts as WireGhosts}
 
@@ -62,7 +62,7 @@ pub record IsTurn {D W : Type 0} (disk : DiskGhosts D) (wire : WireGhosts W) (ol
   pub ticked : PeerValue D
   pub between : W
   pub hears : HasHeard disk wire most_packets old heard before between
-  pub ticks : HasDoneOnce disk Ticks heard ticked
+  pub ticks : HasCalledOnce disk Ticks heard ticked
   pub turns : HasTurned disk ticked new
   pub speaks : HasSpoken disk wire new between after
 

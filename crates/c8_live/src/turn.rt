@@ -5,7 +5,7 @@ ghost use Rattle.c8_live.specs.Ends.{IsEnd};
 ghost use Rattle.c8_live.specs.Entered.{entered_of, HasEntered, HasTicked, HasHandedIn};
 ghost use Rattle.c8_live.specs.Turns.{HasHeardOf, HasHeard, HasSpoken, IsTurn};
 ghost use Rattle.c8_session.specs.Runs.{HasRunOn};
-ghost use Rattle.c8_session.specs.Turns.{Ticks, HasDoneOnce};
+ghost use Rattle.c8_session.specs.Turns.{Ticks, HasCalledOnce};
 ghost use Rattle.c8_transport.specs.Wire.{most_packets};
 
 use crate::error::SessionError;
@@ -103,7 +103,7 @@ fn deliver<D: Disk>(session: &mut Session<'_, D>, packet: &[u8]) -> Result<(), S
 
 /// Enters a key set, if there is one, and returns whether it was taken.
 fn enter<D: Disk>(session: &mut Session<'_, D>, keys: Option<Keys>) -> Result<bool, SessionError>
-    ensures ran { HasDoneOnce D.Disk Ticks session.old.peer session.new.peer }
+    ensures ran { HasCalledOnce D.Disk Ticks session.old.peer session.new.peer }
     ensures ticked { IfOk result (λ taken. HasTicked D.Disk keys taken session.old.peer session.new.peer) }
     ensures entered { IfOk result (λ taken. HasEntered D.Disk (entered_of keys taken)
         session.old.peer session.new.peer) }

@@ -18,7 +18,7 @@ use crate::play::{Prepared, Unprepared, perform_on, play_on, prepare};
 use crate::seals::{seal_at, warn_of_secrets};
 use c8_command::{Refusal, Status, TextError};
 use c8_disk::FileError;
-use c8_front::Terminals;
+use c8_front::{System, Terminals, Threaded};
 use c8_game::Game;
 use c8_journal::{Journal, Trouble, warn_of_a_slow_disk};
 use c8_keys::{Played, write_report};
@@ -46,7 +46,7 @@ pub fn peer_given<R, I, W, E>(
     refused: &mut E,
 ) -> io::Result<Status>
 where
-    R: Files<File = File> + Net + Clock + Threads + Wait + Sync + AllocGlobal,
+    R: Threaded,
     I: Read + Drop,
     W: Write,
     E: Write + Send,
@@ -79,7 +79,7 @@ pub fn perform_given<R, P, W, E>(
     refused: &mut E,
 ) -> io::Result<Status>
 where
-    R: Files<File = File> + Net + Clock + AllocGlobal,
+    R: System,
     P: Performance + Drop,
     W: Write,
     E: Write,
@@ -126,7 +126,7 @@ pub fn peer<R, I, W, E>(
     refused: &mut E,
 ) -> io::Result<Status>
 where
-    R: Files<File = File> + Net + Clock + Threads + Wait + Sync + AllocGlobal,
+    R: Threaded,
     I: Read + Drop,
     W: Write,
     E: Write + Send,
@@ -152,7 +152,7 @@ pub fn perform<R, P, W, E>(
     refused: &mut E,
 ) -> io::Result<Status>
 where
-    R: Files<File = File> + Net + Clock + AllocGlobal,
+    R: System,
     P: Performance + Drop,
     W: Write,
     E: Write,

@@ -54,6 +54,17 @@ struct Post<W> {
     inbox: Putter,
 }
 
+/// What the game thread owns: a session and its key sets, its ends of the inlets, and the pen of the board.
+#[derive(Drop)]
+struct Turner<'g, D: Disk, K> {
+    session: Session<'g, D>,
+    keys: K,
+    relay: Relay,
+    pen: Pen,
+    /// How many turns it makes at most.
+    turns: u64,
+}
+
 /// A viewer, and its board.
 #[derive(Drop)]
 pub struct Onlooker<'b> {
@@ -136,16 +147,23 @@ impl Stage {
             board: &shared.board,
             viewer,
         };
+        let turner = Turner {
+            session,
+            keys,
+            relay,
+            pen,
+            turns: asked.turns,
+        };
         let common = &shared;
         let ((), ended) = thread::join(
             rt,
             || watch(rt, asked, onlooker, told, progress, common),
             || -> Result<Ended<'_, D>, Unopened>
-                requires board { pen.board ≡ common.now.board }
-                requires shows { MayShow session.peer pen }
+                requires board { turner.pen.board ≡ common.now.board }
+                requires shows { MayShow turner.session.peer turner.pen }
                 ensures { IfOk result (λ ended.
-                    HasEnded D.Disk session.entry.peer ended.session.peer ended.turns) }
-            { move_and_turn(rt, asked.turns, session, keys, relay, pen, post, common) },
+                    HasEnded D.Disk turner.entry.session.peer ended.session.peer ended.turns) }
+            { move_and_turn(rt, turner, post, common) },
         );
         ended
     }
@@ -155,11 +173,7 @@ impl Stage {
 /// does not start, no turn is made.
 fn move_and_turn<'g, R, D, K, W>(
     rt: &R,
-    turns: u64,
-    session: Session<'g, D>,
-    keys: K,
-    relay: Relay,
-    pen: Pen,
+    turner: Turner<'g, D, K>,
     post: Post<W>,
     shared: &Shared<'_, R>,
 ) -> Result<Ended<'g, D>, Unopened>
@@ -168,19 +182,19 @@ where
     D: Disk + Drop,
     K: KeySource + Drop,
     W: Wire + Drop + Send,
-    requires board { pen.board ≡ shared.now.board }
-    requires shows { MayShow session.peer pen }
+    requires board { turner.pen.board ≡ shared.now.board }
+    requires shows { MayShow turner.session.peer turner.pen }
     ensures { IfOk result (λ ended.
-        HasEnded D.Disk session.entry.peer ended.session.peer ended.turns) }
+        HasEnded D.Disk turner.entry.session.peer ended.session.peer ended.turns) }
 {
     thread::scope(
         thread::scope_env(),
         rt,
         |scope| -> Result<Ended<'_, D>, Unopened>
-            requires board { pen.board ≡ shared.now.board }
-            requires shows { MayShow session.peer pen }
+            requires board { turner.pen.board ≡ shared.now.board }
+            requires shows { MayShow turner.session.peer turner.pen }
             ensures { IfOk result (λ ended.
-                HasEnded D.Disk session.entry.peer ended.session.peer ended.turns) }
+                HasEnded D.Disk turner.entry.session.peer ended.session.peer ended.turns) }
         {
             if !shared.pace.has_viewer() {
                 shared.pace.end(Worker::Game);
@@ -190,7 +204,7 @@ where
                 shared.pace.end(Worker::Game);
                 return Err(Unopened::Thread);
             };
-            let ended = make_turns(session, keys, relay, pen, turns, shared);
+            let ended = make_turns(turner, shared);
             Ok(ended.after(mover.join(rt)))
         },
     )
@@ -198,23 +212,25 @@ where
 
 /// Runs the game thread, which is the caller's.
 fn make_turns<'g, R: Clock, D: Disk, K: KeySource + Drop>(
-    session: Session<'g, D>,
-    keys: K,
-    relay: Relay,
-    pen: Pen,
-    turns: u64,
+    turner: Turner<'g, D, K>,
     shared: &Shared<'_, R>,
 ) -> Ended<'g, D>
-    requires board { pen.board ≡ shared.now.board }
-    requires shows { MayShow session.peer pen }
-    ensures { HasEnded D.Disk session.entry.peer result.session.peer result.turns }
+    requires board { turner.pen.board ≡ shared.now.board }
+    requires shows { MayShow turner.session.peer turner.pen }
+    ensures { HasEnded D.Disk turner.entry.session.peer result.session.peer result.turns }
 {
     let Shared {
         board,
         counters,
         pace,
     } = shared;
-    let (mut session, mut keys, mut relay, mut pen) = (session, keys, relay, pen);
+    let Turner {
+        mut session,
+        mut keys,
+        mut relay,
+        mut pen,
+        turns,
+    } = turner;
     let turns = game_worker(
         &mut session,
         &mut keys,

@@ -11,16 +11,12 @@ use crate::desk::{Desk, Pace};
 use crate::live::{Live, tell_lateness};
 use crate::terminal::Terminal;
 use c8_command::Status;
-use c8_front::{is_explained, word_of};
+use c8_front::{System, is_explained, word_of};
 use c8_keys::write_report;
 use c8_net::{Asked, asked_for, game_at, number_of, perform_given, refuse};
 use clap::ArgMatches;
-use std::fs::File;
 use std::io;
 use std::io::Write;
-use std::net::Net;
-use std::rt::Files;
-use std::time::Clock;
 
 /// Runs `play` as the command line asks. It draws the screen on the terminal of the process, and writes the report of
 /// the machine at the end to `out`. The line of a refusal goes to `refused`. Without a terminal it refuses the command
@@ -32,7 +28,7 @@ pub fn play_given<R, W, E>(
     refused: &mut E,
 ) -> io::Result<Status>
 where
-    R: Files<File = File> + Net + Clock + AllocGlobal,
+    R: System,
     W: Write,
     E: Write,
     ensures { IfOk result (EndsPlay (W.contents out.old) (W.contents out.new)) }
@@ -72,7 +68,7 @@ fn alone<R, W, E>(
     refused: &mut E,
 ) -> io::Result<Status>
 where
-    R: Files<File = File> + Net + Clock + AllocGlobal,
+    R: System,
     W: Write,
     E: Write,
     ensures { IfOk result (λ status. status ≡ statuses.Done

@@ -2,14 +2,13 @@
 
 use crate::console::{Console, Gone, KEY_BYTES};
 use crate::exchange::Exchange;
+use c8_front::System;
 use c8_terminal::{ENTER, LEAVE};
 use mio::event::Source;
 use mio::{Events, Interest, Poll, Token};
 use std::fs::{File, OpenOptions};
 use std::io::{ErrorKind, Read, Write};
-use std::net::Net;
 use std::os::fd::AsRawFd;
-use std::rt::Files;
 use std::time::{Clock, Duration};
 use std::{io, thread};
 
@@ -45,7 +44,7 @@ pub struct Terminal<'r, R> {
 
 impl<'r, R> Terminal<'r, R>
 where
-    R: Files<File = File> + Net + Clock + AllocGlobal,
+    R: System,
 {
     /// Opens the terminal twice: once to read without waiting, a setting of that opening alone, and once to write. It
     /// writes nothing yet.

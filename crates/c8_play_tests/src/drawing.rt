@@ -1,17 +1,14 @@
 //! The pictures of a watched match, and their times by a clock of the test.
 ghost use Rattle.std.specs.Prelude.{◌≡◌};
 
-use c8_front::{Terminals, command_of};
+use c8_front::{Terminals, Threaded, command_of};
 use c8_game::Game;
 use c8_terminal::{ENTER, LEAVE};
 use c8_transport::{Traffic, Wire, WireFailed};
 use c8_watch_command::{WATCH, WatchAsked, watch_given, watch_on};
 use c8_wire::{Seat, Watcher};
 use std::alloc::Global;
-use std::fs::File;
 use std::io::Write;
-use std::net::Net;
-use std::rt::Files;
 use std::sync::Wait;
 use std::sync::atomic::{AtomicU64, Ordering};
 use std::test::Fail;
@@ -274,7 +271,7 @@ const TERMINAL: Terminals = Terminals {
 /// What these arguments print on a terminal; nothing if they are a mistake.
 fn printed<R>(rt: &R) -> Vec<u8>
 where
-    R: Files<File = File> + Net + Clock + Threads + Wait + Sync + AllocGlobal,
+    R: Threaded,
 {
     let (mut out, mut refused) = (Vec::new(rt.alloc()), Vec::new(rt.alloc()));
     let Ok(command) = command_of(rt.alloc(), &WATCH) else {

@@ -1,16 +1,14 @@
 //! Two people, each at a console of their own, who play over the loopback.
 
 use crate::console::{Log, Marks, Sent, Written};
+use c8_front::System;
 use c8_game::Player;
 use c8_net::{Asked, perform};
 use c8_play::{Live, Pace};
 use std::fs;
-use std::fs::File;
-use std::net::{Ipv4Addr, Net, SocketAddr, UdpSocket};
-use std::rt::Files;
+use std::net::{Ipv4Addr, SocketAddr, UdpSocket};
 use std::test::Fail;
 use std::thread::join;
-use std::time::Clock;
 
 /// A game of two players and 30 frames. V0 counts the loops, V1 those in which key 5 is down, V3 those in which
 /// key 13 is.
@@ -46,7 +44,7 @@ fn printed<'x, R>(
     stop: Option<u64>,
 ) -> (Vec<u8>, Vec<u8>, Marks)
 where
-    R: Files<File = File> + Net + Clock + AllocGlobal,
+    R: System,
 {
     let asked = Asked {
         game: GAME_FILE,

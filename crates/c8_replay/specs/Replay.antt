@@ -83,7 +83,16 @@ abbrev pub IsTold : Result Shown ReplayFault → Option (List ℕ) → Option (L
 IsTold (Ok shown) old new status = IsPrinted shown old new status
 IsTold (Err fault) old new status = (status ≡ Refused) × (new ≡ old)
 
--- the command ends with such an outcome
+-- the command ends with the outcome for this game, journal and wish
 abbrev pub HasReplayed : List ℕ → List ℕ → Wish → Option (List ℕ) → Option (List ℕ) → Status → Type 0
 HasReplayed game image wish old new status =
     (outcome : Result Shown ReplayFault) × IsOutcome game image wish outcome × IsTold outcome old new status
+
+-- if the command is done, it has replayed this journal
+abbrev pub EndsReplayOf : List ℕ → List ℕ → Wish → Option (List ℕ) → Option (List ℕ) → Status → Type 0
+EndsReplayOf game image wish old new status = status ≡ Done → HasReplayed game image wish old new status
+
+-- if the command is done, it has replayed a journal
+abbrev pub EndsReplay : Option (List ℕ) → Option (List ℕ) → Status → Type 0
+EndsReplay old new status =
+    status ≡ Done → (game : List ℕ) × (image : List ℕ) × (wish : Wish) × HasReplayed game image wish old new status

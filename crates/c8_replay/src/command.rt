@@ -1,16 +1,16 @@
 //! `c8play replay`: shows the match that a journal confirms.
 
-ghost use Rattle.std.specs.Prelude.{◌≡◌, IfOk};
+ghost use Rattle.std.specs.Prelude.{◌≡◌, ◌≢◌, IfOk};
 ghost use Rattle.c8_command.specs.declared.status.Status.TheVariants as statuses;
 ghost use Rattle.c8_keys.specs.Report.{Reports};
-ghost use Rattle.c8_replay.specs.Replay.{HasReplayed, IsPrinted};
+ghost use Rattle.c8_replay.specs.Replay.{EndsReplay, EndsReplayOf, HasReplayed, IsPrinted};
 
 use crate::arguments::{Asked, asked_of};
 use crate::error::ReplayFault;
 use crate::screening::screen_journal;
 use crate::showing::{Shown, show_journal};
 use c8_command::{Refusal, Site, Status, Text, TextsError, both, read_file};
-use c8_front::is_same_file;
+use c8_front::{System, is_same_file};
 use c8_game::GameError;
 use c8_image::{JournalError, read_image};
 use c8_keys::{Played, game_site, write_report};
@@ -19,9 +19,7 @@ use clap::ArgMatches;
 use std::alloc::Global;
 use std::fs::File;
 use std::io::Write;
-use std::net::Net;
 use std::rt::Files;
-use std::time::Clock;
 use std::{fs, io};
 
 /// Reads the files of the command line, and shows the journal: on the terminal with `--screen`, on a page with
@@ -34,7 +32,8 @@ pub fn replay_given<R, W: Write, E: Write>(
     refused: &mut E,
 ) -> io::Result<Status>
 where
-    R: Files<File = File> + Net + Clock + AllocGlobal,
+    R: System,
+    ensures { IfOk result (EndsReplay (W.contents out.old) (W.contents out.new)) }
 {
     let asked = asked_of(given);
     match both(read_file(rt, asked.game), read_image(rt, asked.journal)) {
@@ -53,7 +52,9 @@ fn replay_files<R, W: Write, E: Write>(
     refused: &mut E,
 ) -> io::Result<Status>
 where
-    R: Files<File = File> + Net + Clock + AllocGlobal,
+    R: System,
+    ensures { IfOk result
+        (EndsReplayOf game.now image.now asked.now.wish (W.contents out.old) (W.contents out.new)) }
 {
     if let Some(rate) = asked.screen {
         return screen_files(rt, asked, rate, game, image, out, refused);
@@ -86,7 +87,9 @@ fn screen_files<R, W: Write, E: Write>(
     refused: &mut E,
 ) -> io::Result<Status>
 where
-    R: Files<File = File> + Net + Clock + AllocGlobal,
+    R: System,
+    ensures { IfOk result
+        (EndsReplayOf game.now image.now asked.now.wish (W.contents out.old) (W.contents out.new)) }
 {
     let Ok(console) = Terminal::open(rt) else {
         writeln!(refused, "error: --screen wants a terminal")?;
@@ -120,7 +123,9 @@ fn refuse_files<E: Write>(
     asked: &Asked<'_>,
     error: TextsError,
     refused: &mut E,
-) -> io::Result<Status> {
+) -> io::Result<Status>
+    ensures { IfOk result (λ status. status ≢ statuses.Done) }
+{
     let site = asked
         .explain
         .then_some(error.site(asked.game, asked.journal));

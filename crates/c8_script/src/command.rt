@@ -8,7 +8,7 @@ use crate::error::{ScriptError, SimError};
 use crate::explain::site_if;
 use crate::journals::are_written;
 use crate::transcript::{Transcript, Unfinished, play_script};
-use c8_command::{Refusal, Site, Status, Text, TextsError, read_both};
+use c8_command::{Refusal, Site, Status, Text, read_both};
 use c8_game::GameError;
 use std::alloc::Global;
 use std::io;
@@ -48,7 +48,9 @@ where
         }
         Err(error) => {
             let site = explain.then_some(error.site(game, script));
-            unread(error).tell_at(site, &error, refused)
+            let game = SimError::Game(GameError::Memory).into();
+            let script = SimError::Script(ScriptError::Memory).into();
+            error.refusal(game, script).tell_at(site, &error, refused)
         }
     }
 }
@@ -57,15 +59,6 @@ where
 fn leave_journals<R: Files + AllocGlobal>(rt: &R, folder: &str, transcript: &Transcript) -> bool {
     let players = transcript.ends.players.len();
     are_written(rt, folder, players, &transcript.journals)
-}
-
-/// Returns why the texts of two files were not read.
-fn unread(error: TextsError) -> Refusal {
-    match error {
-        TextsError::FirstFailed | TextsError::SecondFailed => Refusal::DISK,
-        TextsError::FirstMemory => SimError::Game(GameError::Memory).into(),
-        TextsError::SecondMemory => SimError::Script(ScriptError::Memory).into(),
-    }
 }
 
 /// Runs `script` for the players of the game that `game` spells, from empty journals on. Writes the answer to each

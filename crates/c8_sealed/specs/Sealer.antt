@@ -35,8 +35,8 @@ pub record HasSealed (old : SealerValue) (datagram out : List ℕ) (size : ℕ) 
 -- why a datagram is not sealed, judged in this order
 abbrev pub IsUnsealed : SealerValue → List ℕ → Unsealable → Type 0
 IsUnsealed old datagram Long = 174 < length datagram
-IsUnsealed old datagram NoKey = key_for old.seal.keys datagram ≡ None
-IsUnsealed old datagram Spent = old.left ≡ 0
+IsUnsealed old datagram NoKey = (length datagram ≤ 174) × (key_for old.seal.keys datagram ≡ None)
+IsUnsealed old datagram Spent = (length datagram ≤ 174) × ((key : List ℕ) × (key_for old.seal.keys datagram ≡ Some key)) × (old.left ≡ 0)
 
 -- ---- what is taken
 

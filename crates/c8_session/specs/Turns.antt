@@ -1,11 +1,11 @@
 -- What a turn does to a peer, and which calls it may make in which order.
-use Rattle.std.specs.Prelude.{◌≡◌, ◌≤◌, ℕ, length}
+use Rattle.std.specs.Prelude.{◌≡◌, ◌≤◌, ℕ, List, [], ◌∷◌, length}
 use Rattle.std.specs.List.{All}
 use Rattle.c8_disk.specs.declared.disk.Disk.{Ghosts}
 use Rattle.c8_peer.specs.Lawful.{IsCall}
-use Rattle.c8_peer.specs.State.{Call, Tick, Deliver, Say, Show, Leave, Decide, Checkpoint}
+use Rattle.c8_peer.specs.State.{Call, Reply, Tick, Deliver, Say, Show, Leave, Decide, Checkpoint}
 use Rattle.c8_peer.specs.Steps.{DiskOutcome}
-use Rattle.c8_peer.specs.Peer.{PeerValue}
+use Rattle.c8_peer.specs.Peer.{PeerValue, IsAnswered, disk_outcome_of}
 use Rattle.c8_session.specs.Runs.{HasRunOn}
 
 -- ---- which calls
@@ -32,9 +32,21 @@ pub record HasDone {D : Type 0} (disk : Ghosts D) (what : Doing) (old new : Peer
   pub ran : HasRunOn disk old new
   pub alike : All (λ (call : Call × DiskOutcome). doing call.0 ≡ what) ran.calls
 
+-- These calls, one after another, each answered as its contract says, with this outcome of the disk.
+abbrev pub AreAnswered : {D : Type 0} → Ghosts D → List (Call × DiskOutcome) → PeerValue D → PeerValue D → Type 0
+AreAnswered disk [] old new = new ≡ old
+AreAnswered {D} disk (call ∷ calls) old new =
+    (middle : PeerValue D) × (reply : Reply) × IsAnswered disk old call.0 reply middle × (disk_outcome_of reply ≡ call.1)
+    × AreAnswered disk calls middle new
+
+-- calls of one kind, each answered as its contract says
+pub record HasCalled {D : Type 0} (disk : Ghosts D) (what : Doing) (old new : PeerValue D) : Type 0 where
+  pub done : HasDone disk what old new
+  pub answered : AreAnswered disk done.ran.calls old new
+
 -- the same with at most one call
-abbrev pub HasDoneOnce : {D : Type 0} → Ghosts D → Doing → PeerValue D → PeerValue D → Type 0
-HasDoneOnce disk what old new = (done : HasDone disk what old new) × (length done.ran.calls ≤ 1)
+abbrev pub HasCalledOnce : {D : Type 0} → Ghosts D → Doing → PeerValue D → PeerValue D → Type 0
+HasCalledOnce disk what old new = (called : HasCalled disk what old new) × (length called.done.ran.calls ≤ 1)
 
 -- ---- turns
 
@@ -42,9 +54,9 @@ HasDoneOnce disk what old new = (done : HasDone disk what old new) × (length do
 pub record HasTurned {D : Type 0} (disk : Ghosts D) (old new : PeerValue D) : Type 0 where
   pub dropped : PeerValue D
   pub cut : PeerValue D
-  pub drops : HasDone disk Drops old dropped
-  pub cuts : HasDone disk Cuts dropped cut
-  pub saves : HasDoneOnce disk Saves cut new
+  pub drops : HasCalled disk Drops old dropped
+  pub cuts : HasCalled disk Cuts dropped cut
+  pub saves : HasCalledOnce disk Saves cut new
 
 -- ---- datagrams
 

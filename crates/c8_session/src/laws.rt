@@ -5,7 +5,7 @@ ghost use Rattle.c8_peer.specs.Lawful.{IsCall};
 ghost use Rattle.c8_peer.specs.Peer.{PeerValue, IsAnswered};
 ghost use Rattle.c8_peer.specs.State.{Call, Reply};
 ghost use Rattle.c8_session.specs.Runs.{HasRunOn, IsStopped};
-ghost use Rattle.c8_session.specs.Turns.{Doing, doing, HasDone, HasTurned};
+ghost use Rattle.c8_session.specs.Turns.{Doing, doing, HasCalled, HasTurned};
 
 use c8_disk::Disk;
 use c8_peer::laws::{calls_are_deeds, runs_join};
@@ -28,15 +28,16 @@ pub fn peers_run_on<D: Disk>()
     calls_are_deeds::<D>();
 }
 
-/// Calls of one kind: none (`still`), one (`once`), some after others (`joined`).
+/// Calls of one kind, each answered as its contract says: none (`still`), one (`once`), some after others (`joined`).
 pub fn doings_join<D: Disk>()
-    ensures still { (what : Doing) (p : PeerValue D) → HasDone D.Disk what p p }
+    ensures still { (what : Doing) (p : PeerValue D) → HasCalled D.Disk what p p }
     ensures once { (old new : PeerValue D) (call : Call) (reply : Reply)
         → IsCall call → IsAnswered D.Disk old call reply new
-        → (done : HasDone D.Disk (doing call) old new) × (length done.ran.calls ≡ 1) }
+        → (called : HasCalled D.Disk (doing call) old new)
+        × (length called.done.ran.calls ≡ 1) }
     ensures joined { (what : Doing) (first middle last : PeerValue D)
-        → HasDone D.Disk what first middle → HasDone D.Disk what middle last
-        → HasDone D.Disk what first last }
+        → HasCalled D.Disk what first middle → HasCalled D.Disk what middle last
+        → HasCalled D.Disk what first last }
 {
     runs_join();
     calls_are_deeds::<D>();

@@ -1,7 +1,7 @@
 //! The part of a turn between ticking and speaking.
 ghost use Rattle.std.specs.Prelude.{IfErr};
 ghost use Rattle.c8_session.specs.Runs.{IsStopped};
-ghost use Rattle.c8_session.specs.Turns.{Drops, Cuts, Saves, HasDone, HasDoneOnce, HasTurned};
+ghost use Rattle.c8_session.specs.Turns.{Drops, Cuts, Saves, HasCalled, HasCalledOnce, HasTurned};
 
 use crate::laws::{doings_join, peers_run_on};
 use crate::session::Session;
@@ -28,7 +28,7 @@ impl<'g, D: Disk> Session<'g, D> {
 
     /// If this is player 1, drops the players who have been silent for too long, and those of `give_up`.
     fn drop_silent(&mut self) -> Result<(), DiskError>
-        ensures ran { HasDone D.Disk Drops self.old.peer self.new.peer }
+        ensures ran { HasCalled D.Disk Drops self.old.peer self.new.peer }
         ensures stopped { IfErr result (IsStopped D.Disk self.old.peer self.new.peer) }
     {
         // For the proof: so far the loop has only dropped players.
@@ -47,7 +47,7 @@ impl<'g, D: Disk> Session<'g, D> {
 
     /// If this is player 1, cuts the leavers whose drop round is ready.
     fn cut(&mut self) -> Result<(), DiskError>
-        ensures ran { HasDone D.Disk Cuts self.old.peer self.new.peer }
+        ensures ran { HasCalled D.Disk Cuts self.old.peer self.new.peer }
         ensures stopped { IfErr result (IsStopped D.Disk self.old.peer self.new.peer) }
     {
         // For the proof: so far the loop has only cut.
@@ -65,7 +65,7 @@ impl<'g, D: Disk> Session<'g, D> {
 
     /// Records the next part of a checkpoint, if one is under way or due.
     fn save(&mut self) -> Result<(), DiskError>
-        ensures ran { HasDoneOnce D.Disk Saves self.old.peer self.new.peer }
+        ensures ran { HasCalledOnce D.Disk Saves self.old.peer self.new.peer }
         ensures stopped { IfErr result (IsStopped D.Disk self.old.peer self.new.peer) }
     {
         // For the proof: a checkpoint is one call.

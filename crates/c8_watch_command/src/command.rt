@@ -7,7 +7,7 @@ ghost use Rattle.c8_watch_command.specs.Watched.{HasWatched, IsWatched, HasWatch
 use crate::arguments::{WatchAsked, asked_of};
 use crate::stage::Stage;
 use c8_command::Status;
-use c8_front::Terminals;
+use c8_front::{Terminals, Threaded};
 use c8_game::Game;
 use c8_keys::{Played, write_report};
 use c8_net::{Fault, Line, PeerError, game_at, refuse, watch_seal_at};
@@ -20,11 +20,9 @@ use c8_udp::{Addresses, SocketError, SocketFault, refused_address};
 use c8_watch::laws::turns_take_nothing_back;
 use c8_wire::Seat;
 use clap::ArgMatches;
-use std::fs::File;
 use std::io;
 use std::io::Write;
 use std::net::Net;
-use std::rt::Files;
 use std::sync::Wait;
 use std::thread::Threads;
 use std::time::{Clock, SystemTime};
@@ -39,7 +37,7 @@ pub fn watch_given<R, W, E>(
     refused: &mut E,
 ) -> io::Result<Status>
 where
-    R: Files<File = File> + Net + Clock + Threads + Wait + Sync + AllocGlobal,
+    R: Threaded,
     W: Write,
     E: Write,
     ensures { IfOk result (λ status. status ≡ statuses.Done → HasWatchedThen status) }
@@ -64,7 +62,7 @@ pub fn watch<R, W, E>(
     refused: &mut E,
 ) -> io::Result<Status>
 where
-    R: Files<File = File> + Net + Clock + Threads + Wait + Sync + AllocGlobal,
+    R: Threaded,
     W: Write,
     E: Write,
     ensures { IfOk result HasWatchedThen }
@@ -88,7 +86,7 @@ where
 /// game's file, the game, the secret, the addresses, the socket, out of memory.
 fn watched<'a, R, W>(rt: &R, asked: &WatchAsked<'a>, out: &mut W) -> Result<Played, Fault<'a>>
 where
-    R: Files<File = File> + Net + Clock + Threads + Wait + Sync + AllocGlobal,
+    R: Threaded,
     W: Write,
     ensures { IfOk result (λ played. IsWatched (Ok played)) }
 {

@@ -3,7 +3,7 @@
 #![tactic(auto)]
 
 use c8_command::Status;
-use c8_front::{Terminals, Unhurried, line_of, status_at, tell, words_in};
+use c8_front::{Terminals, Threaded, Unhurried, line_of, status_at, tell, words_in};
 use c8_host::{HOST, JOIN, host_given, join_given};
 use c8_net::{PEER, peer_given};
 use c8_play::{PLAY, play_given};
@@ -12,14 +12,8 @@ use c8_secret::{SECRET, secret_given};
 use c8_watch_command::{WATCH, watch_given};
 use clap::ArgMatches;
 use std::env::Args;
-use std::fs::File;
 use std::io::{IsTerminal, Read, Write};
-use std::net::Net;
 use std::process::ExitCode;
-use std::rt::Files;
-use std::sync::Wait;
-use std::thread::Threads;
-use std::time::Clock;
 use std::{env, io};
 
 fn main(rt: HostRuntime) -> ExitCode {
@@ -44,7 +38,7 @@ fn obey<R, I, W: Write, E: Write + Send>(
     refused: &mut E,
 ) -> io::Result<Status>
 where
-    R: Files<File = File> + Net + Clock + Threads + Wait + Sync + AllocGlobal,
+    R: Threaded,
     I: Read + Drop,
 {
     let alloc = rt.alloc();
@@ -68,7 +62,7 @@ fn carry_out<R, I, W: Write, E: Write + Send>(
     refused: &mut E,
 ) -> io::Result<Status>
 where
-    R: Files<File = File> + Net + Clock + Threads + Wait + Sync + AllocGlobal,
+    R: Threaded,
     I: Read + Drop,
 {
     match matches.subcommand() {

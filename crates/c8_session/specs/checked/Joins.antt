@@ -11,7 +11,7 @@ use Rattle.c8_peer.specs.Steps.{DiskOutcome, Works}
 use Rattle.c8_peer.specs.Peer.{PeerValue, IsAnswered, disk_outcome_of}
 use Rattle.c8_peer.specs.Runs.{Deed, Does, IsDone, IsRun}
 use Rattle.c8_session.specs.Runs.{does, HasRunOn, IsStopped}
-use Rattle.c8_session.specs.Turns.{Doing, Drops, Cuts, Saves, doing, HasDone, HasDoneOnce, HasTurned}
+use Rattle.c8_session.specs.Turns.{Doing, Drops, Cuts, Saves, doing, AreAnswered, HasDone, HasCalled, HasCalledOnce, HasTurned}
 
 abbrev pub still : {D : Type 0} (disk : Ghosts D) (p : PeerValue D) → HasRunOn disk p p
 still disk p = record {
@@ -98,6 +98,12 @@ stopped_after disk join first middle last why ran end = record {
 
 -- ---- calls of one kind
 
+pub answered_then : {D : Type 0} (disk : Ghosts D) (one two : List (Call × DiskOutcome)) (old middle new : PeerValue D)
+    → AreAnswered disk one old middle → AreAnswered disk two middle new → AreAnswered disk (one ++ two) old new
+answered_then {D = D} disk [] two old middle new first then = subst (λ (p : PeerValue D). AreAnswered disk two p new) first then
+answered_then disk (call ∷ one) two old middle new first then =
+    (first.0, first.1, first.2, first.3, answered_then disk one two first.0 middle new first.4 then)
+
 module _ {D : Type 0} (disk : Ghosts D) where
   abbrev pub done_still : (what : Doing) (p : PeerValue D) → HasDone disk what p p
   done_still what p = record { ran = still disk p; alike = All-nil (λ (call : Call × DiskOutcome). doing call.0 ≡ what) }
@@ -117,16 +123,33 @@ module _ {D : Type 0} (disk : Ghosts D) where
         (All-nil (λ (c : Call × DiskOutcome). doing c.0 ≡ doing call));
   }
 
-  abbrev pub none_done : (what : Doing) (p : PeerValue D) → HasDoneOnce disk what p p
-  none_done what p = (done_still what p, omega arith)
+  -- ---- the same, each answered
+
+  abbrev pub called_still : (what : Doing) (p : PeerValue D) → HasCalled disk what p p
+  called_still what p = record { done = done_still what p; answered = refl }
+
+  abbrev pub called_joined : RunsJoin → (what : Doing) (first middle last : PeerValue D) → HasCalled disk what first middle
+      → HasCalled disk what middle last → HasCalled disk what first last
+  called_joined join what first middle last one two = record {
+    done = done_joined join what first middle last one.done two.done;
+    answered = answered_then disk one.done.ran.calls two.done.ran.calls first middle last one.answered two.answered;
+  }
+
+  abbrev pub called_once : (old new : PeerValue D) (call : Call) (reply : Reply) → IsAnswered disk old call reply new
+      → IsDone old.rules old.room old.me old.state (Does call (disk_outcome_of reply)) (Some reply) new.state → HasCalled disk (doing call) old new
+  called_once old new call reply is deed =
+      record { done = done_once old new call reply is deed; answered = (new, reply, is, refl, refl) }
+
+  abbrev pub none_called : (what : Doing) (p : PeerValue D) → HasCalledOnce disk what p p
+  none_called what p = (called_still what p, omega arith)
 
   -- ---- turns
 
   abbrev pub turned_still : (p : PeerValue D) → HasTurned disk p p
   turned_still p =
-      record { dropped = p; cut = p; drops = done_still Drops p; cuts = done_still Cuts p; saves = none_done Saves p }
+      record { dropped = p; cut = p; drops = called_still Drops p; cuts = called_still Cuts p; saves = none_called Saves p }
 
   pub turned_ran : RunsJoin → (old new : PeerValue D) → HasTurned disk old new → HasRunOn disk old new
   turned_ran join old new turned =
-      joined disk join old turned.dropped new turned.drops.ran
-      (joined disk join turned.dropped turned.cut new turned.cuts.ran turned.saves.0.ran)
+      joined disk join old turned.dropped new turned.drops.done.ran
+      (joined disk join turned.dropped turned.cut new turned.cuts.done.ran turned.saves.0.done.ran)

@@ -1,6 +1,7 @@
 -- Lines about journals and drops come before those of the verdicts, and only after three yes the result.
 use Rattle.c8_audit_command.proofs.OutcomeLemmas.{judged_by}
-use Rattle.c8_audit_command.proofs.PrintLemmas.{grows_no_more, tells_by}
+use Rattle.c8_keys.specs.checked.Grows.{grows_no_more}
+use Rattle.c8_audit_command.proofs.PrintLemmas.{tells_by}
 use Rattle.c8_audit_command.proofs.report.write_audit.Goals as goal
 
 pub returns-else-is_none : goal.returns-else-is_none

@@ -1,6 +1,7 @@
 -- Counter, registers, timers, stack and condition are added one after another to what was written.
 use Rattle.std.proofs.Common.{codes}
-use Rattle.c8_keys.proofs.ReportLemmas.{known, grows_two, grows_then, grows_more}
+use Rattle.c8_keys.specs.checked.Grows.{grows_then}
+use Rattle.c8_keys.proofs.ReportLemmas.{known, grows_two, grows_more}
 use Rattle.c8_keys.proofs.report.write_parts.Goals as goal
 
 pub returns : goal.returns

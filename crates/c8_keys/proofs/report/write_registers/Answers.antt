@@ -1,6 +1,7 @@
 -- A word, each register in hexadecimal, and a line feed only add text: the line of the registers.
 use Rattle.std.proofs.Common.{codes}
-use Rattle.c8_keys.proofs.ReportLemmas.{grows_by, grows_hex, grows_then, grows_last}
+use Rattle.c8_keys.specs.checked.Grows.{grows_by, grows_then, grows_last}
+use Rattle.c8_keys.proofs.ReportLemmas.{grows_hex}
 use Rattle.c8_keys.proofs.report.write_registers.Goals as goal
 
 pub loop-value-preserved : goal.loop-value-preserved

@@ -1,6 +1,7 @@
 -- A word, each return address in hexadecimal, and a line feed only add text: the line of the stack.
 use Rattle.std.proofs.Common.{codes}
-use Rattle.c8_keys.proofs.ReportLemmas.{grows_by, grows_hex, grows_then, grows_last}
+use Rattle.c8_keys.specs.checked.Grows.{grows_by, grows_then, grows_last}
+use Rattle.c8_keys.proofs.ReportLemmas.{grows_hex}
 use Rattle.c8_keys.proofs.report.write_stack.Goals as goal
 
 pub loop-place-preserved : goal.loop-place-preserved

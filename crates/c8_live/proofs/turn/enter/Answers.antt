@@ -6,7 +6,7 @@ use Rattle.c8_refusals.specs.declared.error.TickError.TheVariants as ticks
 use Rattle.c8_peer.specs.Peer.{IsAnswered, disk_outcome_of}
 use Rattle.c8_peer.specs.State.{Tick, Ticked}
 use Rattle.c8_session.specs.Turns.{Ticks}
-use Rattle.c8_session.specs.checked.Joins.{none_done}
+use Rattle.c8_session.specs.checked.Joins.{none_called}
 use Rattle.c8_live.specs.Entered.{entered_of, entered_by, HasEntered}
 use Rattle.c8_live.proofs.turn.enter.Goals as goal
 
@@ -16,7 +16,7 @@ not_entered (Some keys) = refl
 not_entered None = refl
 
 pub returns-in_default-clause-ran : goal.returns-in_default-clause-ran
-returns-in_default-clause-ran g c = none_done g.D.Disk Ticks c.args.session.now.peer
+returns-in_default-clause-ran g c = none_called g.D.Disk Ticks c.args.session.now.peer
 
 pub returns-in-Err-Disk-clause-end : goal.returns-in-Err-Disk-clause-end
 returns-in-Err-Disk-clause-end g c =

@@ -2,7 +2,7 @@
 use Rattle.std.proofs.Common.{refl, [], sym, ◌∙◌}
 use Rattle.std.proofs.lemmas.Result.{err_from_is_err_and}
 use Rattle.c8_session.specs.Turns.{Hears, Ticks, Drops, Cuts, Saves}
-use Rattle.c8_session.specs.checked.Joins.{none_done, turned_still}
+use Rattle.c8_session.specs.checked.Joins.{none_called, turned_still}
 use Rattle.c8_live.specs.Entered.{entered_of}
 use Rattle.c8_live.specs.declared.error.SessionError.TheVariants.{Disk}
 use Rattle.c8_live.proofs.TurnLemmas.{spoken_still, turn_of}
@@ -14,7 +14,7 @@ returns-in_err-hear-clause-turn g c =
     let heard = c.hear.new.session.peer in
     rw from (
     turn_of g.D.Disk g.W.Wire c.forget_rollbacks.new.self.peer heard heard heard c.args.wire.now c.hear.new.wire c.hear.new.wire
-    c.in_err-hear.ensures.heard (none_done g.D.Disk Ticks heard) (turned_still g.D.Disk heard)
+    c.in_err-hear.ensures.heard (none_called g.D.Disk Ticks heard) (turned_still g.D.Disk heard)
     (spoken_still g.D.Disk g.W.Wire heard c.hear.new.wire c.hear.new.wire refl refl))
 
 pub returns-in_err-hear-clause-ran : goal.returns-in_err-hear-clause-ran
@@ -63,7 +63,7 @@ returns-in_err-turn-clause-end g c =
     rw (error.1, error.2, from)
     (c.sessions_end.ensures c.forget_rollbacks.new.self.peer c.enter.new.session.peer c.turn.new.self.peer (Disk c.in_err-turn.field-0.0)
     (c.peers_run_on.ensures.joined c.forget_rollbacks.new.self.peer c.hear.new.session.peer c.enter.new.session.peer
-    c.in_ok-hear.ensures.heard.heard.0.ran c.in_ok-is_taken.ensures.ran.0.ran) c.in_err-turn.ensures.stopped)
+    c.in_ok-hear.ensures.heard.heard.0.ran c.in_ok-is_taken.ensures.ran.0.done.ran) c.in_err-turn.ensures.stopped)
 
 pub returns-in_err-speak-clause-turn : goal.returns-in_err-speak-clause-turn
 returns-in_err-speak-clause-turn g c =
@@ -118,6 +118,6 @@ returns-clause-entered g c =
     (none Hears c.forget_rollbacks.new.self.peer c.hear.new.session.peer (λ e. cc e) c.in_ok-hear.ensures.heard.heard.0)
     c.in_ok-is_taken.ensures.entered
     (joined c.enter.new.session.peer turned.dropped c.turn.new.self.peer
-    (none Drops c.enter.new.session.peer turned.dropped (λ e. cc e) turned.drops)
-    (joined turned.dropped turned.cut c.turn.new.self.peer (none Cuts turned.dropped turned.cut (λ e. cc e) turned.cuts)
-    (none Saves turned.cut c.turn.new.self.peer (λ e. cc e) turned.saves.0))))
+    (none Drops c.enter.new.session.peer turned.dropped (λ e. cc e) turned.drops.done)
+    (joined turned.dropped turned.cut c.turn.new.self.peer (none Cuts turned.dropped turned.cut (λ e. cc e) turned.cuts.done)
+    (none Saves turned.cut c.turn.new.self.peer (λ e. cc e) turned.saves.0.done))))

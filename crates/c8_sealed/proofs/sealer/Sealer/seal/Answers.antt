@@ -1,6 +1,7 @@
 -- A datagram that is short enough and has a key gets the next counter, which is then used up.
-use Rattle.std.proofs.Common.{subst, arith}
-use Rattle.c8_sealed.specs.Sealer.{SealerValue, HasSealed}
+use Rattle.std.proofs.Common.{refl, subst, arith}
+use Rattle.c8_sealed.specs.declared.error.Unsealable.TheVariants.{Spent}
+use Rattle.c8_sealed.specs.Sealer.{SealerValue, HasSealed, IsUnsealed}
 use Rattle.c8_sealed.specs.contracts.sealer.Sealer.{the_view}
 use Rattle.c8_sealed.proofs.SealerLemmas.{has_used}
 use Rattle.c8_sealed.proofs.sealer.Sealer.seal.Goals as goal
@@ -29,3 +30,11 @@ returns-clause-sealed c =
       used = has_used (the_view c.self.inside) c.rest-self-inside.result.next c.rest-self-inside.result.left c.rest-self-inside.ensures.next
           c.rest-self-inside.ensures.left;
     })
+
+pub returns-then-self-eq0-clause-refused : goal.returns-then-self-eq0-clause-refused
+returns-then-self-eq0-clause-refused c =
+    let few = c.if-datagram-gt-LONGEST_OPEN.false in
+    let none = c.if-self-eq0.true in
+    let is = subst (λ (old : SealerValue). IsUnsealed old c.args.datagram.now Spent) c.self.view_is
+    (omega (arith, few), (c.in-Some.key.now, c.in-Some.ensures), omega (arith, none)) in
+    (is, refl, refl)

@@ -1,8 +1,8 @@
 -- So far the loop has only cut.
-use Rattle.c8_session.specs.Turns.{Cuts, HasDone}
+use Rattle.c8_session.specs.Turns.{Cuts, HasCalled}
 use Rattle.c8_session.proofs.session.Session.cut.Given as goal
 
 abbrev pub invariant-loop-number : goal.invariant-loop-number
 invariant-loop-number g l = record {
-  ran : HasDone g.D.Disk Cuts l.initial.self.peer l.self.peer;
+  ran : HasCalled g.D.Disk Cuts l.initial.self.peer l.self.peer;
 }

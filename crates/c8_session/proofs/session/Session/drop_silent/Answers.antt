@@ -43,7 +43,7 @@ pub returns-in-loop-number-clause-stopped : goal.returns-in-loop-number-clause-s
 returns-in-loop-number-clause-stopped g c =
     let is : c.leave.result ≡ Err (leaves.Disk c.in-Err-Disk.error) = search in
     c.peers_run_on.ensures.stopped c.args.self.now.peer c.loop-number.self.peer c.leave.new.self.peer c.in-Err-Disk.error
-    c.loop-number.invariant.ran.ran (record {
+    c.loop-number.invariant.ran.done.ran (record {
       before = c.loop-number.self.peer;
       ran = c.peers_run_on.ensures.still c.loop-number.self.peer;
       call = Leave c.in-Some.player.number;

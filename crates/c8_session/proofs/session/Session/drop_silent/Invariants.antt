@@ -1,8 +1,8 @@
 -- So far the loop has only dropped players.
-use Rattle.c8_session.specs.Turns.{Drops, HasDone}
+use Rattle.c8_session.specs.Turns.{Drops, HasCalled}
 use Rattle.c8_session.proofs.session.Session.drop_silent.Given as goal
 
 abbrev pub invariant-loop-number : goal.invariant-loop-number
 invariant-loop-number g l = record {
-  ran : HasDone g.D.Disk Drops l.initial.self.peer l.self.peer;
+  ran : HasCalled g.D.Disk Drops l.initial.self.peer l.self.peer;
 }

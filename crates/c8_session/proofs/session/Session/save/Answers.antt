@@ -6,11 +6,11 @@ use Rattle.c8_refusals.specs.declared.error.CheckError.TheVariants as checks
 use Rattle.c8_peer.specs.Peer.{disk_outcome_of}
 use Rattle.c8_peer.specs.State.{Checkpoint, Checked}
 use Rattle.c8_session.specs.Turns.{Saves}
-use Rattle.c8_session.specs.checked.Joins.{none_done}
+use Rattle.c8_session.specs.checked.Joins.{none_called}
 use Rattle.c8_session.proofs.session.Session.save.Goals as goal
 
 pub returns-then-not-saves-clause-ran : goal.returns-then-not-saves-clause-ran
-returns-then-not-saves-clause-ran g c = none_done g.D.Disk Saves c.args.self.now.peer
+returns-then-not-saves-clause-ran g c = none_called g.D.Disk Saves c.args.self.now.peer
 
 pub returns-in-Err-Disk-clause-stopped : goal.returns-in-Err-Disk-clause-stopped
 returns-in-Err-Disk-clause-stopped g c =

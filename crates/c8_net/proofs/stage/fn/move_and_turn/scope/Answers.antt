@@ -2,4 +2,4 @@
 use Rattle.c8_net.proofs.stage.fn.move_and_turn.scope.Goals as goal
 
 pub returns : goal.returns
-returns g c = c.after.ensures c.captures.session.peer c.make_turns-ended.ensures
+returns g c = c.after.ensures c.captures.turner.session.peer c.make_turns-ended.ensures
