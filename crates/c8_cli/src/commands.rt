@@ -7,17 +7,12 @@ use c8_front::{
     Argument, Form, Outline, RUN, SHOW, Terminals, Threaded, is_explained, status_at, tell,
     with_commands, word_of, words_in,
 };
-use c8_host::{HOST, JOIN, host_given, join_given};
 use c8_keys::run_files;
-use c8_net::{PEER, peer_given};
-use c8_play::{PLAY, play_given};
-use c8_program::{GAME, game_given};
+use c8_match::{match_commands, match_given};
 use c8_replay::{REPLAY, replay_given};
 use c8_script::sim_files;
-use c8_secret::{SECRET, secret_given};
 use c8_show::show;
 use c8_threads::{RIG, rig_given};
-use c8_watch_command::{WATCH, watch_given};
 use clap::{ArgMatches, Command};
 use std::alloc::{AllocError, Global};
 use std::env::Args;
@@ -75,9 +70,9 @@ fn command<'a>(alloc: Global) -> Result<Command<'a>, AllocError> {
         .after_help(ENDING)
         .subcommand_required(true)
         .arg_required_else_help(true);
+    let [peer, play, host, join, watch, secret, game] = match_commands();
     let commands = [
-        &RUN, &PEER, &PLAY, &HOST, &JOIN, &WATCH, &REPLAY, &AUDIT, &SIM, &RIG, &SHOW, &SECRET,
-        &GAME,
+        &RUN, peer, play, host, join, watch, &REPLAY, &AUDIT, &SIM, &RIG, &SHOW, secret, game,
     ];
     with_commands(alloc, line, &commands)
 }
@@ -121,14 +116,12 @@ where
     R: Threaded,
     I: Read + Drop,
 {
-    match matches.subcommand() {
-        Some(("peer", given)) => peer_given(rt, given, input, terminals, out, refused),
-        Some(("play", given)) => play_given(rt, given, out, refused),
-        Some(("host", given)) => host_given(rt, given, out, refused),
-        Some(("join", given)) => join_given(rt, given, input, terminals, out, refused),
-        Some(("watch", given)) => watch_given(rt, given, terminals, out, refused),
-        Some((name, given)) => carry_out_alone(rt, name, given, out, refused),
-        None => Ok(Status::CommandLine),
+    let Some((name, given)) = matches.subcommand() else {
+        return Ok(Status::CommandLine);
+    };
+    match match_given(rt, name, given, input, terminals, out, refused)? {
+        Some(status) => Ok(status),
+        None => carry_out_alone(rt, name, given, out, refused),
     }
 }
 
@@ -156,8 +149,6 @@ where
             let word = word_of(given, "HEX");
             show(rt.alloc(), word, is_explained(given), out, refused)
         }
-        "secret" => secret_given(rt, out, refused),
-        "game" => game_given(rt, given, out, refused),
         _ => Ok(Status::CommandLine),
     }
 }

@@ -4,13 +4,7 @@
 
 use c8_command::Status;
 use c8_front::{Terminals, Threaded, Unhurried, line_of, status_at, tell, words_in};
-use c8_host::{HOST, JOIN, host_given, join_given};
-use c8_net::{PEER, peer_given};
-use c8_play::{PLAY, play_given};
-use c8_program::{GAME, game_given};
-use c8_secret::{SECRET, secret_given};
-use c8_watch_command::{WATCH, watch_given};
-use clap::ArgMatches;
+use c8_match::{match_commands, match_given};
 use std::env::Args;
 use std::io::{IsTerminal, Read, Write};
 use std::process::ExitCode;
@@ -45,34 +39,15 @@ where
     let Some(words) = words_in(alloc, args, refused)? else {
         return Ok(Status::CommandLine);
     };
-    let commands = [&PEER, &PLAY, &HOST, &JOIN, &WATCH, &SECRET, &GAME];
-    match line_of(alloc, &commands)?.try_get_matches_from(words.as_slice()) {
-        Ok(matches) => carry_out(rt, &matches, input, out, terminals, refused),
+    let command = line_of(alloc, &match_commands())?;
+    match command.try_get_matches_from(words.as_slice()) {
+        Ok(matches) => match matches.subcommand() {
+            Some((name, given)) => {
+                let ended = match_given(rt, name, given, input, terminals, out, refused)?;
+                Ok(ended.unwrap_or(Status::CommandLine))
+            }
+            None => Ok(Status::CommandLine),
+        },
         Err(error) => tell(alloc, &error, out, refused),
-    }
-}
-
-/// Does what a command line without a mistake asks for.
-fn carry_out<R, I, W: Write, E: Write + Send>(
-    rt: &R,
-    matches: &ArgMatches,
-    input: I,
-    out: &mut W,
-    terminals: Terminals,
-    refused: &mut E,
-) -> io::Result<Status>
-where
-    R: Threaded,
-    I: Read + Drop,
-{
-    match matches.subcommand() {
-        Some(("peer", given)) => peer_given(rt, given, input, terminals, out, refused),
-        Some(("play", given)) => play_given(rt, given, out, refused),
-        Some(("host", given)) => host_given(rt, given, out, refused),
-        Some(("join", given)) => join_given(rt, given, input, terminals, out, refused),
-        Some(("watch", given)) => watch_given(rt, given, terminals, out, refused),
-        Some(("secret", _)) => secret_given(rt, out, refused),
-        Some(("game", given)) => game_given(rt, given, out, refused),
-        _ => Ok(Status::CommandLine),
     }
 }

@@ -1,0 +1,48 @@
+//! The commands of a match: `peer`, `play`, `host`, `join`, `watch`, `secret` and `game`. The programs c8peer and c8play are
+//! made from this table.
+#![tactic(auto)]
+
+use c8_command::Status;
+use c8_front::{Outline, Terminals, Threaded};
+use c8_host::{HOST, JOIN, host_given, join_given};
+use c8_net::{PEER, peer_given};
+use c8_play::{PLAY, play_given};
+use c8_program::{GAME, game_given};
+use c8_secret::{SECRET, secret_given};
+use c8_watch_command::{WATCH, watch_given};
+use clap::ArgMatches;
+use std::io;
+use std::io::{Read, Write};
+
+/// Returns what each command takes, in the order of the help.
+pub fn match_commands() -> [&'static Outline; 7] {
+    [&PEER, &PLAY, &HOST, &JOIN, &WATCH, &SECRET, &GAME]
+}
+
+/// Runs the command with this name; `None` if it is none of these commands. `input` is standard input. Output goes to `out`,
+/// and refusals to `refused`. The error is a writer's, or that memory ran out.
+pub fn match_given<R, I, W: Write, E: Write + Send>(
+    rt: &R,
+    name: &str,
+    given: &ArgMatches<'_>,
+    input: I,
+    terminals: Terminals,
+    out: &mut W,
+    refused: &mut E,
+) -> io::Result<Option<Status>>
+where
+    R: Threaded,
+    I: Read + Drop,
+{
+    let ended = match name {
+        "peer" => peer_given(rt, given, input, terminals, out, refused),
+        "play" => play_given(rt, given, out, refused),
+        "host" => host_given(rt, given, out, refused),
+        "join" => join_given(rt, given, input, terminals, out, refused),
+        "watch" => watch_given(rt, given, terminals, out, refused),
+        "secret" => secret_given(rt, out, refused),
+        "game" => game_given(rt, given, out, refused),
+        _ => return Ok(None),
+    };
+    Ok(Some(ended?))
+}
