@@ -8,9 +8,9 @@ use Rattle.std.proofs.lemmas.List.{map-append, take-map}
 use Rattle.std.proofs.lemmas.List.FromFn.{get_or-map-range_with_len}
 use Rattle.std.proofs.lemmas.Option.{slice_get-map, slice_get-get_or, slice_get_within}
 use Rattle.c8_game.specs.Rules.{Rules, AreInRange, id_of}
-use Rattle.c8_image.specs.Journal.{IsAsked, IsRefusalOfJournal}
-use Rattle.c8_image.specs.declared.error.JournalError.{JournalError}
-use Rattle.c8_image.specs.declared.error.JournalError.TheVariants as errors
+use Rattle.c8_audit.specs.Journal.{IsAsked, IsRefusalOfJournal}
+use Rattle.c8_audit.specs.declared.error.JournalError.{JournalError}
+use Rattle.c8_audit.specs.declared.error.JournalError.TheVariants as errors
 use Rattle.c8_known.specs.Growth.{Begins}
 use Rattle.c8_known.specs.Journal.{Record, Head, Epoch, Own, Got, Freeze, Leave, Cut, State, Check, player_of}
 use Rattle.c8_known.specs.Known.{KnownValue, known_of}

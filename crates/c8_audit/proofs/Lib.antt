@@ -19,3 +19,9 @@ pub mod RosterLemmas
 pub mod SortedLemmas
 pub mod StoryLemmas
 pub mod HonestFileLemmas
+-- What is read of a file is all its bytes, and the journal in them is that of the player and room in its HEAD.
+pub mod JournalLemmas
+pub mod ImageLemmas
+-- The status of `audit` is that of its outcome, and it is done only after three lines of yes; begin at `OutcomeLemmas`.
+pub mod OutcomeLemmas
+pub mod PrintLemmas

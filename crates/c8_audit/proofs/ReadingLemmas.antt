@@ -9,10 +9,10 @@ use Rattle.c8_known.specs.Journal.{Head, player_of}
 use Rattle.c8_record.specs.Body.{record_of, records_of}
 use Rattle.c8_record.specs.Replay.{BeginsWithHead}
 use Rattle.c8_record.specs.checked.BodyLaws.{reads_back}
-use Rattle.c8_check.specs.Checks.{ChecksValue}
+use Rattle.c8_record.specs.Checks.{ChecksValue}
 use Rattle.c8_known.specs.Known.{KnownValue, known_of, IsKnown, IsOfGame}
 use Rattle.c8_record.specs.Allowed.{IsJournal}
-use Rattle.c8_image.specs.Journal.{IsKept}
+use Rattle.c8_audit.specs.Journal.{IsKept}
 use Rattle.c8_log.specs.Slots.{kept}
 use Rattle.c8_audit.specs.Images.{names_player, readings_of, IsReadTwice, IsUnread, IsUnreadLater}
 use Rattle.c8_audit.specs.Read.{later_of, IsLater}

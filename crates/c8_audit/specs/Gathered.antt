@@ -11,7 +11,7 @@ use Rattle.c8_audit.specs.declared.error.GatherError.TheVariants.{File, Journals
 use Rattle.c8_audit.specs.declared.files.Twice.{Twice}
 use Rattle.c8_audit.specs.declared.error.Unread.TheVariants as unread
 use Rattle.c8_audit.specs.declared.journal.Journal.{Journal}
-use Rattle.c8_image.specs.declared.error.JournalError.TheVariants as errors
+use Rattle.c8_audit.specs.declared.error.JournalError.TheVariants as errors
 
 -- the readings with one more file
 abbrev pub with_file : Evidence → List ℕ → List ℕ → Evidence

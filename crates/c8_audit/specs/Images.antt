@@ -8,7 +8,7 @@ use Rattle.c8_log.specs.Slots.{kept}
 use Rattle.c8_record.specs.Allowed.{IsJournal}
 use Rattle.c8_record.specs.Body.{records_of}
 use Rattle.c8_record.specs.Replay.{BeginsWithHead}
-use Rattle.c8_image.specs.Journal.{IsRefusalOfJournal}
+use Rattle.c8_audit.specs.Journal.{IsRefusalOfJournal}
 use Rattle.c8_audit.specs.Journals.{Readings, Evidence}
 use Rattle.c8_audit.specs.declared.files.Twice.{Twice}
 use Rattle.c8_audit.specs.declared.error.Unread.{Unread}

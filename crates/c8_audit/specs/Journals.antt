@@ -4,7 +4,7 @@ use Rattle.c8_game.specs.Rules.{Rules}
 use Rattle.c8_digest.specs.Origin.{Origin}
 use Rattle.c8_known.specs.Journal.{Record}
 use Rattle.c8_known.specs.Known.{KnownValue, player_in, known_of, IsOfGame}
-use Rattle.c8_check.specs.Checks.{checks_of}
+use Rattle.c8_record.specs.Checks.{checks_of}
 
 -- two readings of a player's journal
 pub record Readings : Type 0 where

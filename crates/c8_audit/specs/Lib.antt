@@ -10,4 +10,8 @@ pub mod Images
 pub mod Gathered
 pub mod OneMatch
 pub mod Judged
+pub mod Errors
+pub mod Journal
+pub mod Audit
+pub mod Printed
 pub mod checked

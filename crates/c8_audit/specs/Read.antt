@@ -1,9 +1,9 @@
 -- What journals that were read make known.
 use Rattle.std.specs.Prelude.{ℕ, ◌≡◌, ◌-◌, List, Option, Some, None}
 use Rattle.std.specs.List.{slice_get}
-use Rattle.c8_check.specs.Seen.{value_of}
+use Rattle.c8_record.specs.Seen.{value_of}
 use Rattle.c8_game.specs.Rules.{Rules}
-use Rattle.c8_image.specs.Journal.{IsJournalOf}
+use Rattle.c8_audit.specs.Journal.{IsJournalOf}
 use Rattle.c8_known.specs.Growth.{Begins}
 use Rattle.c8_known.specs.Known.{KnownValue}
 use Rattle.c8_log.specs.Slots.{kept}

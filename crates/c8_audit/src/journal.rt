@@ -4,9 +4,9 @@ ghost use Rattle.std.specs.Prelude.{◌≡◌, option_map};
 ghost use Rattle.c8_audit.specs.Read.{later_of, seen, all_seen, all_named};
 
 use crate::tallies::Tally;
-use c8_check::Checks;
 use c8_game::Player;
 use c8_known::Known;
+use c8_record::Checks;
 
 /// A file that keeps a journal, and what the journal's HEAD names.
 #[derive(Clone, Copy, Debug, PartialEq, Eq)]

@@ -12,12 +12,12 @@ ghost use Rattle.c8_audit.specs.Read.{seen, IsLater};
 use crate::error::Unread;
 use crate::files::Twice;
 use crate::journal::{Journal, Named};
+use crate::kept::{KeptJournal, journal_in, known_in};
 use crate::tallies::{Tally, tally_of};
-use c8_check::Checks;
 use c8_game::Game;
-use c8_image::{KeptJournal, journal_in, known_in};
 use c8_known::Known;
 use c8_log::{BODY_LENGTH, kept_body, kept_len};
+use c8_record::Checks;
 use std::alloc::Global;
 
 /// Reads a journal from two readings of the file with a number. Errors are checked in this order: the first reading is

@@ -10,12 +10,12 @@ use Rattle.c8_peer.specs.declared.heard.Heard.{Heard}
 use Rattle.c8_peer.specs.declared.kind.Kind.{Kind}
 use Rattle.c8_refusals.specs.declared.error.Refused.{Refused}
 use Rattle.c8_refusals.specs.declared.error.Unsayable.{Unsayable}
-use Rattle.c8_sealed.specs.Counters.{IsNewest}
-use Rattle.c8_sealed.specs.Given.{GivenValue, counters_of}
-use Rattle.c8_sealed.specs.Opened.{AreKeysOf}
-use Rattle.c8_sealed.specs.Sealer.{SealerValue, HasSealed, IsTaking}
-use Rattle.c8_sealed.specs.declared.error.NotTaken.{NotTaken}
-use Rattle.c8_sealed.specs.declared.keys.Secrets.{Secrets}
+use Rattle.c8_transport.specs.Counters.{IsNewest}
+use Rattle.c8_transport.specs.Given.{GivenValue, counters_of}
+use Rattle.c8_transport.specs.Opened.{AreKeysOf}
+use Rattle.c8_transport.specs.Sealer.{SealerValue, HasSealed, IsTaking}
+use Rattle.c8_transport.specs.declared.error.NotTaken.{NotTaken}
+use Rattle.c8_transport.specs.declared.keys.Secrets.{Secrets}
 use Rattle.c8_session.specs.Turns.{IsSayingTo}
 use Rattle.c8_embed.specs.Engine.{EngineValue}
 use Rattle.c8_embed.specs.Journal.{disk}

@@ -7,9 +7,8 @@ use crate::medium::Medium;
 use c8_disk::FileDisk;
 use c8_game::Player;
 use c8_peer::{Heard, Kind, Refused, Unsayable};
-use c8_seal::LONGEST_SEALED;
-use c8_sealed::{Counters, NotTaken, Seal, SealKeys, Sealer, Secrets, Taken};
 use c8_session::MOST_DATAGRAMS;
+use c8_transport::{Counters, LONGEST_SEALED, NotTaken, Seal, SealKeys, Sealer, Secrets, Taken};
 use c8_wire::{LONGEST_DATAGRAM, Seat};
 
 /// An engine over a journal in memory or in a file. The memory of its game is never freed.

@@ -25,7 +25,7 @@ use Rattle.std.specs.contracts.impls.GlobalAllocator.TheImpl.{ghosts, dict}
 use Rattle.std.proofs.alloc.Global.TheLaws as heap
 use Rattle.c8_embed.proofs.endpoint.Endpoint.TheLaws as endpoint
 use Rattle.c8_engine.specs.Held.{session_row}
-use Rattle.c8_parts.specs.contracts.Parts as Parts
+use Rattle.c8_engine.specs.contracts.parts.Parts as Parts
 use Rattle.c8_engine.specs.contracts.handle.Handle as Handle
 
 abbrev pub session_laws : Laws session_row

@@ -24,7 +24,7 @@ use Rattle.c8_session.specs.Runs.{IsStopped}
 use Rattle.c8_session.specs.Turns.{HasTurned}
 use Rattle.c8_embed.specs.Endpoint.{EngineOf, HasCalled, HasSealing, HasDelivered, HasSent, HasNext, IsAsBefore}
 use Rattle.c8_embed.specs.declared.endpoint.Undelivered.{Undelivered}
-use Rattle.c8_sealed.specs.declared.keys.Secrets.{Secrets}
+use Rattle.c8_transport.specs.declared.keys.Secrets.{Secrets}
 use Rattle.c8_embed.specs.Journal.{disk}
 use Rattle.c8_engine.specs.Codes.{delivered_code, bad_secret_code, sealed_already_code, tick_code, leave_code, decide_code, check_code}
 use Rattle.c8_engine.specs.Codes.{turn_code, say_code}

@@ -14,8 +14,8 @@ use Rattle.c8_peer.specs.declared.check.Check.{Check}
 use Rattle.c8_peer.specs.declared.check.Check.TheVariants.{Piece, Done}
 use Rattle.c8_peer.specs.declared.heard.Heard.{Heard}
 use Rattle.c8_peer.specs.declared.heard.Heard.TheVariants.{Nothing, Kept, Out}
-use Rattle.c8_sealed.specs.declared.error.NotTaken.{NotTaken}
-use Rattle.c8_sealed.specs.declared.error.NotTaken.TheVariants.{NotSealed, SeenBefore}
+use Rattle.c8_transport.specs.declared.error.NotTaken.{NotTaken}
+use Rattle.c8_transport.specs.declared.error.NotTaken.TheVariants.{NotSealed, SeenBefore}
 use Rattle.c8_embed.specs.declared.endpoint.Undelivered.{Undelivered}
 use Rattle.c8_embed.specs.declared.endpoint.Undelivered.TheVariants as undelivered
 use Rattle.c8_refusals.specs.Errors as refusing

@@ -8,7 +8,7 @@ use c8_game::GameError;
 use c8_peer::{
     Check, CheckError, DecideError, Heard, LeaveError, OpenError, Refused, TickError, Unsayable,
 };
-use c8_sealed::NotTaken;
+use c8_transport::NotTaken;
 
 /// What every call but an opening and a close answers at a closed handle.
 pub(crate) fn closed_code() -> u32

@@ -6,7 +6,7 @@ use c8_game::GameError;
 use c8_hand::HandError;
 use c8_known::KnownError;
 use c8_peer::{CheckError, DecideError, LeaveError, OpenError, Refused, TickError, Unsayable};
-use c8_sealed::NotTaken;
+use c8_transport::NotTaken;
 use c8_wire::WireError;
 use std::fmt;
 use std::fmt::Write;

@@ -4,8 +4,8 @@ ghost use Rattle.std.specs.Borrow.{sem};
 ghost use Rattle.c8_embed.specs.declared.endpoint.Endpoint.{Endpoint};
 ghost use Rattle.c8_engine.specs.Held.{held_owns, session_coded};
 
+use crate::parts::Parts;
 use c8_embed::Endpoint;
-use c8_parts::Parts;
 use std::alloc::Global;
 use std::marker::Model;
 use std::ptr;

@@ -10,6 +10,7 @@ mod codes;
 mod explaining;
 mod handle;
 mod opening;
+mod parts;
 mod reading;
 mod rules;
 mod saying;

@@ -6,7 +6,7 @@ ghost use Rattle.c8_engine.specs.Calls.{IfSession, AreSecrets, HasSecrets, Tells
 use crate::codes::{bad_secret_code, closed_code, sealed_already_code};
 use crate::handle::Handle;
 use c8_embed::Endpoint;
-use c8_sealed::{Secret, Secrets};
+use c8_transport::{Secret, Secrets};
 
 /// From now on the session sends and takes sealed packets, with the secret of the players and, if there are any bytes, that of
 /// the watchers. A session takes a secret once, after its opening and before its first packet.

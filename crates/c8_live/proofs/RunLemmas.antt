@@ -19,8 +19,8 @@ use Rattle.c8_known.specs.Journal.{Record}
 use Rattle.c8_known.specs.Known.{known_of}
 use Rattle.c8_known.specs.Confirmed.{confirmed_rows}
 use Rattle.c8_known.specs.Growth.{Begins as BeginsKnown}
-use Rattle.c8_check.specs.Checks.{begun_at}
-use Rattle.c8_board.specs.Tokens.{Begins}
+use Rattle.c8_record.specs.Checks.{begun_at}
+use Rattle.c8_live.specs.Tokens.{Begins}
 use Rattle.c8_live.specs.declared.error.SessionError.{SessionError}
 use Rattle.c8_live.specs.declared.error.SessionError.TheVariants.{Disk, Wire}
 use Rattle.c8_live.specs.Ends.{IsEnd}

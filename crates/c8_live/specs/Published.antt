@@ -2,8 +2,8 @@
 -- serial run (`true_checks_show_the_serial_run` of `src/laws.rt`).
 use Rattle.std.specs.Prelude.{◌≡◌}
 use Rattle.atomic_table.specs.Seated.{TableId}
-use Rattle.c8_board.specs.Starts.{start_of, origin_from}
-use Rattle.c8_board.specs.Tokens.{PenValue, ViewerValue, Begins, new_viewer}
+use Rattle.c8_live.specs.Starts.{start_of, origin_from}
+use Rattle.c8_live.specs.Tokens.{PenValue, ViewerValue, Begins, new_viewer}
 use Rattle.c8_known.specs.Confirmed.{confirmed_rows}
 use Rattle.c8_peer.specs.Peer.{PeerValue, known_by, begun_by}
 

@@ -1,4 +1,4 @@
-//! The errors that end a session before its game ends.
+//! The errors that end a session before its game ends, and why bytes are no packet.
 
 ghost use Rattle.std.specs.Prelude.{◌≡◌};
 ghost use Rattle.c8_live.specs.declared.error.SessionError.TheVariants.{Disk, Wire};
@@ -33,3 +33,8 @@ impl From<WireFailed> for SessionError {
         SessionError::Wire(error)
     }
 }
+
+/// The bytes are more than a packet may have.
+#[derive(Clone, Copy, Debug, PartialEq, Eq, Error)]
+#[error("a packet has at most 175 bytes")]
+pub struct TooLong;

@@ -1,8 +1,8 @@
 //! The machine's thread: it owns the peer, and never waits for the network.
 ghost use Rattle.std.specs.Prelude.{◌≡◌, ◌≤◌, ℕ, List, length, vec_len, IfOk, IfErr};
 ghost use Rattle.std.specs.List.{All};
-ghost use Rattle.c8_board.specs.Starts.{RunValue, start_of, origin_from};
-ghost use Rattle.c8_board.specs.Tokens.{Begins, new_viewer};
+ghost use Rattle.c8_live.specs.Starts.{RunValue, start_of, origin_from};
+ghost use Rattle.c8_live.specs.Tokens.{Begins, new_viewer};
 ghost use Rattle.c8_game.specs.Rules.{most_frames};
 ghost use Rattle.c8_game.specs.declared.row.Row.{Row};
 ghost use Rattle.c8_known.specs.Confirmed.{confirmed_rows};
@@ -14,12 +14,14 @@ ghost use Rattle.c8_live.specs.Ends.{IsEnd};
 ghost use Rattle.c8_live.specs.Turns.{IsTurn, AreTurns};
 ghost use Rattle.c8_session.specs.Runs.{HasRunOn};
 
+use crate::board::{Board, Pen, Viewer};
 use crate::counters::Counters;
 use crate::error::SessionError;
-use crate::laws::{confirmed_rows_grow, machines_begin_where_they_did, sessions_end, turns_join};
+use crate::laws::{
+    confirmed_rows_grow, machines_begin_where_they_did, sessions_end, starts_tell_origins,
+    turns_join,
+};
 use crate::turn::make_turn;
-use c8_board::laws::starts_tell_origins;
-use c8_board::{Board, Pen, Viewer};
 use c8_disk::Disk;
 use c8_game::{Game, Keys};
 use c8_machine::Machine;

@@ -1,15 +1,16 @@
-//! Facts for callers that belong to no single call.
+//! Facts for callers that belong to no single call. Each is the contract of a function that does nothing.
+
 ghost use Rattle.std.specs.Prelude.{◌≡◌, ◌≢◌, ℕ, ◌+◌, List, [], ◌∷◌, ◌++◌, length, Some, Ok};
 ghost use Rattle.c8_peer.specs.Lawful.{IsCall};
 ghost use Rattle.c8_peer.specs.Peer.{PeerValue, IsAnswered, IsSaid, IsSound, known_by, begun_by};
-ghost use Rattle.c8_game.specs.Rules.{Rules};
+ghost use Rattle.c8_game.specs.Rules.{Rules, AreInRange};
 ghost use Rattle.c8_game.specs.declared.row.Keys.{Keys};
 ghost use Rattle.c8_record.specs.Body.{records_of};
 ghost use Rattle.c8_peer.specs.Opened.{bodies_found, IsOpened};
 ghost use Rattle.c8_peer.specs.Runs.{TellsTruly};
 ghost use Rattle.c8_peer.specs.TrueChecks.{HasTrueChecks, HasTrueLast};
-ghost use Rattle.c8_board.specs.Tokens.{Begins};
-ghost use Rattle.c8_digest.specs.Origin.{run_since};
+ghost use Rattle.c8_live.specs.Tokens.{Begins};
+ghost use Rattle.c8_digest.specs.Origin.{run_since, Origin, IsOrigin, first_origin};
 ghost use Rattle.c8_known.specs.Confirmed.{confirmed_rows};
 ghost use Rattle.c8_machine.specs.Serial.{serial};
 ghost use Rattle.c8_peer.specs.State.{Call, Reply, Deliver};
@@ -23,8 +24,14 @@ ghost use Rattle.c8_live.specs.Turns.{HasHeardOf, HasHeard, HasSpoken, IsTurn, A
 ghost use Rattle.c8_session.specs.Runs.{HasRunOn};
 ghost use Rattle.c8_session.specs.Turns.{Doing, Ticks, Speaks, doing, HasDone};
 ghost use Rattle.c8_transport.specs.Wire.{MayTake};
+ghost use Rattle.std.specs.List.{slice_get};
+ghost use mathlib.Core.List.{IsPrefix};
+ghost use Rattle.c8_game.specs.declared.row.Row.{Row};
+ghost use Rattle.c8_live.specs.Starts.{origin_from, start_of};
 
+use c8_digest::laws::states_are_read_again;
 use c8_disk::Disk;
+use c8_machine::laws::states_stay_in_range;
 use c8_peer::laws::{
     a_machine_begins_at_an_opening, a_peers_word_stands, a_word_stands_from_any_journal,
     calls_are_deeds, openings_are_lawful, runs_join,
@@ -176,3 +183,31 @@ pub fn handings_on_join()
         → IsHandedOn from between to among → IsHandedOn between from_now among to_now
         → IsHandedOn from from_now to to_now }
 {}
+
+/// What was taken earlier is the beginning of what is taken later, and so of what was put.
+pub fn earlier_begins_later()
+    ensures { (early late all : List (List ℕ)) → IsPrefix early late → IsPrefix late all
+        → IsPrefix early all }
+{}
+
+/// Packet number n taken is packet number n put: each is taken once, in the order of putting.
+pub fn taken_once_in_order()
+    ensures { (taken put : List (List ℕ)) (number : ℕ) (packet : List ℕ) → IsPrefix taken put
+        → slice_get taken number ≡ Some packet → slice_get put number ≡ Some packet }
+{}
+
+/// A start gives back the origin from which it was made, if a machine can have reached that origin.
+pub fn starts_tell_origins()
+    ensures { (from : Origin) → IsOrigin from → origin_from (start_of from) ≡ from }
+{
+    states_are_read_again();
+}
+
+/// From the start before the first frame, the run of rows is their serial run.
+pub fn the_first_start_is_serial()
+    ensures { (rules : Rules) (rows : List Row) → AreInRange rules
+        → run_since rules (origin_from (start_of (first_origin rules))) rows ≡ serial rules rows }
+{
+    states_are_read_again();
+    states_stay_in_range();
+}

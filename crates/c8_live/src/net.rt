@@ -4,8 +4,9 @@ ghost use Rattle.c8_live.specs.Parts.{IsHandedOn};
 ghost use Rattle.c8_transport.specs.Wire.{MayTake};
 
 use crate::counters::Counters;
+use crate::ends::{Putter, Taker};
 use crate::laws::handings_on_join;
-use c8_inlet::{Packet, Putter, Taker};
+use crate::packet::Packet;
 use c8_transport::{Gate, LONGEST_PACKET, Wire, WireFailed, Worker};
 use c8_wire::{LONGEST_DATAGRAM, Seat, view};
 use std::sync::Wait;

@@ -1,7 +1,8 @@
 //! The game thread's way to the net thread.
 ghost use Rattle.std.specs.Prelude.{◌≡◌};
 
-use c8_inlet::{Packet, Putter, Taker};
+use crate::ends::{Putter, Taker};
+use crate::packet::Packet;
 use c8_transport::{Losses, Wire, WireFailed};
 use c8_wire::{LONGEST_DATAGRAM, Seat};
 

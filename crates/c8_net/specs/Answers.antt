@@ -3,8 +3,8 @@ use Rattle.std.specs.Prelude.{◌≡◌, ◌⊎◌, ℕ, List, Option, Result, O
 use Rattle.c8_command.specs.declared.status.Status.{Status}
 use Rattle.c8_command.specs.declared.status.Status.TheVariants.{Done}
 use Rattle.c8_game.specs.Rules.{Rules}
-use Rattle.c8_journal.specs.Journals.{OfDisk}
-use Rattle.c8_journal.specs.declared.journal.Journal.{Journal}
+use Rattle.c8_files.specs.Journals.{OfDisk}
+use Rattle.c8_files.specs.declared.journal.Journal.{Journal}
 use Rattle.c8_keys.specs.Report.{IsTold, Reports}
 use Rattle.c8_keys.specs.declared.lines.Played.{Played}
 use Rattle.c8_refusals.specs.declared.error.OpenError.TheVariants as opens

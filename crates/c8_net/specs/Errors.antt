@@ -11,7 +11,7 @@ use Rattle.c8_live.specs.declared.error.SessionError.{SessionError}
 use Rattle.c8_live.specs.declared.error.SessionError.TheVariants as sessions
 use Rattle.c8_net.specs.declared.error.PeerError.{PeerError}
 use Rattle.c8_net.specs.declared.error.PeerError.TheVariants.{Game, Secret, Keys, Open, Disk, Socket, Lost}
-use Rattle.c8_sealed.specs.Errors.{secret_error_number}
+use Rattle.c8_transport.specs.Errors.{secret_error_number}
 use Rattle.c8_udp.specs.Errors.{socket_error_number, fault_of_wire}
 use Rattle.c8_udp.specs.declared.error.SocketError.TheVariants as sockets
 use Rattle.c8_net.specs.declared.error.Unopened.{Unopened}

@@ -9,7 +9,7 @@ use c8_game::GameError;
 use c8_keys::KeysError;
 use c8_live::SessionError;
 use c8_peer::OpenError;
-use c8_sealed::SecretError;
+use c8_transport::SecretError;
 use c8_udp::{SocketError, SocketFault};
 use thiserror::Error;
 

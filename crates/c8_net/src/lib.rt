@@ -3,7 +3,7 @@
 //! `arguments` and [`options`] have the options, and `command` opens the files. `play` begins the match ([`prepare`],
 //! [`play_on`]), and `stage` plays it in threads: the workers of c8_live, paced by `pace`, and a viewer. A
 //! [`Performance`] plays a match in the caller's thread instead ([`perform_on`]). The transport is c8_udp; in a match
-//! with a secret, c8_sealed lies over it (`line`, `seals`).
+//! with a secret, `Sealed` lies over it (`line`, `seals`).
 #![tactic(auto)]
 
 mod arguments;

@@ -2,8 +2,8 @@
 
 use crate::error::Unopened;
 use c8_disk::Disk;
-use c8_sealed::{Counters, Seal, Sealer};
 use c8_session::Session;
+use c8_transport::{Counters, Seal, Sealer};
 use c8_udp::{Addresses, Bell, PolledUdp, SocketFault, Udp};
 use std::io::ErrorKind;
 use std::net::Net;

@@ -7,12 +7,11 @@ use crate::arguments::Asked;
 use crate::error::Unopened;
 use crate::pace::{Pace, VIEWER_PAUSE};
 use crate::performance::Ended;
-use c8_board::{Board, Pen, Viewer};
 use c8_disk::Disk;
 use c8_game::Game;
-use c8_inlet::{Putter, Taker, inlet};
 use c8_live::{
-    Counters, KeySource, PLACES, Progress, Relay, Standing, game_worker, net_worker, open_board,
+    Board, Counters, KeySource, PLACES, Pen, Progress, Putter, Relay, Standing, Taker, Viewer,
+    game_worker, inlet, net_worker, open_board,
 };
 use c8_peer::Peer;
 use c8_session::Session;

@@ -4,12 +4,11 @@ use crate::disks::Hand;
 use crate::words::{
     bytes_in, count_in, keys_in, needed, number_in, player_in, unreadable, words_in,
 };
-use c8_check::Checks;
 use c8_disk::MemDisk;
 use c8_game::{Game, Player};
 use c8_known::Known;
 use c8_log::{BODY_LENGTH, Log, OPEN_GATE};
-use c8_record::{Record, ReplayError, body_of, replay, replay_bytes};
+use c8_record::{Checks, Record, ReplayError, body_of, replay, replay_bytes};
 use std::alloc::Global;
 use std::io;
 use std::io::Write;

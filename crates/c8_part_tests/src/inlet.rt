@@ -1,3 +1,3 @@
-//! The tests of c8_inlet.
+//! The tests of inlets, the queues of c8_live.
 mod calls;
 mod threads;

@@ -1,5 +1,5 @@
-//! Tests of parts: texts of c8_game and c8_digest (`machine`), c8_terminal, c8_known with c8_roll (`known`), and c8_inlet. What
-//! else the parts do stands in `cases/calls`.
+//! Tests of parts: texts of c8_game and c8_digest (`machine`), c8_terminal, c8_known with c8_roll (`known`), and the inlets
+//! of c8_live. What else the parts do stands in `cases/calls`.
 #![tactic(auto)]
 
 #[cfg(test)]

@@ -3,7 +3,7 @@ use Rattle.std.proofs.Common.{◌≡◌, ℕ, ◌^◌, ◌<◌, ◌≤◌, List,
 use Rattle.c8_game.specs.Rules.{Rules, AreInRange}
 use Rattle.c8_known.specs.Journal.{Record}
 use Rattle.c8_known.specs.Known.{known_of}
-use Rattle.c8_check.specs.Checks.{begun_at}
+use Rattle.c8_record.specs.Checks.{begun_at}
 use Rattle.c8_peer.specs.Told.{told_of}
 use Rattle.c8_peer.specs.State.{Mode, Open, Down, Away, State, Call, Reply}
 use Rattle.c8_peer.specs.Steps.{outcome, DiskOutcome, Works, Refuses, done, at_mode}

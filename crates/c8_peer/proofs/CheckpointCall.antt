@@ -18,11 +18,11 @@ use Rattle.c8_known.specs.Journal.{Record, State, Check, epoch}
 use Rattle.c8_known.specs.Known.{KnownValue, player_in, known_of, with_record}
 use Rattle.c8_known.specs.Confirmed.{confirmed}
 use Rattle.c8_known.specs.Growth.{IsStillKnown}
-use Rattle.c8_check.specs.declared.checks.Checks.{Checks}
-use Rattle.c8_check.specs.Checks.{Pieces, ChecksValue, before_piece, piece_in, save_bytes, digest_of, with_piece, with_whole, with_check}
-use Rattle.c8_check.specs.Checks.{checks_of, frames_of, MayCheck, begun_at}
-use Rattle.c8_check.specs.Seen.{pieces_of, value_of, plan_of}
-use Rattle.c8_check.specs.checked.PieceLaws.{all_before, saved_long}
+use Rattle.c8_record.specs.declared.checks.Checks.{Checks}
+use Rattle.c8_record.specs.Checks.{Pieces, ChecksValue, before_piece, piece_in, save_bytes, digest_of, with_piece, with_whole, with_check}
+use Rattle.c8_record.specs.Checks.{checks_of, frames_of, MayCheck, begun_at}
+use Rattle.c8_record.specs.Seen.{pieces_of, value_of, plan_of}
+use Rattle.c8_record.specs.checked.PieceLaws.{all_before, saved_long}
 use Rattle.c8_roll.specs.Roll.{RollValue, roll_since, origin_at}
 use Rattle.c8_roll.specs.Rollback.{IsOldestWrong, run_from, RunsFromOldest}
 use Rattle.c8_roll.specs.checked.RollLaws.{roll_confirmed, roll_base, roll_marks}

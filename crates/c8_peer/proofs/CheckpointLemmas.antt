@@ -17,13 +17,13 @@ use Rattle.c8_known.specs.Known.{KnownValue, player_in, known_of, with_record, I
 use Rattle.c8_known.specs.Confirmed.{confirmed}
 use Rattle.c8_known.specs.Growth.{IsStillKnown}
 use Rattle.c8_known.specs.checked.ConfirmedLaws.{confirmed_is}
-use Rattle.c8_check.specs.Checks.{Pieces, ChecksValue, before_piece, piece_length, piece_in, save_bytes, digest_of, with_check, checks_of}
-use Rattle.c8_check.specs.Checks.{bytes_so_far, frames_of, is_next_after, has_shape, may_take, origin_in, MayCheck, or_first, begun_at}
-use Rattle.c8_check.specs.declared.checks.Checks.{Checks}
-use Rattle.c8_check.specs.Seen.{pieces_of, value_of}
-use Rattle.c8_check.specs.checked.CheckLaws.{opened_more}
-use Rattle.c8_check.specs.checked.PieceLaws.{none_before, saved_long, saved_low, saved_even, saved_few, digest_long, piece_fits}
-use Rattle.c8_check.specs.checked.PieceLaws.{pieces_more, whole_origin, whole_may_check}
+use Rattle.c8_record.specs.Checks.{Pieces, ChecksValue, before_piece, piece_length, piece_in, save_bytes, digest_of, with_check, checks_of}
+use Rattle.c8_record.specs.Checks.{bytes_so_far, frames_of, is_next_after, has_shape, may_take, origin_in, MayCheck, or_first, begun_at}
+use Rattle.c8_record.specs.declared.checks.Checks.{Checks}
+use Rattle.c8_record.specs.Seen.{pieces_of, value_of}
+use Rattle.c8_record.specs.checked.OpenedLaws.{opened_more}
+use Rattle.c8_record.specs.checked.PieceLaws.{none_before, saved_long, saved_low, saved_even, saved_few, digest_long, piece_fits}
+use Rattle.c8_record.specs.checked.PieceLaws.{pieces_more, whole_origin, whole_may_check}
 use Rattle.c8_roll.specs.Roll.{mark_since, marks_since, origin_at, IsOnTheWay}
 use Rattle.c8_roll.specs.checked.RollLaws.{map_same_between, origin_goes_on, confirmed_is_serial, marks_on_the_way}
 use Rattle.c8_record.specs.Body.{HasSpelling}

@@ -21,7 +21,7 @@ use Rattle.c8_known.specs.Fresh.{is_from_leaver, misfit, fresh_words}
 use Rattle.c8_known.specs.Confirmed.{confirmed}
 use Rattle.c8_window.specs.Window.{WindowValue, acked_of, acked_more, with_acked}
 use Rattle.c8_round.specs.Round.{ChairValue, StayerValue, with_report, with_have, is_ready}
-use Rattle.c8_check.specs.Checks.{Pieces, frames_of}
+use Rattle.c8_record.specs.Checks.{Pieces, frames_of}
 use Rattle.c8_record.specs.Allowed.{IsJournal}
 use Rattle.c8_peer.specs.Told.{Told, told_of}
 use Rattle.c8_refusals.specs.declared.error.TickError.{TickError}

@@ -17,8 +17,8 @@ use Rattle.c8_known.specs.Journal.{Record, Head, Epoch, epoch, epochs}
 use Rattle.c8_known.specs.Known.{KnownValue, known_of, with_record}
 use Rattle.c8_known.specs.Confirmed.{confirmed}
 use Rattle.c8_digest.specs.Origin.{Origin}
-use Rattle.c8_check.specs.Checks.{ChecksValue, with_form, checks_of, or_first, begun_at}
-use Rattle.c8_check.specs.checked.CheckLaws.{opened_more}
+use Rattle.c8_record.specs.Checks.{ChecksValue, with_form, checks_of, or_first, begun_at}
+use Rattle.c8_record.specs.checked.OpenedLaws.{opened_more}
 use Rattle.c8_roll.specs.Roll.{RollValue, roll_since}
 use Rattle.c8_record.specs.Allowed.{AreInOrder}
 use Rattle.c8_record.specs.checked.CheckLaws.{or_first_confirmed}

@@ -14,7 +14,7 @@ use Rattle.c8_hand.specs.Links.{LinkValue, no_link, no_links, link_to}
 use Rattle.c8_known.specs.Journal.{Record, Head, Epoch, words_of, epochs_of, epochs, epoch, had_epoch, held, count}
 use Rattle.c8_known.specs.Known.{known_of, Plays}
 use Rattle.c8_known.specs.checked.StartLaws.{players_known}
-use Rattle.c8_check.specs.Checks.{ChecksValue}
+use Rattle.c8_record.specs.Checks.{ChecksValue}
 use Rattle.c8_record.specs.Body.{HasSpelling}
 use Rattle.c8_record.specs.Allowed.{IsAllowed, IsJournal}
 use Rattle.c8_record.specs.checked.JournalLaws.{epoch_more, checks_more, of_game}

@@ -23,7 +23,7 @@ use Rattle.c8_record.specs.Allowed.{IsAllowed, past_of, CanFollow}
 use Rattle.c8_record.specs.Replay.{AreJournalBodies}
 use Rattle.c8_record.specs.checked.JournalLaws.{journal_more, known_more, epoch_more, of_game}
 use Rattle.c8_digest.specs.Origin.{Origin}
-use Rattle.c8_check.specs.Checks.{ChecksValue, checks_of, begun_at}
+use Rattle.c8_record.specs.Checks.{ChecksValue, checks_of, begun_at}
 use Rattle.c8_roll.specs.Roll.{RollValue, roll_since, IsRollSince, GrowsTo}
 use Rattle.c8_roll.specs.checked.RollLaws.{roll_rules}
 use Rattle.c8_roll.specs.Rollback.{KeepsRows, IsWithinWindow, RunsFromOldest, RunsFromWhatWasKnown}

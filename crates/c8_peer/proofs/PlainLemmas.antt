@@ -27,7 +27,7 @@ use Rattle.c8_peer.specs.Hearing.{hear_cut, hear_message, is_of_other_wire, unle
 use Rattle.c8_peer.specs.Saying.{say, show}
 use Rattle.c8_peer.specs.Opening.{Opening, NoPlayer, Stands, NotWritten, NoMemory, NotRead, Unfit, Spent, opened}
 use Rattle.c8_peer.specs.Replies.{mode_told}
-use Rattle.c8_check.specs.Checks.{Pieces, begun_at, frames_of}
+use Rattle.c8_record.specs.Checks.{Pieces, begun_at, frames_of}
 use Rattle.c8_record.specs.Allowed.{IsJournal}
 use Rattle.c8_peer.specs.TrueChecks.{HasTrueChecks}
 use Rattle.c8_peer.specs.Lawful.{IsMemory, IsCall}

@@ -21,7 +21,7 @@ use Rattle.c8_known.specs.checked.StartLaws.{players_known}
 use Rattle.c8_record.specs.Body.{body_of, record_of, records_of, Spells}
 use Rattle.c8_record.specs.checked.BodyLaws.{bodies_back}
 use Rattle.c8_record.specs.Replay.{AreJournalBodies}
-use Rattle.c8_check.specs.Checks.{ChecksValue}
+use Rattle.c8_record.specs.Checks.{ChecksValue}
 use Rattle.c8_roll.specs.Roll.{RollValue, roll_of, roll_since}
 use Rattle.c8_roll.specs.checked.RollLaws.{on_the_way}
 use Rattle.c8_peer.specs.State.{Memory, Open, Down}

@@ -15,7 +15,7 @@ use Rattle.c8_known.specs.Confirmed.{confirmed}
 use Rattle.c8_known.specs.Fresh.{is_from_leaver, misfit, fresh_words}
 use Rattle.c8_round.specs.Round.{is_ready, with_report}
 use Rattle.c8_window.specs.Window.{acked_more}
-use Rattle.c8_check.specs.Checks.{Pieces, frames_of}
+use Rattle.c8_record.specs.Checks.{Pieces, frames_of}
 use Rattle.c8_peer.specs.Told.{Told, told_of}
 use Rattle.c8_refusals.specs.declared.error.Refused.{Refused}
 use Rattle.c8_refusals.specs.declared.error.Refused.TheVariants as refusals

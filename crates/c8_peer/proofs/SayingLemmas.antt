@@ -19,7 +19,7 @@ use Rattle.c8_known.specs.checked.StartLaws.{players_known}
 use Rattle.c8_known.specs.Confirmed.{confirmed, row, confirmed_rows}
 use Rattle.c8_digest.specs.declared.marks.FrameMark.{FrameMark}
 use Rattle.c8_digest.specs.Marks.{mark_step, newest_of}
-use Rattle.c8_check.specs.Checks.{begun_at}
+use Rattle.c8_record.specs.Checks.{begun_at}
 use Rattle.c8_roll.specs.Roll.{mark_after}
 use Rattle.c8_roll.specs.checked.RollLaws.{newest_up_to, marks_on_the_way}
 use Rattle.c8_window.specs.Window.{acked_of, pending_of}

@@ -27,7 +27,7 @@ use Rattle.c8_known.specs.checked.ConfirmedLaws.{confirmed_is}
 use Rattle.c8_digest.specs.declared.marks.FrameMark.{FrameMark}
 use Rattle.c8_digest.specs.Marks.{newest_of, AreMarksAfter}
 use Rattle.c8_digest.specs.checked.OriginLaws.{take_low, drop_low}
-use Rattle.c8_check.specs.Checks.{begun_at}
+use Rattle.c8_record.specs.Checks.{begun_at}
 use Rattle.c8_roll.specs.Roll.{marks_since}
 use Rattle.c8_roll.specs.checked.RollLaws.{origin_goes_on}
 use Rattle.c8_record.specs.checked.CheckLaws.{begun_confirmed, begun_in_order}

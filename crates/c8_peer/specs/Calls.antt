@@ -5,7 +5,7 @@ use Rattle.c8_known.specs.Journal as records
 use Rattle.c8_known.specs.Known.{KnownValue, player_in, count_in, is_player}
 use Rattle.c8_known.specs.Confirmed.{confirmed}
 use Rattle.c8_round.specs.Round.{is_ready}
-use Rattle.c8_check.specs.Checks.{Pieces, all_pieces, piece_in, digest_of, frames_of}
+use Rattle.c8_record.specs.Checks.{Pieces, all_pieces, piece_in, digest_of, frames_of}
 use Rattle.c8_refusals.specs.declared.error.TickError.TheVariants as ticks
 use Rattle.c8_refusals.specs.declared.error.LeaveError.TheVariants as leaves
 use Rattle.c8_refusals.specs.declared.error.DecideError.TheVariants as decides

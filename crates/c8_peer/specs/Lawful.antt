@@ -8,7 +8,7 @@ use Rattle.c8_known.specs.Journal.{Record, count, had_epoch}
 use Rattle.c8_known.specs.Known.{known_of}
 use Rattle.c8_known.specs.Confirmed.{confirmed}
 use Rattle.c8_window.specs.Window.{acked_of}
-use Rattle.c8_check.specs.Checks.{Pieces, before_piece, checks_of, begun_at}
+use Rattle.c8_record.specs.Checks.{Pieces, before_piece, checks_of, begun_at}
 use Rattle.c8_peer.specs.Told.{told_of}
 use Rattle.c8_peer.specs.State.{Memory, seen_by, Call, Tick, Deliver, Say, Show, Leave, Decide, Checkpoint}
 

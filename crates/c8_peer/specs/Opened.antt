@@ -11,7 +11,7 @@ use Rattle.c8_log.specs.Slots.{slot_length, kept}
 use Rattle.c8_log.specs.Log.{AllKeep, KeepsOneOf, has_closed_gate, repaired}
 use Rattle.c8_log.specs.Journal.{AllKeepBodies}
 use Rattle.c8_known.specs.Journal.{epoch, ticks}
-use Rattle.c8_check.specs.Checks.{begun_at}
+use Rattle.c8_record.specs.Checks.{begun_at}
 use Rattle.c8_record.specs.Body.{body_of, records_of}
 use Rattle.c8_record.specs.Replay.{AreJournalBodies, IsRefusal, ReplayRun}
 use Rattle.c8_record.specs.declared.error.ReplayError.{ReplayError}

@@ -12,7 +12,7 @@ use Rattle.c8_log.specs.Slots.{slot_length, kept}
 use Rattle.c8_known.specs.Journal.{Record, epoch}
 use Rattle.c8_known.specs.Known.{KnownValue, known_of}
 use Rattle.c8_digest.specs.Origin.{Origin}
-use Rattle.c8_check.specs.Checks.{begun_at}
+use Rattle.c8_record.specs.Checks.{begun_at}
 use Rattle.c8_roll.specs.Rollback.{RunsFromOldest}
 use Rattle.c8_record.specs.Body.{body_of, record_of, records_of}
 use Rattle.c8_record.specs.Allowed.{IsJournal}

@@ -7,7 +7,7 @@ use Rattle.c8_digest.specs.Origin.{Origin}
 use Rattle.c8_known.specs.Journal.{Record}
 use Rattle.c8_known.specs.Known.{KnownValue, known_of}
 use Rattle.c8_known.specs.Confirmed.{confirmed}
-use Rattle.c8_check.specs.Checks.{ChecksValue, checks_of, save_bytes, begun_at}
+use Rattle.c8_record.specs.Checks.{ChecksValue, checks_of, save_bytes, begun_at}
 use Rattle.c8_roll.specs.Roll.{marks_since, origin_at}
 
 -- the marks, the checkpoints of the journal, and the bytes that a checkpoint after n confirmed frames saves

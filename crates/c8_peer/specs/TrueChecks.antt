@@ -7,7 +7,7 @@ use Rattle.c8_digest.specs.Origin.{Origin}
 use Rattle.c8_known.specs.Journal.{Record, Head, Epoch, Own, Got, Freeze, Leave, Cut, State, Check}
 use Rattle.c8_known.specs.Known.{KnownValue, known_of}
 use Rattle.c8_known.specs.Confirmed.{confirmed, rows_below}
-use Rattle.c8_check.specs.Checks.{Pieces, checks_of, begun_at, save_bytes, before_piece}
+use Rattle.c8_record.specs.Checks.{Pieces, checks_of, begun_at, save_bytes, before_piece}
 use Rattle.c8_roll.specs.Roll.{marks_up_to, IsOnTheWay}
 
 -- the machine and the marks after n confirmed frames, run from the first frame on

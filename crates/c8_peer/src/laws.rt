@@ -9,7 +9,7 @@ ghost use Rattle.c8_known.specs.Journal.{Record, epoch};
 ghost use Rattle.c8_known.specs.Known.{known_of};
 ghost use Rattle.c8_known.specs.Confirmed.{confirmed, rows_below};
 ghost use Rattle.c8_log.specs.Slots.{kept};
-ghost use Rattle.c8_check.specs.Checks.{begun_at};
+ghost use Rattle.c8_record.specs.Checks.{begun_at};
 ghost use Rattle.c8_record.specs.Allowed.{IsAllowed, IsJournal};
 ghost use Rattle.c8_record.specs.Body.{records_of};
 ghost use Rattle.c8_peer.specs.State.{Memory, Open, State, Call, Deliver, Reply, Opened, Delivered, Said, fresh_memory};

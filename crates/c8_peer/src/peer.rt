@@ -24,13 +24,12 @@ mod rows;
 mod say;
 
 use crate::memory::Memory;
-use c8_check::Checks;
 use c8_disk::{Arm, Disk, DiskError};
 use c8_game::Game;
 use c8_known::Known;
 use c8_log::Journal;
 use c8_record::laws::journals_stay_within_the_window;
-use c8_record::{Record, body_of, make_known};
+use c8_record::{Checks, Record, body_of, make_known};
 use c8_roll::Roll;
 pub use rows::Rows;
 use std::fmt;
@@ -57,7 +56,7 @@ pub struct Peer<'g, D: Disk> {
 }
 
 impl<'g, D: Disk> Model for Peer<'g, D> {
-    ghost use Rattle.c8_check.specs.Seen.{value_of as checked};
+    ghost use Rattle.c8_record.specs.Seen.{value_of as checked};
     ghost use Rattle.c8_roll.specs.Seen.{value_of, rows_run, last_run_of};
     ghost use Rattle.c8_roll.specs.Rollback.{KeepsRows};
     ghost use Rattle.c8_record.specs.Body.{records_of};

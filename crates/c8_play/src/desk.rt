@@ -11,10 +11,9 @@ ghost use Rattle.c8_play.specs.Typing.{HasCome, HasRead, HasCounted, AreHeld, re
 ghost use Rattle.c8_play.specs.Desk.{typing, seen_at, drawn_at, IsSameDesk, MayForget, HasShown};
 
 use crate::console::{Console, KEY_BYTES};
-use c8_beat::{Beat, Lateness};
 use c8_game::Keys;
 use c8_screen::Screen;
-use c8_terminal::{Decoder, Held, Painter, Signal};
+use c8_terminal::{Beat, Decoder, Held, Lateness, Painter, Signal};
 use mio::event::Source;
 use std::time::Duration;
 

@@ -5,7 +5,7 @@ use c8_front::{Terminals, Threaded, command_of};
 use c8_game::Game;
 use c8_terminal::{ENTER, LEAVE};
 use c8_transport::{Traffic, Wire, WireFailed};
-use c8_watch_command::{WATCH, WatchAsked, watch_given, watch_on};
+use c8_watch::{WATCH, WatchAsked, watch_given, watch_on};
 use c8_wire::{Seat, Watcher};
 use std::alloc::Global;
 use std::io::Write;

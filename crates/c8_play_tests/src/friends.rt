@@ -1,6 +1,6 @@
 //! What `host` shows to a friend, and what `join` reads.
 
-use c8_host::{digits_in, invitation, note, own_addresses};
+use c8_play::{digits_in, invitation, note, own_addresses};
 use std::alloc::Global;
 
 /// A list of routes: each address of the machine stands in it twice.

@@ -2,7 +2,7 @@
 
 use crate::drawing::{GAME, Shows, asked_for};
 use c8_game::Game;
-use c8_watch_command::watch_on;
+use c8_watch::watch_on;
 use std::sync::Wait;
 use std::thread::Threads;
 use std::time::Clock;

@@ -18,7 +18,7 @@ use Rattle.c8_log.specs.declared.error.LogError.{LogError}
 use Rattle.c8_log.specs.declared.error.LogError.TheVariants as logs
 use Rattle.c8_log.specs.Asked.{told_by as told_by_log}
 use Rattle.c8_log.specs.Slots.{kept, body_of, blocks_of}
-use Rattle.c8_check.specs.Checks.{ChecksValue, no_checks, with_check, checks_of}
+use Rattle.c8_record.specs.Checks.{ChecksValue, no_checks, with_check, checks_of}
 use Rattle.c8_record.specs.Body.{Spells, record_of, records_of}
 use Rattle.c8_record.specs.Allowed.{Past, past_of, IsAllowedAfter, IsAllowed, IsJournal}
 use Rattle.c8_record.specs.checked.Taken.{epoch_after, IsOfOtherGame, IsOfOtherPlayer, IsUnfitBody, IsTaken, IsReadTo, AreNext}

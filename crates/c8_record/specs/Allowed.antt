@@ -7,7 +7,7 @@ use Rattle.c8_known.specs.Known.{PlayerValue, KnownValue, player_in, count_in, k
 use Rattle.c8_known.specs.Confirmed.{confirmed}
 use Rattle.c8_wire.specs.Packet.{AreBytes}
 use Rattle.c8_digest.specs.Origin.{Origin, IsOrigin}
-use Rattle.c8_check.specs.Checks.{Pieces, ChecksValue, all_pieces, before_piece, checks_of, may_take, MayCheck}
+use Rattle.c8_record.specs.Checks.{Pieces, ChecksValue, all_pieces, before_piece, checks_of, may_take, MayCheck}
 use Rattle.c8_record.specs.Body.{HasSpelling}
 
 -- What the rules need from the earlier records: their number, the last epoch, what they say about

@@ -6,7 +6,7 @@ use Rattle.c8_wire.specs.Packet.{AreBytes, AreWords}
 use Rattle.c8_wire.specs.Reading.{number_at, words_of}
 use Rattle.c8_wire.specs.Sizes.{longest_run}
 use Rattle.c8_wire.specs.Spelling.{words_bytes}
-use Rattle.c8_check.specs.Checks.{all_pieces}
+use Rattle.c8_record.specs.Checks.{all_pieces}
 use Rattle.c8_known.specs.Journal.{Record, Head, Epoch, Own, Got, Freeze, Leave, Cut, State, Check}
 
 -- where the run begins

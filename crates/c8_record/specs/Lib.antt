@@ -3,4 +3,7 @@ pub mod Allowed
 pub mod Lent
 pub mod Replay
 pub mod Errors
+pub mod Checks
+pub mod Read
+pub mod Seen
 pub mod checked

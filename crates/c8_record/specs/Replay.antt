@@ -4,7 +4,7 @@ use Rattle.std.specs.List.{slice_get, All}
 use Rattle.c8_game.specs.Rules.{Rules, id_of}
 use Rattle.c8_known.specs.Journal.{Record, Head, epoch}
 use Rattle.c8_known.specs.Known.{KnownValue, known_of}
-use Rattle.c8_check.specs.Checks.{ChecksValue, checks_of}
+use Rattle.c8_record.specs.Checks.{ChecksValue, checks_of}
 use Rattle.c8_record.specs.Body.{Spells, record_of, records_of}
 use Rattle.c8_record.specs.Allowed.{IsAllowed, IsJournal}
 use Rattle.c8_disk.specs.declared.error.DiskError.TheVariants.{Failed}

@@ -4,3 +4,5 @@ pub mod LeaverLaws
 pub mod RefusalLaws
 pub mod Taken
 pub mod CheckLaws
+pub mod OpenedLaws
+pub mod PieceLaws

@@ -8,13 +8,13 @@ ghost use Rattle.c8_wire.specs.Spelling.{words_bytes};
 ghost use Rattle.c8_record.specs.Allowed.{MayEpoch, MayOwn, MayGot, MayFreeze, MayLeave, MayCut, MayState, MayEnd, IsAllowedAfter};
 ghost use Rattle.c8_record.specs.Body.{HasSpelling};
 ghost use Rattle.c8_record.specs.Lent.{value_of, IsOfWords};
-ghost use Rattle.c8_check.specs.Seen.{value_of as value_in};
+ghost use Rattle.c8_record.specs.Seen.{value_of as value_in};
 ghost use Rattle.c8_record.specs.checked.Taken.{past_in, IsUnfit};
 
+use crate::checks::Checks;
 use crate::error::ReplayError;
 use crate::progress::Replay;
 use crate::record::Record;
-use c8_check::Checks;
 use c8_game::{Game, Player};
 use c8_known::Known;
 use c8_wire::Run;

@@ -6,7 +6,7 @@ ghost use Rattle.c8_known.specs.Journal.{Record, epoch};
 ghost use Rattle.c8_known.specs.Known.{known_of, with_record, IsKnown};
 ghost use Rattle.c8_known.specs.Confirmed.{confirmed, confirmed_rows};
 ghost use Rattle.c8_known.specs.Growth.{Begins, IsStillKnown};
-ghost use Rattle.c8_check.specs.Checks.{with_check, checks_of, begun_at};
+ghost use Rattle.c8_record.specs.Checks.{with_check, checks_of, begun_at};
 ghost use Rattle.c8_digest.specs.Origin.{IsOrigin};
 ghost use Rattle.c8_record.specs.Body.{body_of, record_of, records_of, HasSpelling, Spells};
 ghost use Rattle.c8_record.specs.declared.error.ReplayError.{ReplayError};

@@ -62,7 +62,7 @@ pub enum Record<'a> {
         start: u32,
         run: Run<'a>,
     },
-    /// Piece number `piece`, from 0, of a checkpoint after `frames` confirmed frames. `c8_check` cuts
+    /// Piece number `piece`, from 0, of a checkpoint after `frames` confirmed frames. `Checks` cuts
     /// the machine's bytes and its marks into pieces.
     State {
         player: Player,

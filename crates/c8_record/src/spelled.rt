@@ -9,9 +9,9 @@ ghost use Rattle.c8_known.specs.Journal.{Head, Own};
 ghost use Rattle.c8_record.specs.Body.{field_bytes, body_of, IsForm, Spells};
 ghost use Rattle.c8_record.specs.Lent.{value_of, IsComplete, IsOfWords};
 
+use crate::checks::PIECES;
 use crate::record::{RUN_PLACE, Record};
 use crate::writing::{head_of, match_run};
-use c8_check::PIECES;
 use c8_game::{Keys, Player};
 use c8_log::BODY_LENGTH;
 use c8_wire::Run;

@@ -9,8 +9,8 @@ ghost use Rattle.c8_wire.specs.Sizes.{longest_run};
 ghost use Rattle.c8_record.specs.Body.{field_bytes, body_of, Spells, IsForm, digest_words};
 ghost use Rattle.c8_record.specs.Lent.{value_of, IsComplete};
 
+use crate::checks::PIECES;
 use crate::record::{RUN_PLACE, Record};
-use c8_check::PIECES;
 use c8_game::{Keys, Player};
 use c8_log::BODY_LENGTH;
 use c8_wire::{Inputs, Run};

@@ -1,7 +1,7 @@
 -- The cookie of an address: only who receives there can know it.
 use Rattle.std.specs.Prelude.{◌≡◌, ◌⊎◌, ◌+◌, ◌*◌, ◌-◌, ◌^◌, ℕ, List, take, replicate}
 use Rattle.std.specs.Int.{w128, to_be_bytes}
-use Rattle.c8_seal.specs.Hmac.{hmac}
+use Rattle.c8_transport.specs.Hmac.{hmac}
 use Rattle.c8_relay.specs.declared.address.Address.{Address}
 use Rattle.c8_relay.specs.declared.address.Address.TheVariants.{Udp, Connection}
 

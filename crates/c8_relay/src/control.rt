@@ -3,7 +3,7 @@ ghost use Rattle.std.specs.Prelude.{◌≡◌, ◌≤◌, ◌<◌, ◌+◌, ◌�
 ghost use Rattle.c8_relay.specs.Reading.{IsDatagram, IsJoin, IsRead, lane_code, lane_of_key, lane_of_kind, spelled, status_code};
 
 use crate::address::{Lane, Place};
-use c8_seal::{LONGEST_SEALED, SEAL_LENGTH};
+use c8_transport::{LONGEST_SEALED, SEAL_LENGTH};
 use c8_wire::{DatagramKind, HEADER_LENGTH, KeyOf};
 
 /// How many bytes a cookie has.

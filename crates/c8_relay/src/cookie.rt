@@ -4,7 +4,7 @@ ghost use Rattle.c8_relay.specs.Cookies.{cookie_of, HasShown};
 
 use crate::address::Address;
 use crate::control::COOKIE_LENGTH;
-use c8_seal::hmac;
+use c8_transport::hmac;
 
 /// How many bytes the key of cookies has.
 pub const KEY_LENGTH: usize = 32;

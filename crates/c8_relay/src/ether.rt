@@ -4,7 +4,7 @@ ghost use Rattle.c8_relay.specs.declared.address.Address.{Address};
 ghost use Rattle.c8_relay.specs.Ether.{Gives, MaySend};
 
 use crate::address::Address;
-use c8_seal::LONGEST_SEALED;
+use c8_transport::LONGEST_SEALED;
 
 /// How many bytes of a packet are read: one more than the longest that is carried.
 pub const LONGEST_READ: usize = LONGEST_SEALED + 1;

@@ -16,7 +16,7 @@ use Rattle.c8_known.specs.Known.{KnownValue}
 use Rattle.c8_log.specs.Slots.{kept}
 use Rattle.c8_machine.specs.Serial.{serial}
 use Rattle.c8_machine.specs.State.{state}
-use Rattle.c8_image.specs.Journal.{IsJournalOf, IsRefusalOfJournal}
+use Rattle.c8_audit.specs.Journal.{IsJournalOf, IsRefusalOfJournal}
 use Rattle.c8_replay.specs.KeyText.{keys_text, SpellRows}
 use Rattle.c8_replay.specs.declared.arguments.Form.{Form}
 use Rattle.c8_replay.specs.declared.arguments.Form.TheVariants as forms

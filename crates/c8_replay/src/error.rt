@@ -3,9 +3,9 @@
 ghost use Rattle.std.specs.Prelude.{◌≡◌, IfOk};
 ghost use Rattle.c8_command.specs.declared.status.Status.TheVariants as statuses;
 
+use c8_audit::JournalError;
 use c8_command::{Part, Refusal, Site, Status};
 use c8_game::GameError;
-use c8_image::JournalError;
 use std::io;
 use std::io::Write;
 use thiserror::Error;

@@ -4,7 +4,7 @@
 //! frames, their rows as key lines, or a page that shows them. [`replay`] prints that. [`replay_given`] reads both
 //! files, and with `--screen` plays the match on the terminal first.
 //!
-//! `specs/Replay.antt` says what the command answers, `specs/KeyText.antt` how rows are printed. c8_image says which
+//! `specs/Replay.antt` says what the command answers, `specs/KeyText.antt` how rows are printed. c8_audit says which
 //! journal an image keeps, and why it is refused (`Journal.antt`). [`laws`] has what follows.
 #![tactic(auto)]
 

@@ -3,10 +3,9 @@
 ghost use Rattle.std.specs.Prelude.{◌≤◌};
 
 use crate::strokes::{Ask, Strokes};
-use c8_beat::Beat;
 use c8_play::{Console, KEY_BYTES};
 use c8_screen::Screen;
-use c8_terminal::{ENTER, LEAVE, Painter};
+use c8_terminal::{Beat, ENTER, LEAVE, Painter};
 use std::alloc::Global;
 use std::io::Write;
 use std::time::Duration;

@@ -3,7 +3,7 @@
 ghost use Rattle.std.specs.Prelude.{◌≡◌, ◌≤◌, IfOk, MatchResult};
 ghost use Rattle.c8_known.specs.Confirmed.{confirmed, rows_below};
 ghost use Rattle.c8_known.specs.Known.{IsOfGame};
-ghost use Rattle.c8_image.specs.declared.error.JournalError.TheVariants as errors;
+ghost use Rattle.c8_audit.specs.declared.error.JournalError.TheVariants as errors;
 ghost use Rattle.c8_replay.specs.declared.error.ReplayFault.TheVariants as faults;
 ghost use Rattle.c8_replay.specs.Replay.{IsFrames, IsBeyond, IsRunOfRows, IsShown, IsOutcome, IsOutcomeOfRead};
 
@@ -11,8 +11,8 @@ use crate::arguments::{Form, Wish};
 use crate::error::ReplayFault;
 use crate::key_text::key_text;
 use crate::page::add_page;
+use c8_audit::{JournalError, known_in};
 use c8_game::{Game, GameError};
-use c8_image::{JournalError, known_in};
 use c8_keys::Played;
 use c8_known::Known;
 use c8_machine::Machine;

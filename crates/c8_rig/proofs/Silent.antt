@@ -18,7 +18,7 @@ use Rattle.c8_round.specs.Round.{is_ready, with_report}
 use Rattle.c8_peer.specs.Told.{Told, told_of}
 use Rattle.c8_peer.specs.State.{Memory, Mode, Open, Down, Away, State, Call, Tick, Deliver, Say, Show, Leave, Decide, Outcome, Checkpoint}
 use Rattle.c8_peer.specs.Steps.{DiskOutcome, Works, Refuses, refused_by_disk, when_down, outcome, done, at_mode, step}
-use Rattle.c8_check.specs.Checks.{Pieces, frames_of}
+use Rattle.c8_record.specs.Checks.{Pieces, frames_of}
 use Rattle.c8_peer.specs.Calls.{tick, leave, decide, next_piece, checkpoint}
 use Rattle.c8_peer.specs.Hearing.{is_of_other_wire, is_desync, unless_misfit, got, cut_or_got, hear_data, hear_welcome, hear_freeze}
 use Rattle.c8_peer.specs.Hearing.{hear_frozen, hear_end, hear_cut, hear_message, unless_hand, hear_seen, hear_from, seen_in, hear_told}

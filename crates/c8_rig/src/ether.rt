@@ -10,7 +10,7 @@ ghost use Rattle.c8_rig.specs.Log.{NoteValue, IsSaying, IsDoing, said_in, said_b
 use crate::note::{Note, is_part};
 use crate::tokens::{Keeper, Part, Tokens};
 use c8_game::{Game, Player};
-use c8_inlet::Packet;
+use c8_live::Packet;
 use c8_wire::LONGEST_DATAGRAM;
 use c8_world::Act;
 use std::alloc::{AllocError, Global};

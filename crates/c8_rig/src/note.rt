@@ -7,7 +7,7 @@ ghost use Rattle.c8_peer.specs.Asked.{saying_of};
 ghost use Rattle.c8_rig.specs.Log.{part_of};
 
 use c8_game::Player;
-use c8_inlet::Packet;
+use c8_live::Packet;
 use c8_peer::Kind;
 use c8_world::Act;
 use std::marker::Model;

@@ -1,7 +1,7 @@
 //! How the log grows, as a person who waits reads it.
 use crate::refusals::{ASKED, GAME};
 use c8_command::Text;
-use c8_threads::{Asked, rig};
+use c8_script::{Asked, rig};
 use std::alloc::Global;
 use std::io;
 use std::sync::Wait;

@@ -1,7 +1,7 @@
 //! What the command refuses, and what it prints then.
 use c8_command::{Refusal, Text};
 use c8_game::GameError;
-use c8_threads::{Asked, RigError, rig};
+use c8_script::{Asked, RigError, rig};
 use std::io;
 use std::io::Write;
 use std::sync::Wait;

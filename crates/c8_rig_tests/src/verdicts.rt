@@ -1,7 +1,7 @@
 //! What the command prints, and what it writes as a script.
 use crate::refusals::{ASKED, GAME};
 use c8_command::{Status, Text};
-use c8_threads::{Asked, rig};
+use c8_script::{Asked, rig};
 
 const VERDICT: &[u8] = b"lawful yes\nagree yes\n";
 

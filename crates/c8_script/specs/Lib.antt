@@ -4,4 +4,7 @@ pub mod Script
 pub mod Watched
 pub mod Journals
 pub mod Sim
+pub mod RigErrors
+pub mod RigPrinted
+pub mod Rig
 pub mod checked

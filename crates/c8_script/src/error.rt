@@ -1,8 +1,9 @@
-//! Why a script is refused, and what the command `sim` refuses.
+//! Why a script is refused, and what the commands `sim` and `rig` refuse.
 
 ghost use Rattle.std.specs.Prelude.{◌≡◌};
 ghost use Rattle.c8_script.specs.Errors.{script_error_number, sim_part, sim_error_number};
 ghost use Rattle.c8_script.specs.declared.error.ScriptError.TheVariants.{Memory};
+ghost use Rattle.c8_script.specs.RigErrors.{rig_part, rig_error_number};
 
 use c8_command::{Part, Refusal};
 use c8_game::GameError;
@@ -72,6 +73,36 @@ impl From<SimError> for Refusal {
                 number: error.number(),
                 name: error.name(),
             },
+        }
+    }
+}
+
+/// Why the command `rig` refuses, or comes to no verdict.
+#[derive(Clone, Copy, Debug, PartialEq, Eq, Error)]
+pub enum RigError {
+    /// The text of the game has a fault, or memory ran out while it was read.
+    #[error("{0}")]
+    Game(GameError),
+    /// Memory ran out for the match or for its script.
+    #[error("out of memory")]
+    Memory,
+    /// The script cannot be written.
+    #[error("a file that cannot be written")]
+    Script,
+}
+
+impl From<RigError> for Refusal {
+    ghost from_gives = { λ error refusal. (refusal.part ≡ rig_part error) × (refusal.number ≡ rig_error_number error) };
+
+    fn from(error: RigError) -> Refusal {
+        match error {
+            RigError::Game(error) => Refusal {
+                part: Part::Game,
+                number: error.number(),
+                name: error.name(),
+            },
+            RigError::Memory => Refusal::MEMORY,
+            RigError::Script => Refusal::DISK,
         }
     }
 }

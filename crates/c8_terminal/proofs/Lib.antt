@@ -10,3 +10,5 @@ pub mod DecodingLemmas
 pub mod HeldLemmas
 pub mod SentLemmas
 pub mod StrokeLemmas
+-- The median lateness is the first place at which the counts reach half of their sum.
+pub mod BeatLemmas

@@ -8,3 +8,4 @@ pub mod Decoder
 pub mod Strokes
 pub mod Held
 pub mod Sent
+pub mod Beats

@@ -1,1 +1,11 @@
 pub mod Wire
+pub mod Hmac
+pub mod Seal
+pub mod Counters
+pub mod Errors
+pub mod Given
+pub mod Opened
+pub mod Sealer
+pub mod SecretText
+pub mod SeenBits
+pub mod Wires

@@ -1,3 +1,4 @@
 pub mod Turns
 pub mod Published
 pub mod Shown
+pub mod Watched

@@ -3,8 +3,8 @@ use Rattle.std.specs.Prelude.{◌≡◌}
 use Rattle.atomic_table.specs.Seated.{TableId}
 use Rattle.c8_game.specs.Rules.{Rules}
 use Rattle.c8_digest.specs.Origin.{first_origin}
-use Rattle.c8_board.specs.Starts.{StartValue, start_of}
-use Rattle.c8_board.specs.Tokens.{PenValue, Begins}
+use Rattle.c8_live.specs.Starts.{StartValue, start_of}
+use Rattle.c8_live.specs.Tokens.{PenValue, Begins}
 use Rattle.c8_spectator.specs.Watching.{WatchValue}
 
 -- a watcher's run begins before the first frame

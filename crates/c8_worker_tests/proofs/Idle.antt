@@ -2,7 +2,7 @@
 use Rattle.std.proofs.Common.{◌≡◌, ℕ, ◌-◌, ◌≤◌, List, ◌++◌, sym, ap, ◌∙◌, arith}
 use Rattle.std.proofs.lemmas.List.{replicate-append-replicate}
 use Rattle.c8_game.specs.declared.row.Row.{Row}
-use Rattle.c8_board.specs.Tokens.{Begins}
+use Rattle.c8_live.specs.Tokens.{Begins}
 use Rattle.c8_worker_tests.specs.Idle.{idle, idle_rows}
 
 pub idle_begins : (rows : List Row) (n count : ℕ) → rows ≡ idle_rows n → n ≤ count → Begins rows (idle_rows count)

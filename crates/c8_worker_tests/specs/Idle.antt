@@ -6,7 +6,7 @@ use Rattle.c8_machine.specs.declared.machine.Machine.{Machine}
 use Rattle.c8_machine.specs.State.{state}
 use Rattle.c8_machine.specs.Serial.{serial}
 use Rattle.c8_digest.specs.Origin.{first_origin}
-use Rattle.c8_board.specs.Starts.{StartValue, start_of}
+use Rattle.c8_live.specs.Starts.{StartValue, start_of}
 
 abbrev pub idle : Row
 idle = record { sets = record { 0 = 0 } ∷ record { 0 = 0 } ∷ record { 0 = 0 } ∷ record { 0 = 0 } ∷ [] }

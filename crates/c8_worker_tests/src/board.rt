@@ -1,13 +1,13 @@
 //! One thread with a pen and two viewers. Another implementation of SHA-256 gave the bits, from state bytes that were
 //! written by hand.
 ghost use Rattle.std.specs.Prelude.{◌≡◌, [], IfOk};
-ghost use Rattle.c8_board.specs.Tokens.{new_viewer};
+ghost use Rattle.c8_live.specs.Tokens.{new_viewer};
 ghost use Rattle.c8_worker_tests.specs.Idle.{first_start};
 
 use crate::run::{Publisher, counting};
-use c8_board::laws::the_first_start_is_serial;
-use c8_board::{Board, Look, Pen, Viewer};
 use c8_game::Game;
+use c8_live::laws::the_first_start_is_serial;
+use c8_live::{Board, Look, Pen, Viewer};
 use c8_machine::Machine;
 use std::alloc::Global;
 use std::test::Fail;

@@ -2,9 +2,9 @@
 ghost use Rattle.std.specs.Prelude.{◌≡◌, ◌≤◌, []};
 ghost use Rattle.c8_worker_tests.specs.Idle.{IsIdleRun, first_start, idle_rows};
 
-use c8_board::laws::the_first_start_is_serial;
-use c8_board::{Board, Pen};
 use c8_game::{Game, Keys, MOST_FRAMES, Row};
+use c8_live::laws::the_first_start_is_serial;
+use c8_live::{Board, Pen};
 use c8_machine::Machine;
 use std::alloc::Global;
 use std::test::Fail;

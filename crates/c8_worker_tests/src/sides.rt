@@ -1,16 +1,16 @@
 //! The players of a game, each with the arguments of its worker.
 ghost use Rattle.std.specs.Prelude.{◌≡◌, IfOk};
-ghost use Rattle.c8_board.specs.Starts.{origin_from};
+ghost use Rattle.c8_live.specs.Starts.{origin_from};
 ghost use Rattle.c8_known.specs.Confirmed.{confirmed_rows};
 ghost use Rattle.c8_peer.specs.Peer.{known_by, begun_by};
 ghost use Rattle.c8_live.specs.Published.{MayShow, pen_at};
 
-use c8_board::{Board, Look, Pen, Viewer};
 use c8_disk::MemDisk;
 use c8_game::{Game, Keys, Player};
-use c8_inlet::inlet;
 use c8_keys::key_sets;
-use c8_live::{Counters, KeySource, Relay, Standing, game_worker, open_board};
+use c8_live::{
+    Board, Counters, KeySource, Look, Pen, Relay, Standing, Viewer, game_worker, inlet, open_board,
+};
 use c8_machine::Machine;
 use c8_peer::Peer;
 use c8_session::Session;

@@ -4,8 +4,8 @@ ghost use Rattle.c8_worker_tests.specs.Idle.{first_start};
 
 use crate::board::opened;
 use crate::run::{Publisher, counting};
-use c8_board::{Board, Pen, Viewer};
 use c8_game::Game;
+use c8_live::{Board, Pen, Viewer};
 use std::test::Fail;
 use std::thread::join;
 

@@ -13,7 +13,7 @@ use Rattle.c8_digest.specs.StateBytes.{mark_of}
 use Rattle.c8_digest.specs.Marks.{mark_step, mark_at}
 use Rattle.c8_roll.specs.Roll.{mark_after, marks_up_to}
 use Rattle.c8_roll.specs.checked.RollLaws.{marks_on_the_way}
-use Rattle.c8_check.specs.Checks.{begun_at}
+use Rattle.c8_record.specs.Checks.{begun_at}
 use Rattle.c8_known.specs.declared.error.KnownError.{KnownError}
 use Rattle.c8_known.specs.declared.error.KnownError.TheVariants as knowns
 use Rattle.c8_known.specs.Journal.{Record, held, count, has_leave}

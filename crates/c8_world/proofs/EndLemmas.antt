@@ -20,7 +20,7 @@ use Rattle.c8_known.specs.Confirmed.{row, rows_below}
 use Rattle.c8_known.specs.checked.ConfirmedLaws.{map_same}
 use Rattle.c8_record.specs.Body.{body_of, records_of}
 use Rattle.c8_record.specs.Allowed.{IsJournal}
-use Rattle.c8_check.specs.Checks.{ChecksValue}
+use Rattle.c8_record.specs.Checks.{ChecksValue}
 use Rattle.c8_record.specs.Replay.{AreJournalBodies, IsRefusal, IsReplayed}
 use Rattle.c8_record.specs.declared.error.ReplayError.{ReplayError}
 use Rattle.c8_peer.specs.State.{State}

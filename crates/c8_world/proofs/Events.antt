@@ -22,7 +22,7 @@ use Rattle.c8_known.specs.Fresh.{is_from_leaver, misfit, fresh_words}
 use Rattle.c8_known.specs.checked.StartLaws.{players_known}
 use Rattle.c8_window.specs.Window.{acked_more}
 use Rattle.c8_round.specs.Round.{ChairValue, report_of, with_report, with_have, is_ready}
-use Rattle.c8_check.specs.Checks.{Pieces, frames_of}
+use Rattle.c8_record.specs.Checks.{Pieces, frames_of}
 use Rattle.c8_peer.specs.Told.{Told, told_of}
 use Rattle.c8_refusals.specs.declared.error.Refused.TheVariants as refusals
 use Rattle.c8_peer.specs.State.{Memory, Saying, Call, Tick, Deliver, Say, Show, Leave, Decide, Reply, Outcome, answered, recorded, Checkpoint}

@@ -24,7 +24,7 @@ use Rattle.c8_digest.specs.Marks.{mark_at}
 use Rattle.c8_round.specs.Round.{is_ready}
 use Rattle.c8_record.specs.Body.{body_of, HasSpelling}
 use Rattle.c8_record.specs.declared.error.ReplayError.TheVariants as replays
-use Rattle.c8_check.specs.Checks.{opened_since, checks_of}
+use Rattle.c8_record.specs.Checks.{opened_since, checks_of}
 use Rattle.c8_peer.specs.Told.{told_of}
 use Rattle.c8_peer.specs.Opening.{Unfit}
 use Rattle.c8_peer.specs.Calls.{tick, leave, decide}

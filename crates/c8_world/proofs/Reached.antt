@@ -8,7 +8,7 @@ use Rattle.c8_game.specs.declared.row.Row.{Row}
 use Rattle.c8_machine.specs.Serial.{serial}
 use Rattle.c8_digest.specs.Origin.{Origin}
 use Rattle.c8_roll.specs.Roll.{RollValue, roll_since, roll_of, IsOnTheWay}
-use Rattle.c8_check.specs.Checks.{begun_at}
+use Rattle.c8_record.specs.Checks.{begun_at}
 use Rattle.c8_wire.specs.Packet.{Packet, IsPacket}
 use Rattle.c8_wire.specs.Spelling.{spelling, Spells}
 use Rattle.c8_hand.specs.Links.{link_to, LinkValue, LinksValue}

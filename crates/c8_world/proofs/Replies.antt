@@ -19,7 +19,7 @@ use Rattle.c8_known.specs.Known.{PlayerValue, KnownValue, player_in, count_in, k
 use Rattle.c8_known.specs.Confirmed.{confirmed}
 use Rattle.c8_known.specs.Fresh.{is_from_leaver, misfit, fresh_words}
 use Rattle.c8_round.specs.Round.{is_ready}
-use Rattle.c8_check.specs.Checks.{Pieces, frames_of}
+use Rattle.c8_record.specs.Checks.{Pieces, frames_of}
 use Rattle.c8_peer.specs.Told.{Told, told_of}
 use Rattle.c8_refusals.specs.declared.error.Refused.{Refused}
 use Rattle.c8_refusals.specs.declared.error.Refused.TheVariants as refusals

@@ -5,7 +5,7 @@ use Rattle.c8_game.specs.Rules.{Rules}
 use Rattle.c8_machine.specs.Serial.{serial}
 use Rattle.c8_machine.specs.State.{State}
 use Rattle.c8_digest.specs.Origin.{run_since}
-use Rattle.c8_check.specs.Checks.{begun_at}
+use Rattle.c8_record.specs.Checks.{begun_at}
 use Rattle.c8_wire.specs.Packet.{Packet}
 use Rattle.c8_hand.specs.Links.{link_to}
 use Rattle.c8_known.specs.Journal.{Record, held, count, had_epoch, has_freeze, has_leave, cut_of}

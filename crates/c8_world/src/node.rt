@@ -15,14 +15,13 @@ ghost use Rattle.c8_world.specs.Turns.{answer_of, IsActedBy, IsOpenedAt, IsSpare
 
 use crate::answer::{Answer, Counts};
 use crate::ends::Standing;
-use c8_check::Checks;
 use c8_disk::{Arm, Disk, MemDisk};
 use c8_game::{Game, Keys, Player};
 use c8_known::Known;
 use c8_peer::laws::{openings_are_deeds, what_disks_tell};
 use c8_peer::{Kind, OpenError, Peer, Unsayable};
 use c8_record::laws::{bodies_are_the_spellings, journals_are_not_refused};
-use c8_record::replay_bytes;
+use c8_record::{Checks, replay_bytes};
 use c8_wire::{LONGEST_DATAGRAM, Watcher};
 use std::alloc::{AllocError, Global};
 

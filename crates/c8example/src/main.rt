@@ -4,9 +4,8 @@
 
 use c8_disk::MemDisk;
 use c8_game::{Game, Keys, Player};
-use c8_inlet::{Packet, Putter, Taker, inlet};
 use c8_keys::{Played, write_report};
-use c8_live::make_turn;
+use c8_live::{Packet, Putter, Taker, inlet, make_turn};
 use c8_peer::Peer;
 use c8_session::Session;
 use c8_transport::{Wire, WireFailed};

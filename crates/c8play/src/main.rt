@@ -1,9 +1,13 @@
 //! c8play: two to four people play CHIP-8 programs together over UDP.
 //!
-//! c8_cli has the command line, and runs what it asks for.
+//! `commands` has the command line, with the options of each command, and calls the crate that runs it.
 #![tactic(auto)]
 
+mod commands;
+mod help;
+
 use c8_front::{Terminals, Unhurried};
+use commands::answer;
 use std::env;
 use std::io::IsTerminal;
 use std::process::ExitCode;
@@ -15,7 +19,7 @@ fn main(rt: HostRuntime) -> ExitCode {
         input: input.is_terminal(),
         output: out.is_terminal(),
     };
-    c8_cli::answer(
+    answer(
         &rt,
         args,
         input,

@@ -1,6 +1,6 @@
 //! HMAC-SHA256 by the vectors of RFC 4231, section 4. The fifth gives the first 16 bytes alone.
 
-use c8_seal::hmac;
+use c8_transport::hmac;
 use std::alloc::Global;
 
 /// A key, a message and the first bytes of its tag, as hexadecimal text.

@@ -1,8 +1,9 @@
 //! A wire in memory that gives what was sent over it, and notes the senders that a wire above names.
 
 use arrayvec::ArrayVec;
-use c8_sealed::{Counters, Seal, SealKeys, Sealer, Secret, Secrets};
-use c8_transport::{LONGEST_READ, Traffic, Wire, WireFailed};
+use c8_transport::{
+    Counters, LONGEST_READ, Seal, SealKeys, Sealer, Secret, Secrets, Traffic, Wire, WireFailed,
+};
 use c8_wire::Seat;
 use std::time::Duration;
 

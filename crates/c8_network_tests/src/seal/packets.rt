@@ -1,6 +1,6 @@
 //! The tags of another implementation.
 
-use c8_seal::{Key, LONGEST_SEALED};
+use c8_transport::{Key, LONGEST_SEALED};
 
 const SESSION: u64 = 0x0123_4567_89ab_cdef;
 

@@ -1,8 +1,7 @@
 //! The texts of secrets.
 
 use crate::seal::loops::{Has, Loop, ONE, PLAYERS, SESSION, TWO, WATCHERS, sealer_of};
-use c8_sealed::{Sealed, Secret, SecretError, Secrets};
-use c8_transport::Wire;
+use c8_transport::{Sealed, Secret, SecretError, Secrets, Wire};
 
 /// Whether a text is that of a secret.
 fn is_read(text: &[u8]) -> bool {

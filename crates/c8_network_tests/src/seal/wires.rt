@@ -1,9 +1,9 @@
 //! What a wire that seals gives, and what it turns away.
 
 use crate::seal::loops::{Has, Letter, Loop, ONE, SESSION, TWO, letter_of, sealer_of};
-use c8_seal::LONGEST_OPEN;
-use c8_sealed::Sealed;
-use c8_transport::{LONGEST_PACKET, LONGEST_READ, LONGEST_SENT, Losses, Wire};
+use c8_transport::{
+    LONGEST_OPEN, LONGEST_PACKET, LONGEST_READ, LONGEST_SENT, Losses, Sealed, Wire,
+};
 use c8_wire::{HEADER_LENGTH, Seat};
 use std::time::Duration;
 

@@ -1,5 +1,5 @@
 //! Each end in a thread of its own.
-use c8_inlet::{Packet, Putter, Taker, TooLong, inlet};
+use c8_live::{Packet, Putter, Taker, TooLong, inlet};
 use c8_transport::LONGEST_PACKET;
 use std::sync::Wait;
 use std::test::Fail;

@@ -7,9 +7,9 @@ use Rattle.c8_known.specs.Known.{KnownValue, known_of}
 use Rattle.c8_known.specs.Confirmed.{confirmed}
 use Rattle.c8_known.specs.Growth.{IsStillKnown}
 use Rattle.c8_digest.specs.Origin.{Origin}
-use Rattle.c8_check.specs.declared.checks.Checks.{Checks}
-use Rattle.c8_check.specs.Checks.{ChecksValue, all_pieces, piece_in, digest_of, checks_of, begun_at}
-use Rattle.c8_check.specs.Seen.{plan_of}
+use Rattle.c8_record.specs.declared.checks.Checks.{Checks}
+use Rattle.c8_record.specs.Checks.{ChecksValue, all_pieces, piece_in, digest_of, checks_of, begun_at}
+use Rattle.c8_record.specs.Seen.{plan_of}
 use Rattle.c8_roll.specs.Roll.{RollValue, roll_since, IsRollSince}
 use Rattle.c8_record.specs.Body.{record_of, records_of, Spells}
 use Rattle.c8_record.specs.Allowed.{IsAllowed}

@@ -7,7 +7,7 @@ use Rattle.c8_log.specs.Log.{LogValue}
 use Rattle.c8_log.specs.Journal.{JournalValue}
 use Rattle.c8_known.specs.Journal.{epoch}
 use Rattle.c8_known.specs.Known.{KnownValue, known_of}
-use Rattle.c8_check.specs.Checks.{ChecksValue, checks_of}
+use Rattle.c8_record.specs.Checks.{ChecksValue, checks_of}
 use Rattle.c8_record.specs.Body.{records_of}
 use Rattle.c8_record.specs.Replay.{AreJournalBodies}
 use Rattle.c8_refusals.specs.declared.error.OpenError.{OpenError}

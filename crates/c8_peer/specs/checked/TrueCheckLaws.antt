@@ -14,9 +14,9 @@ use Rattle.c8_known.specs.Known.{KnownValue, known_of}
 use Rattle.c8_known.specs.Confirmed.{confirmed, rows_below}
 use Rattle.c8_known.specs.Growth.{IsStillKnown}
 use Rattle.c8_known.specs.checked.ConfirmedLaws.{confirmed_rises, map_same}
-use Rattle.c8_check.specs.Checks.{Pieces, ChecksValue, no_checks, with_check, checks_of, opened_at, opened_since, or_first, begun_at}
-use Rattle.c8_check.specs.Checks.{save_bytes, before_piece}
-use Rattle.c8_check.specs.checked.CheckLaws.{opened_more}
+use Rattle.c8_record.specs.Checks.{Pieces, ChecksValue, no_checks, with_check, checks_of, opened_at, opened_since, or_first, begun_at}
+use Rattle.c8_record.specs.Checks.{save_bytes, before_piece}
+use Rattle.c8_record.specs.checked.OpenedLaws.{opened_more}
 use Rattle.c8_roll.specs.Roll.{mark_after, marks_up_to, IsOnTheWay}
 use Rattle.c8_roll.specs.checked.RollLaws.{first_on_the_way}
 use Rattle.c8_record.specs.Allowed.{IsAllowed, IsJournal}

@@ -1,8 +1,8 @@
 //! The call `checkpoint`, which records one piece of a checkpoint.
 ghost use Rattle.std.specs.Prelude.{◌≡◌, ◌≢◌, ◌<◌, ◌≤◌, MatchResult, OnOk, Ok, Err};
 ghost use Rattle.c8_known.specs.Confirmed.{confirmed};
-ghost use Rattle.c8_check.specs.Checks.{all_pieces, piece_in, save_bytes, digest_of, frames_of, with_piece, with_whole, MayCheck};
-ghost use Rattle.c8_check.specs.Seen.{value_of, plan_of};
+ghost use Rattle.c8_record.specs.Checks.{all_pieces, piece_in, save_bytes, digest_of, frames_of, with_piece, with_whole, MayCheck};
+ghost use Rattle.c8_record.specs.Seen.{value_of, plan_of};
 ghost use Rattle.c8_roll.specs.Seen.{value_of as seen};
 ghost use Rattle.c8_record.specs.Body.{body_of};
 ghost use Rattle.c8_peer.specs.State.{Checkpoint, Checked};
@@ -10,13 +10,12 @@ ghost use Rattle.c8_peer.specs.checked.Held.{next_record, next_said};
 
 use super::{Peer, go_on};
 use crate::check::Check;
-use c8_check::{Checks, PIECES};
 use c8_disk::Disk;
 use c8_game::Player;
 use c8_known::Known;
 use c8_log::BODY_LENGTH;
 use c8_record::laws::journals_stay_within_the_window;
-use c8_record::{Record, body_of};
+use c8_record::{Checks, PIECES, Record, body_of};
 use c8_refusals::CheckError;
 use c8_roll::Roll;
 use c8_wire::Run;

@@ -7,8 +7,8 @@ ghost use Rattle.c8_log.specs.Slots.{kept};
 ghost use Rattle.c8_known.specs.Journal.{epoch};
 ghost use Rattle.c8_known.specs.Known.{known_of};
 ghost use Rattle.c8_digest.specs.Origin.{origin_of};
-ghost use Rattle.c8_check.specs.Checks.{no_checks, or_first};
-ghost use Rattle.c8_check.specs.Seen.{value_of as checked};
+ghost use Rattle.c8_record.specs.Checks.{no_checks, or_first};
+ghost use Rattle.c8_record.specs.Seen.{value_of as checked};
 ghost use Rattle.c8_record.specs.Body.{records_of};
 ghost use Rattle.c8_record.specs.Replay.{AreJournalBodies};
 ghost use Rattle.c8_peer.specs.Opening.{last_epoch, unfit};
@@ -17,14 +17,13 @@ ghost use Rattle.c8_peer.specs.checked.OpenedParts.{disk_read, disk_begun, IsRea
 
 use super::Peer;
 use crate::memory::Memory;
-use c8_check::Checks;
 use c8_digest::Checkpoint;
 use c8_disk::{Disk, DiskError};
 use c8_game::{Game, Player};
 use c8_known::Known;
 use c8_log::{BODY_LENGTH, Journal, Log, LogError};
 use c8_record::laws::checkpoints_are_in_order;
-use c8_record::{Record, ReplayError, body_of, replay};
+use c8_record::{Checks, Record, ReplayError, body_of, replay};
 use c8_refusals::OpenError;
 use c8_roll::{Buffers, Roll};
 use std::alloc::{AllocError, Global};

@@ -5,7 +5,7 @@ ghost use Rattle.c8_machine.specs.State.{state};
 ghost use Rattle.c8_machine.specs.Serial.{serial};
 ghost use Rattle.c8_hand.specs.Links.{link_to};
 ghost use Rattle.c8_digest.specs.Origin.{run_since};
-ghost use Rattle.c8_check.specs.Checks.{frames_of, checks_of};
+ghost use Rattle.c8_record.specs.Checks.{frames_of, checks_of};
 ghost use Rattle.c8_known.specs.Known.{player_in, count_in, is_frozen_in, is_player};
 ghost use Rattle.c8_known.specs.Confirmed.{confirmed, confirmed_rows, best_rows};
 ghost use Rattle.c8_known.specs.Journal as journals;

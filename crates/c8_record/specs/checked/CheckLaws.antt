@@ -17,9 +17,9 @@ use Rattle.c8_known.specs.Journal.{Record, Head, Epoch, Own, Got, Freeze, Leave,
 use Rattle.c8_known.specs.Known.{KnownValue, with_record, known_of}
 use Rattle.c8_known.specs.Confirmed.{confirmed}
 use Rattle.c8_known.specs.checked.ConfirmedLaws.{confirmed_rises}
-use Rattle.c8_check.specs.Checks.{Pieces, ChecksValue, no_checks, with_check, checks_of, frames_of, origin_in, bytes_so_far, before_piece}
-use Rattle.c8_check.specs.Checks.{piece_length, is_next_after, may_take, MayCheck, opened_at, opened_since, or_first, begun_at}
-use Rattle.c8_check.specs.checked.CheckLaws.{opened_more}
+use Rattle.c8_record.specs.Checks.{Pieces, ChecksValue, no_checks, with_check, checks_of, frames_of, origin_in, bytes_so_far, before_piece}
+use Rattle.c8_record.specs.Checks.{piece_length, is_next_after, may_take, MayCheck, opened_at, opened_since, or_first, begun_at}
+use Rattle.c8_record.specs.checked.OpenedLaws.{opened_more}
 use Rattle.c8_record.specs.Allowed.{Past, past_of, IsAllowedAfter, IsJournal, IsInOrder, ArePieces, AreInOrder}
 use Rattle.c8_record.specs.checked.JournalLaws.{next_allowed, known_more, checks_more, journal_begins, journal_grows}
 

@@ -18,7 +18,7 @@ use Rattle.c8_known.specs.checked.OneMore.{one_more}
 use Rattle.c8_known.specs.checked.StartLaws.{players_known, known_at_start}
 use Rattle.c8_known.specs.checked.KnownLaws.{own_known, own_still, got_known, got_still, freeze_known, freeze_still, leave_known}
 use Rattle.c8_known.specs.checked.KnownLaws.{leave_still, cut_known, cut_still, still_same, still_more}
-use Rattle.c8_check.specs.Checks.{no_checks, with_check, checks_of}
+use Rattle.c8_record.specs.Checks.{no_checks, with_check, checks_of}
 use Rattle.c8_record.specs.Allowed.{Past, past_of, MayOwn, MayCut, IsAllowedAfter, IsAllowed, IsJournal}
 use Rattle.c8_record.specs.checked.Taken.{epoch_after}
 

@@ -6,7 +6,7 @@ use Rattle.c8_log.specs.Slots.{slot_length, body_of}
 use Rattle.c8_game.specs.Rules.{Rules, id_of}
 use Rattle.c8_known.specs.Journal.{Record, Head, Epoch, Own, Got, Freeze, Leave, Cut, State, Check, epoch}
 use Rattle.c8_known.specs.Known.{KnownValue, known_of, with_record, IsKnown}
-use Rattle.c8_check.specs.Checks.{ChecksValue, checks_of, with_check, may_take, MayCheck}
+use Rattle.c8_record.specs.Checks.{ChecksValue, checks_of, with_check, may_take, MayCheck}
 use Rattle.c8_record.specs.Body.{Spells, record_of, records_of}
 use Rattle.c8_record.specs.Replay.{AreJournalBodies}
 use Rattle.c8_record.specs.Allowed.{Past, IsHead, IsAllowedAfter}

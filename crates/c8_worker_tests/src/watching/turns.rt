@@ -3,8 +3,8 @@ ghost use Rattle.std.specs.Prelude.{◌≡◌};
 
 use crate::watching::letter::Letter;
 use crate::watching::played::{FIVE, ROOM, game_of, row_of};
-use c8_board::{Board, Viewer};
 use c8_game::Game;
+use c8_live::{Board, Viewer};
 use c8_machine::Machine;
 use c8_spectator::Spectator;
 use c8_transport::{Gate, LONGEST_PACKET, Traffic, Wire, WireFailed, Worker};

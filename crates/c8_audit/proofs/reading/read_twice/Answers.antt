@@ -1,6 +1,6 @@
 -- The first reading's HEAD names the player and room of both, and a fault of either reading is the file's.
 use Rattle.std.proofs.Common.{inl}
-use Rattle.c8_check.specs.Seen.{value_of}
+use Rattle.c8_record.specs.Seen.{value_of}
 use Rattle.c8_game.specs.Rules.{id_of}
 use Rattle.c8_log.specs.Slots.{kept}
 use Rattle.c8_audit.specs.Images.{first_bytes, later_bytes}

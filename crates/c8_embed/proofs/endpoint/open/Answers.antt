@@ -2,9 +2,9 @@
 use Rattle.std.proofs.Common.{Bool, Some, Ok, Err, Option, subst, sym, ap, refl}
 use Rattle.std.specs.Prelude.{◌↔◌, IsTrue}
 use Rattle.c8_wire.specs.declared.header.Seat.{Seat}
-use Rattle.c8_sealed.specs.Counters.{IsNewest}
-use Rattle.c8_sealed.specs.Given.{GivenValue, counters_of}
-use Rattle.c8_sealed.specs.Sealer.{SealerValue}
+use Rattle.c8_transport.specs.Counters.{IsNewest}
+use Rattle.c8_transport.specs.Given.{GivenValue, counters_of}
+use Rattle.c8_transport.specs.Sealer.{SealerValue}
 use Rattle.c8_embed.specs.Endpoint.{opened_as, IsOpenedAs, IsSenderOf}
 use Rattle.c8_embed.proofs.endpoint.open.Goals as goal
 

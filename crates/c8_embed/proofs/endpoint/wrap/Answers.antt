@@ -1,6 +1,6 @@
 -- Behind a sealer the packet is the sealed datagram, and a sealer that refuses stays as it was.
 use Rattle.std.proofs.Common.{◌∙◌, Some, Option, subst, sym, ap, refl}
-use Rattle.c8_sealed.specs.Sealer.{SealerValue}
+use Rattle.c8_transport.specs.Sealer.{SealerValue}
 use Rattle.c8_embed.specs.Endpoint.{IsWrapped}
 use Rattle.c8_embed.proofs.endpoint.wrap.Goals as goal
 

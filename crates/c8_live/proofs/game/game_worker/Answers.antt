@@ -2,8 +2,8 @@
 use Rattle.std.proofs.Common.{◌≡◌, ◌+◌, refl, length, List, ap, subst, sym, ◌∙◌, arith}
 use Rattle.std.proofs.lemmas.Result.{err_from_is_err_and}
 use Rattle.c8_game.specs.declared.row.Row.{Row}
-use Rattle.c8_board.specs.Starts.{origin_from}
-use Rattle.c8_board.specs.Tokens.{PenValue, Begins}
+use Rattle.c8_live.specs.Starts.{origin_from}
+use Rattle.c8_live.specs.Tokens.{PenValue, Begins}
 use Rattle.c8_known.specs.Confirmed.{confirmed_rows}
 use Rattle.c8_peer.specs.Peer.{PeerValue, known_by, begun_by, IsSound}
 use Rattle.c8_live.specs.Published.{IsShown}

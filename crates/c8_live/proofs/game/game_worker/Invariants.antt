@@ -1,6 +1,6 @@
 -- So many turns were made, the pen shows what the peer has confirmed, and its machine began where it did at first.
 use Rattle.std.specs.Prelude.{◌≡◌, length}
-use Rattle.c8_board.specs.Tokens.{Begins}
+use Rattle.c8_live.specs.Tokens.{Begins}
 use Rattle.c8_known.specs.Confirmed.{confirmed_rows}
 use Rattle.c8_peer.specs.Peer.{known_by, begun_by, IsSound}
 use Rattle.c8_live.specs.Published.{IsShown}

@@ -1,7 +1,7 @@
 -- The machine is the run of all confirmed rows from the pen's start, and they are no more than the game's frames.
 use Rattle.std.proofs.Common.{length, refl, sym, ap, ◌∙◌, arith}
 use Rattle.std.proofs.lemmas.List.FromFn.{length-map-range_with_len}
-use Rattle.c8_board.specs.Tokens.{PenValue}
+use Rattle.c8_live.specs.Tokens.{PenValue}
 use Rattle.c8_game.specs.Rules.{Rules}
 use Rattle.c8_digest.specs.Origin.{Origin, run_since}
 use Rattle.c8_known.specs.Confirmed.{row, confirmed, confirmed_rows}

@@ -3,7 +3,7 @@ use Rattle.std.proofs.Common.{◌≡◌, ◌*◌, min, length, Ok, false}
 use Rattle.c8_disk.specs.Runs.{ReadsOnly}
 use Rattle.c8_disk.specs.Asks.{Asks, Reads}
 use Rattle.c8_log.specs.Slots.{kept}
-use Rattle.c8_check.specs.Seen.{value_of as value_in}
+use Rattle.c8_record.specs.Seen.{value_of as value_in}
 use Rattle.c8_record.specs.checked.Taken.{IsReadTo}
 use Rattle.c8_record.proofs.replaying.replay.Given as goal
 

@@ -1,5 +1,5 @@
 -- The bodies that the bytes keep are taken one after another, all of them or up to a refused one.
-use Rattle.c8_check.specs.Seen.{value_of as value_in}
+use Rattle.c8_record.specs.Seen.{value_of as value_in}
 use Rattle.c8_log.specs.Slots.{kept}
 use Rattle.c8_record.proofs.ReplayLemmas.{read_none, read_of_game, read_more}
 use Rattle.c8_record.proofs.replaying.replay_bytes.Goals as goal

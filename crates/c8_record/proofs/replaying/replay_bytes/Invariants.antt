@@ -1,7 +1,7 @@
 -- The first `n` bodies of the bytes are taken, of as many as the bytes keep.
 use Rattle.std.proofs.Common.{◌≡◌, length}
 use Rattle.c8_log.specs.Slots.{kept}
-use Rattle.c8_check.specs.Seen.{value_of as value_in}
+use Rattle.c8_record.specs.Seen.{value_of as value_in}
 use Rattle.c8_record.specs.checked.Taken.{IsReadTo}
 use Rattle.c8_record.proofs.replaying.replay_bytes.Given as goal
 

@@ -3,8 +3,8 @@ use Rattle.std.proofs.Common.{◌≡◌, ◌∙◌, sym, ap, subst, rules}
 use Rattle.std.proofs.lemmas.Result.{err_from_is_err_and}
 use Rattle.c8_known.specs.Journal.{Record}
 use Rattle.c8_known.specs.Known.{with_record}
-use Rattle.c8_check.specs.Checks.{with_check}
-use Rattle.c8_check.specs.Seen.{value_of as value_in}
+use Rattle.c8_record.specs.Checks.{with_check}
+use Rattle.c8_record.specs.Seen.{value_of as value_in}
 use Rattle.c8_record.specs.Body.{Spells, record_of}
 use Rattle.c8_record.specs.Allowed.{Past, IsAllowedAfter}
 use Rattle.c8_record.specs.Lent.{value_of}

@@ -2,7 +2,7 @@
 use Rattle.std.proofs.Common.{◌≡◌, ◌+◌, ◌/◌, ℕ, List, length, Some, sym, ap, subst, ◌∙◌, arith}
 use Rattle.std.specs.List.{slice_get}
 use Rattle.std.proofs.lemmas.Result.{err_from_is_err_and}
-use Rattle.c8_check.specs.Seen.{value_of as value_in}
+use Rattle.c8_record.specs.Seen.{value_of as value_in}
 use Rattle.c8_record.specs.checked.Taken.{IsReadTo}
 use Rattle.c8_record.proofs.ReplayLemmas.{read_of_game, read_more, read_bad, refused_there}
 use Rattle.c8_record.proofs.replaying.take_slots.Goals as goal

@@ -1,6 +1,6 @@
 -- The bodies of the slots so far are taken, whichever list of bodies goes on with these slots.
 use Rattle.std.proofs.Common.{◌+◌, ℕ, List}
-use Rattle.c8_check.specs.Seen.{value_of as value_in}
+use Rattle.c8_record.specs.Seen.{value_of as value_in}
 use Rattle.c8_record.specs.checked.Taken.{IsReadTo, AreNext}
 use Rattle.c8_record.proofs.replaying.take_slots.Given as goal
 

@@ -4,7 +4,7 @@ use Rattle.std.specs.Option.{is_some}
 use Rattle.c8_known.specs.Journal.{epoch}
 use Rattle.c8_peer.specs.Peer.{PeerValue}
 use Rattle.c8_disk.specs.declared.file.FileDisk.{FileDisk}
-use Rattle.c8_sealed.specs.Sealer.{SealerValue}
+use Rattle.c8_transport.specs.Sealer.{SealerValue}
 use Rattle.c8_embed.specs.declared.medium.Medium.{Medium}
 use Rattle.c8_embed.specs.Endpoint.{IsFirstSealer}
 use Rattle.c8_embed.proofs.endpoint.Endpoint.seal_with.Goals as goal

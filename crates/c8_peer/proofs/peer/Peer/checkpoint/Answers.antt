@@ -10,8 +10,8 @@ use Rattle.c8_known.specs.Journal.{Record, State}
 use Rattle.c8_known.specs.Known.{KnownValue, player_in}
 use Rattle.c8_known.specs.Growth.{IsStillKnown}
 use Rattle.c8_known.specs.checked.KnownLaws.{still_of_same}
-use Rattle.c8_check.specs.Checks.{ChecksValue, begun_at}
-use Rattle.c8_check.specs.Seen.{value_of as checked}
+use Rattle.c8_record.specs.Checks.{ChecksValue, begun_at}
+use Rattle.c8_record.specs.Seen.{value_of as checked}
 use Rattle.c8_roll.specs.Rollback.{KeepsRows, RunsFromOldest}
 use Rattle.c8_roll.specs.Seen.{value_of as seen, rows_run, last_run_of}
 use Rattle.c8_roll.specs.checked.RollLaws.{roll_rules}

@@ -3,7 +3,7 @@ use Rattle.std.proofs.Common.{◌∙◌, ap, sym, subst}
 use Rattle.c8_wire.specs.Lent.{packet_of}
 use Rattle.c8_known.specs.Known.{KnownValue, Plays}
 use Rattle.c8_known.specs.Confirmed.{confirmed}
-use Rattle.c8_check.specs.Checks.{begun_at}
+use Rattle.c8_record.specs.Checks.{begun_at}
 use Rattle.c8_record.specs.Body.{records_of}
 use Rattle.c8_roll.specs.Roll.{marks_since}
 use Rattle.c8_roll.specs.Seen.{value_of as seen}

@@ -1,8 +1,8 @@
 -- A record that stands is in the journal, what is known and the roll; one that the disk refuses is only pending.
 use Rattle.std.proofs.Common.{arith, length, Ok, Err, ◌+◌, ◌≤◌, ◌∙◌, ◌++◌, ◌∷◌, [], ap, List, ℕ, Some, sym, subst, ◌≡◌}
 use Rattle.c8_game.specs.Rules.{Rules}
-use Rattle.c8_check.specs.Checks.{begun_at}
-use Rattle.c8_check.specs.Seen.{value_of as checked}
+use Rattle.c8_record.specs.Checks.{begun_at}
+use Rattle.c8_record.specs.Seen.{value_of as checked}
 use Rattle.c8_roll.specs.checked.RollLaws.{roll_rules, roll_ticks}
 use Rattle.c8_roll.specs.Rollback.{KeepsRows}
 use Rattle.c8_roll.specs.Seen.{value_of as seen, rows_run, last_run_of}

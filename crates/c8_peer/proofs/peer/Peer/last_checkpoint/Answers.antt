@@ -1,7 +1,7 @@
 -- The checkpoints that the peer keeps are those of its journal.
 use Rattle.std.proofs.Common.{◌≡◌, ap, subst, ◌∙◌}
-use Rattle.c8_check.specs.Checks.{ChecksValue, frames_of, checks_of}
-use Rattle.c8_check.specs.Seen.{value_of as checked}
+use Rattle.c8_record.specs.Checks.{ChecksValue, frames_of, checks_of}
+use Rattle.c8_record.specs.Seen.{value_of as checked}
 use Rattle.c8_peer.specs.Peer.{PeerValue}
 use Rattle.c8_peer.proofs.peer.Peer.last_checkpoint.Goals as goal
 

@@ -3,7 +3,7 @@ use Rattle.std.proofs.Common.{◌≡◌, ◌⊎◌, ◌+◌, ◌≤◌, ap, subs
 use Rattle.c8_game.specs.Rules.{Rules}
 use Rattle.c8_known.specs.Known.{KnownValue}
 use Rattle.c8_known.specs.Confirmed.{confirmed}
-use Rattle.c8_check.specs.Checks.{begun_at}
+use Rattle.c8_record.specs.Checks.{begun_at}
 use Rattle.c8_record.specs.Body.{records_of}
 use Rattle.c8_roll.specs.Seen.{last_run_of}
 use Rattle.c8_peer.specs.Peer.{PeerValue, known_by, begun_by}

@@ -8,7 +8,7 @@ use Rattle.c8_disk.specs.checked.AsksLaws.{asks_after}
 use Rattle.c8_record.specs.Body.{records_of}
 use Rattle.c8_peer.specs.Opened.{bodies_found, AllRead}
 use Rattle.c8_digest.specs.Origin.{origin_of}
-use Rattle.c8_check.specs.Seen.{value_of as checked}
+use Rattle.c8_record.specs.Seen.{value_of as checked}
 use Rattle.c8_roll.specs.Seen.{value_of as seen, last_run_of}
 use Rattle.c8_peer.specs.State.{fresh_memory}
 use Rattle.c8_peer.specs.checked.OpenedParts.{BeginRun, IsBegun, IsNotBegun, BeginningLeaves}

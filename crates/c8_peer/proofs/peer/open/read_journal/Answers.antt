@@ -7,7 +7,7 @@ use Rattle.c8_log.specs.Asked.{Opening as OpenLog, told_by as told_by_log}
 use Rattle.c8_disk.specs.declared.error.DiskError.TheVariants.{Failed, Full}
 use Rattle.c8_disk.specs.Asks.{Asks}
 use Rattle.c8_known.specs.Journal.{epoch}
-use Rattle.c8_check.specs.Seen.{value_of}
+use Rattle.c8_record.specs.Seen.{value_of}
 use Rattle.c8_record.specs.Body.{records_of}
 use Rattle.c8_record.specs.Replay.{told_by}
 use Rattle.c8_peer.specs.Opened.{ReadRun}

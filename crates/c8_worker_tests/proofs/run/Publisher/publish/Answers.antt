@@ -2,7 +2,7 @@
 use Rattle.std.proofs.Common.{sym, ◌∙◌}
 use Rattle.std.proofs.lemmas.List.{length-replicate}
 use Rattle.c8_digest.specs.Origin.{run_since}
-use Rattle.c8_board.specs.Starts.{origin_from}
+use Rattle.c8_live.specs.Starts.{origin_from}
 use Rattle.c8_worker_tests.specs.Idle.{idle, idle_rows}
 use Rattle.c8_worker_tests.proofs.Idle.{idle_begins}
 use Rattle.c8_worker_tests.proofs.run.Publisher.publish.Goals as goal

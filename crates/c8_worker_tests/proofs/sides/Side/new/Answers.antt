@@ -1,6 +1,6 @@
 -- A new side's pen and viewer are of its own board, which shows what its peer has confirmed.
 use Rattle.std.proofs.Common.{ap, ◌∙◌}
-use Rattle.c8_board.specs.Tokens.{PenValue}
+use Rattle.c8_live.specs.Tokens.{PenValue}
 use Rattle.c8_known.specs.Confirmed.{confirmed_rows}
 use Rattle.c8_peer.specs.Peer.{known_by, begun_by}
 use Rattle.c8_worker_tests.proofs.sides.Side.new.Goals as goal

@@ -1,7 +1,7 @@
 -- The disk of a peer that is away has a journal, so its replay is not refused and gives what the player knows.
 use Rattle.std.proofs.Common.{◌≡◌, ℕ, List, Some, sym, subst}
 use Rattle.c8_log.specs.Slots.{kept}
-use Rattle.c8_check.specs.Seen.{value_of}
+use Rattle.c8_record.specs.Seen.{value_of}
 use Rattle.c8_record.specs.Replay.{IsReplayed}
 use Rattle.c8_world.specs.declared.node.Node.{Node}
 use Rattle.c8_world.specs.Nodes.{IsNode}

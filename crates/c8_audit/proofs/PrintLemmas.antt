@@ -1,0 +1,34 @@
+-- What is printed, line by line.
+use Rattle.std.proofs.Common.{◌≡◌, ℕ, List, [], ◌++◌, codes, Option, Some, None, Result, Ok, Err, sym, subst}
+use Rattle.std.specs.Prelude.{OnOk, IfSome, option_map}
+use Rattle.std.specs.Io.KnownBytes.{Appends}
+use Rattle.std.proofs.KnownBytes.{Appends-trans}
+use Rattle.c8_game.specs.declared.row.Player.{Player}
+use Rattle.c8_audit.specs.declared.verdict.Verdicts.{Verdicts}
+use Rattle.c8_keys.specs.Report.{Grows}
+use Rattle.c8_keys.specs.checked.Grows.{grows_then}
+use Rattle.c8_audit.specs.Printed.{checks_text, verdicts_text, Tells}
+
+pub true_checks : {T E : Type 0} (before after : Option (List ℕ)) (untrue : Option Player) (told : Result T E) → untrue ≡ None
+    → OnOk told (Appends before after (codes "checks yes\n"))
+    → OnOk told ((check : ℕ) × Appends before after (checks_text untrue check))
+true_checks before after untrue (Ok done) none appends = (0, subst (λ (o : Option Player). Appends before after (checks_text o 0)) (sym none) appends)
+true_checks before after untrue (Err error) none appends = tt
+
+-- a text that may be unknown, but is known
+pub some_of : (f : List ℕ → List ℕ) (P : List ℕ → Type 0) (o : Option (List ℕ)) (x : List ℕ) → o ≡ Some x → IfSome (option_map f o) P
+    → (y : List ℕ) × P y
+some_of f P (Some z) x is has = (f z, has)
+some_of f P None x is has = absurd cc
+
+-- the verdicts, after the lines of the journals, and before what follows
+pub tells_by : (a b c d e f : Option (List ℕ)) (verdicts : Verdicts) → Grows a b → Grows b c → Grows c d
+    → (check : ℕ) × Appends d e (verdicts_text verdicts check) → Grows e f → Tells a f verdicts
+tells_by a b c d e f verdicts players empty dropped told after =
+    let before = grows_then a c d (grows_then a b c players empty) dropped in (
+      before.0,
+      told.0,
+      after.0,
+      Appends-trans a d f before.0 (verdicts_text verdicts told.0 ++ after.0) before.1
+          (Appends-trans d e f (verdicts_text verdicts told.0) after.0 told.1 after.1),
+    )

@@ -1,0 +1,7 @@
+-- What was written of the players before this one, if they were dropped, was only added.
+use Rattle.c8_keys.specs.Report.{Grows}
+use Rattle.c8_audit.proofs.report.write_dropped.Given as goal
+
+-- some text was added so far
+abbrev pub invariant-loop-number : goal.invariant-loop-number
+invariant-loop-number g l = Grows (g.W.Write.contents l.initial.out) (g.W.Write.contents l.out)

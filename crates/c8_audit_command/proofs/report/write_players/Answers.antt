@@ -1,7 +1,0 @@
--- The line of one more journal is added behind the others.
-use Rattle.c8_keys.specs.checked.Grows.{grows_then}
-use Rattle.c8_audit_command.proofs.report.write_players.Goals as goal
-
-pub loop-number-preserved : goal.loop-number-preserved
-loop-number-preserved g c = grows_then (g.W.Write.contents c.args.out.now) (g.W.Write.contents c.loop-number.out)
-    (g.W.Write.contents c.write_player.new.out) c.loop-number.invariant c.in_ok-write_player.ensures

@@ -1,3 +1,0 @@
-pub mod Errors
-pub mod Audit
-pub mod Printed

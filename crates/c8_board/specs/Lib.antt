@@ -1,4 +1,0 @@
-pub mod Starts
-pub mod Words
-pub mod Tokens
-pub mod checked

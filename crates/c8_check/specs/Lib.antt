@@ -1,4 +1,0 @@
-pub mod Checks
-pub mod Read
-pub mod Seen
-pub mod checked

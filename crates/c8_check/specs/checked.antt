@@ -1,2 +1,0 @@
-pub mod CheckLaws
-pub mod PieceLaws

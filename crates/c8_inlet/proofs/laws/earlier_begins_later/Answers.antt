@@ -1,6 +1,0 @@
--- The beginning of a beginning is a beginning of the whole, so what was taken early stays one.
-use Rattle.c8_inlet.specs.checked.Beginnings.{prefix_of_longer}
-use Rattle.c8_inlet.proofs.laws.earlier_begins_later.Goals as goal
-
-pub returns : goal.returns
-returns c = prefix_of_longer

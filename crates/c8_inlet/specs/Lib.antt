@@ -1,3 +1,0 @@
-pub mod Inlet
-pub mod Seen
-pub mod checked

@@ -1,0 +1,93 @@
+//! The options of the commands `host` and `join`.
+
+use crate::arguments::{HOLD, MUTE};
+use crate::host_help::{HOST_ENDING, JOIN_ENDING};
+use c8_front::{Argument, Outline};
+use clap::builder::ValueParser;
+
+const GAME: Argument = Argument {
+    name: "GAME",
+    help: "The path of the game's text or of a .ch8 program, the same for both",
+    ..Argument::NEEDED
+};
+
+const PORT: Argument = Argument {
+    name: "port",
+    help: "The own UDP port [default: any]",
+    value: Some(ValueParser::Signed(1, 65535)),
+    ..Argument::NUMBER
+};
+
+const JOURNAL: Argument = Argument {
+    name: "journal",
+    help: "The path of the own journal, created if it is missing [default: beside the secret]",
+    ..Argument::FILE
+};
+
+const NO_JOURNAL: Argument = Argument {
+    name: "no-journal",
+    help: "Keeps no journal: a player whose program ends cannot come back",
+    ..Argument::FLAG
+};
+
+/// The command `host`.
+pub static HOST: Outline = Outline {
+    name: "host",
+    about: "Invites a friend to a game of two, and plays it at the keyboard as player 1",
+    ending: HOST_ENDING,
+    takes: &[
+        GAME,
+        Argument {
+            help: "The UDP port to open, on all addresses of this machine",
+            default: Some("4001"),
+            ..PORT
+        },
+        Argument {
+            name: "room",
+            help: "The number of the match [default: a new one each time]",
+            ..Argument::NUMBER
+        },
+        Argument {
+            name: "secret",
+            help: "The file of the secret, made if it is missing [default: GAME.secret]",
+            ..Argument::FILE
+        },
+        JOURNAL,
+        NO_JOURNAL,
+        HOLD,
+        MUTE,
+        Argument::EXPLAIN,
+    ],
+};
+
+/// The command `join`.
+pub static JOIN: Outline = Outline {
+    name: "join",
+    about: "Joins the game of a friend who hosts it, and plays it at the keyboard as player 2",
+    ending: JOIN_ENDING,
+    takes: &[
+        GAME,
+        Argument {
+            name: "ADDRESS",
+            help: "The friend's address and port, as 192.0.2.7:4001",
+            ..Argument::NEEDED
+        },
+        Argument {
+            name: "ROOM",
+            help: "The number of the match, which the friend's terminal shows",
+            value: Some(ValueParser::Unsigned(0, u64::MAX)),
+            ..Argument::NEEDED
+        },
+        PORT,
+        Argument {
+            name: "secret",
+            help: "The file of the secret; asks for its digits if it is missing [default: GAME.secret]",
+            ..Argument::FILE
+        },
+        JOURNAL,
+        NO_JOURNAL,
+        HOLD,
+        MUTE,
+        Argument::EXPLAIN,
+    ],
+};

@@ -1,0 +1,14 @@
+//! A log as a script.
+
+use crate::acts::write_act;
+use c8_rig::Note;
+use std::io;
+use std::io::Write;
+
+/// Writes a log as a script, one line for each note.
+pub fn write_script<W: Write>(out: &mut W, log: &[Note]) -> io::Result<()> {
+    for note in log {
+        write_act(out, note.act)?;
+    }
+    Ok(())
+}

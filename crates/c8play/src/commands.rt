@@ -1,0 +1,168 @@
+//! The command line.
+
+use crate::help::{ENDING, SIM_ENDING};
+use c8_audit::{AUDIT, audit_given};
+use c8_command::Status;
+use c8_front::{
+    Argument, Form, Outline, RUN, SHOW, Terminals, Threaded, is_explained, status_at, tell,
+    with_commands, word_of, words_in,
+};
+use c8_keys::run_files;
+use c8_match::{match_commands, match_given};
+use c8_replay::{REPLAY, replay_given};
+use c8_script::{RIG, rig_given, sim_files};
+use c8_show::show;
+use clap::{ArgMatches, Command};
+use std::alloc::{AllocError, Global};
+use std::env::Args;
+use std::fs::File;
+use std::io;
+use std::io::{Read, Write};
+use std::rt::Files;
+
+/// Runs the program with these arguments, and returns its exit status. `input` is standard input. Output goes to `out`,
+/// and refusals to `refused`.
+pub fn answer<R, I, W: Write, E: Write + Send>(
+    rt: &R,
+    args: io::Result<Args>,
+    input: I,
+    out: &mut W,
+    terminals: Terminals,
+    refused: &mut E,
+) -> Status
+where
+    R: Threaded,
+    I: Read + Drop,
+{
+    let ended = obey(rt, args, input, out, terminals, refused);
+    status_at(ended, refused)
+}
+
+/// Does what the arguments ask for. The error is a writer's, or that memory ran out.
+fn obey<R, I, W: Write, E: Write + Send>(
+    rt: &R,
+    args: io::Result<Args>,
+    input: I,
+    out: &mut W,
+    terminals: Terminals,
+    refused: &mut E,
+) -> io::Result<Status>
+where
+    R: Threaded,
+    I: Read + Drop,
+{
+    let Some(words) = words_in(rt.alloc(), args, refused)? else {
+        return Ok(Status::CommandLine);
+    };
+    let command = command(rt.alloc())?;
+    match command.try_get_matches_from(words.as_slice()) {
+        Ok(matches) => carry_out(rt, &matches, input, out, terminals, refused),
+        Err(error) => tell(rt.alloc(), &error, out, refused),
+    }
+}
+
+/// The command line of the program.
+fn command<'a>(alloc: Global) -> Result<Command<'a>, AllocError> {
+    let line = Command::new(alloc, "c8play")
+        .about("Plays CHIP-8 programs, alone or with others, and shows what a datagram says")
+        .version("0.1.0")
+        .after_help(ENDING)
+        .subcommand_required(true)
+        .arg_required_else_help(true);
+    let [peer, play, host, join, watch, secret, game] = match_commands();
+    let commands = [
+        &RUN, peer, play, host, join, watch, &REPLAY, &AUDIT, &SIM, &RIG, &SHOW, secret, game,
+    ];
+    with_commands(alloc, line, &commands)
+}
+
+/// The command `sim`.
+static SIM: Outline = Outline {
+    name: "sim",
+    about: "Plays all players of a game here, as a script says, and prints the answers",
+    ending: SIM_ENDING,
+    takes: &[
+        Argument {
+            name: "GAME",
+            help: "The path of the game's text",
+            ..Argument::NEEDED
+        },
+        Argument {
+            name: "SCRIPT",
+            help: "The path of the script: one event a line",
+            ..Argument::NEEDED
+        },
+        Argument {
+            name: "journals",
+            help: "Writes each player's journal to the folder DIR at the end, as journal1 and so on",
+            form: Form::Option("DIR"),
+            ..Argument::NEEDED
+        },
+        Argument::EXPLAIN,
+    ],
+};
+
+/// Does what a command line without a mistake asks for.
+fn carry_out<R, I, W: Write, E: Write + Send>(
+    rt: &R,
+    matches: &ArgMatches,
+    input: I,
+    out: &mut W,
+    terminals: Terminals,
+    refused: &mut E,
+) -> io::Result<Status>
+where
+    R: Threaded,
+    I: Read + Drop,
+{
+    let Some((name, given)) = matches.subcommand() else {
+        return Ok(Status::CommandLine);
+    };
+    match match_given(rt, name, given, input, terminals, out, refused)? {
+        Some(status) => Ok(status),
+        None => carry_out_alone(rt, name, given, out, refused),
+    }
+}
+
+/// Does what a command asks for that needs no other program.
+fn carry_out_alone<R, W: Write, E: Write + Send>(
+    rt: &R,
+    name: &str,
+    given: &ArgMatches,
+    out: &mut W,
+    refused: &mut E,
+) -> io::Result<Status>
+where
+    R: Threaded,
+{
+    match name {
+        "run" => {
+            let (game, keys) = (word_of(given, "GAME"), word_of(given, "KEYS"));
+            run_files(rt, game, keys, is_explained(given), out, refused)
+        }
+        "replay" => replay_given(rt, given, out, refused),
+        "audit" => audit_given(rt, given, out, refused),
+        "sim" => sim_given(rt, given, out, refused),
+        "rig" => rig_given(rt, given, out, refused),
+        "show" => {
+            let word = word_of(given, "HEX");
+            show(rt.alloc(), word, is_explained(given), out, refused)
+        }
+        _ => Ok(Status::CommandLine),
+    }
+}
+
+fn sim_given<R, W: Write, E: Write>(
+    rt: &R,
+    given: &ArgMatches,
+    out: &mut W,
+    refused: &mut E,
+) -> io::Result<Status>
+where
+    R: Files<File = File> + AllocGlobal,
+{
+    let (game, script) = (word_of(given, "GAME"), word_of(given, "SCRIPT"));
+    let journals = given.get_str("journals");
+    let explain = is_explained(given);
+    sim_files(rt, game, script, journals, explain, out, refused)
+}
