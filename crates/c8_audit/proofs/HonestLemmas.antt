@@ -1,5 +1,6 @@
 -- An honest match is never accused: all its readings have a place in one world.
 use Rattle.std.proofs.Common.{◌≡◌, ◌≢◌, ℕ, zero, suc, ◌-◌, ◌<◌, ◌≤◌, ◌⊎◌, inl, inr, List, [], ◌∷◌, ◌++◌, length, Bool, true, false, Option}
+use Rattle.c8_peer.specs.Runs.{never_opened}
 use Rattle.std.proofs.Common.{Some, None, refl, sym, ap, subst, ◌∙◌, arith}
 use Rattle.std.specs.Prelude.{if◌then◌else◌, option_to_list}
 use Rattle.std.specs.List.{slice_get}
@@ -16,7 +17,7 @@ use Rattle.c8_record.specs.Allowed.{IsOpening}
 use Rattle.c8_peer.specs.State.{State}
 use Rattle.c8_peer.specs.Steps.{Works}
 use Rattle.c8_peer.specs.Opening.{NoMemory, found, away}
-use Rattle.c8_world.specs.World.{World, never_opened, start, is_player, peer_of, journal_of, with_peer, Give, Event, Stop, Happening}
+use Rattle.c8_world.specs.World.{World, start, is_player, peer_of, journal_of, with_peer, Give, Event, Stop, Happening}
 use Rattle.c8_world.specs.World.{Answer, Stopped, After, give_to, acted, crashed, CanHappen, Chain, IsReached}
 use Rattle.c8_world.specs.Agreement.{IsPlayer}
 use Rattle.c8_audit.specs.Journals.{Readings}

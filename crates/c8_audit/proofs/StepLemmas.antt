@@ -1,5 +1,6 @@
 -- What each step of one peer keeps, a list of events keeps.
 use Rattle.std.proofs.Common.{◌≡◌, ◌≢◌, ℕ, ◌-◌, inl, inr, List, [], ◌∷◌, ◌++◌, length, Bool, true, false, cond, Option, Some, None, Ok}
+use Rattle.c8_peer.specs.Runs.{never_opened}
 use Rattle.std.proofs.Common.{refl, sym, subst, ◌∙◌, arith, slice_set, slice_index_or}
 use Rattle.std.specs.Prelude.{nat_le}
 use Rattle.std.specs.List.{slice_get}
@@ -11,7 +12,7 @@ use Rattle.c8_peer.specs.State as states
 use Rattle.c8_peer.specs.State.{Mode, Down, Away, State, Call}
 use Rattle.c8_peer.specs.Steps.{DiskOutcome, step}
 use Rattle.c8_peer.specs.Opening.{Opening, found, away, opened}
-use Rattle.c8_world.specs.World.{World, never_opened, is_player, peer_of, Act, Open, Tick, Say, Give, Leave, Decide, Check, Show, Hear}
+use Rattle.c8_world.specs.World.{World, is_player, peer_of, Act, Open, Tick, Say, Give, Leave, Decide, Check, Show, Hear}
 use Rattle.c8_world.specs.World.{Seen, Fresh, Event, Do, Stop, player_of, Happening, Answer, After, call_at_mode, call_at, open_at_mode}
 use Rattle.c8_world.specs.World.{give_to, hear_at, acted, crashed, after, Chain}
 use Rattle.c8_world.specs.Agreement.{IsPlayer}

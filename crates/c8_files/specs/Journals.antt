@@ -7,8 +7,8 @@ use Rattle.c8_disk.specs.declared.file.FileDisk.{FileDisk}
 use Rattle.c8_disk.specs.declared.mem_disk.MemDisk.{MemDisk}
 use Rattle.c8_disk.specs.contracts.file.FileDiskDisk.TheImpl as as_disk
 use Rattle.c8_disk.specs.contracts.mem_disk.MemDiskDisk.TheImpl as as_memory
-use Rattle.c8_files.specs.declared.journal.Journal.{Journal}
-use Rattle.c8_files.specs.declared.journal.Journal.TheVariants.{File, Memory}
+use Rattle.c8_files.specs.declared.journal.JournalDisk.{JournalDisk}
+use Rattle.c8_files.specs.declared.journal.JournalDisk.TheVariants.{File, Memory}
 use Rattle.c8_files.specs.declared.medium.Medium.{Medium}
 use Rattle.c8_files.specs.contracts.medium.Medium as row
 use Rattle.c8_files.specs.contracts.medium.MediumSystemFile.TheImpl as as_system
@@ -23,6 +23,6 @@ abbrev pub file_disk : Ghosts (FileDisk Medium)
 file_disk = as_disk.ghosts (row.the_row any) as_system.ghosts as_system.dict as_file.ghosts as_file.dict (impl [] tnil dnil)
 
 -- it holds of the disk of this journal, of whatever kind
-abbrev pub OfDisk : ((D : Type 0) → Ghosts D → D → Type 0) → Journal → Type 0
+abbrev pub OfDisk : ((D : Type 0) → Ghosts D → D → Type 0) → JournalDisk → Type 0
 OfDisk P (File disk) = P (FileDisk Medium) file_disk disk
 OfDisk P (Memory disk) = P MemDisk as_memory.ghosts disk

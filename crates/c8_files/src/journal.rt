@@ -22,17 +22,21 @@ const CALLS_OF_OPENING: u32 = 16;
 
 /// The disk of a journal.
 #[derive(Drop)]
-pub enum Journal<'t> {
+pub enum JournalDisk<'t> {
     /// It is in a file, and survives a crash.
     File(FileDisk<Medium<'t>>),
     /// It is in memory, and is lost when the program ends.
     Memory(MemDisk),
 }
 
-impl<'t> Journal<'t> {
+impl<'t> JournalDisk<'t> {
     /// Opens the journal in a file, which is created if it is missing, with room for 2^30 bytes. `trouble` keeps the
     /// system's error if the file fails, now or later.
-    pub fn in_file<R>(rt: &R, path: &str, trouble: &'t Trouble) -> Result<Journal<'t>, FileError>
+    pub fn in_file<R>(
+        rt: &R,
+        path: &str,
+        trouble: &'t Trouble,
+    ) -> Result<JournalDisk<'t>, FileError>
     where
         R: Files<File = File> + AllocGlobal,
     {
@@ -40,14 +44,14 @@ impl<'t> Journal<'t> {
         match trouble.keep(OpenedFile::open(rt, path)) {
             Ok(file) => {
                 let disk = FileDisk::over(Medium { file, trouble }, bytes, CAPACITY)?;
-                Ok(Journal::File(disk))
+                Ok(JournalDisk::File(disk))
             }
             Err(_) => Err(FileError::Failed),
         }
     }
 
     /// Makes a journal in memory with room for a game's whole length.
-    pub fn in_memory(alloc: Global, game: &Game) -> Result<Journal<'t>, AllocError> {
+    pub fn in_memory(alloc: Global, game: &Game) -> Result<JournalDisk<'t>, AllocError> {
         let records = game
             .frames()
             .saturating_mul(u32::from(game.players()))
@@ -56,6 +60,6 @@ impl<'t> Journal<'t> {
         let calls = records
             .saturating_mul(CALLS_OF_RECORD)
             .saturating_add(CALLS_OF_OPENING);
-        Ok(Journal::Memory(MemDisk::new(alloc, bytes, calls)?))
+        Ok(JournalDisk::Memory(MemDisk::new(alloc, bytes, calls)?))
     }
 }

@@ -1,6 +1,6 @@
 //! The files of a match: its journal, and secrets.
 //!
-//! [`Journal`] is the disk of a match's journal: a file, or memory with room for a whole game. `medium` keeps the system's
+//! [`JournalDisk`] is the disk of a match's journal: a file, or memory with room for a whole game. `medium` keeps the system's
 //! error if the file fails ([`Trouble`]); `syncs` measures whether a disk is quick enough for a match
 //! ([`warn_of_a_slow_disk`], [`slow_record`]).
 //!
@@ -15,7 +15,7 @@ mod secrets;
 mod syncs;
 
 pub use command::{SECRET, random_bytes, secret_given};
-pub use journal::Journal;
+pub use journal::JournalDisk;
 pub use medium::{Medium, Trouble};
 pub use secrets::{SecretFault, make_secret, secret_in, warn_of_readers, write_secret};
 pub use syncs::{slow_frame, slow_record, warn_of_a_slow_disk};

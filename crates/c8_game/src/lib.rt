@@ -18,6 +18,6 @@ pub use bounds::{MOST_FRAMES, MOST_INPUTS, MOST_PLAYERS, MOST_PROGRAM};
 pub use error::GameError;
 pub use game::Game;
 pub use row::{Keys, NoPlayer, Player, Row};
-pub use text::field::Field;
+pub use text::field::{FIELDS, Field};
 pub use text::lines::Lines;
 pub use wire::WireVersion;

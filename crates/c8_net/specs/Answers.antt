@@ -4,7 +4,7 @@ use Rattle.c8_command.specs.declared.status.Status.{Status}
 use Rattle.c8_command.specs.declared.status.Status.TheVariants.{Done}
 use Rattle.c8_game.specs.Rules.{Rules}
 use Rattle.c8_files.specs.Journals.{OfDisk}
-use Rattle.c8_files.specs.declared.journal.Journal.{Journal}
+use Rattle.c8_files.specs.declared.journal.JournalDisk.{JournalDisk}
 use Rattle.c8_keys.specs.Report.{IsTold, Reports}
 use Rattle.c8_keys.specs.declared.lines.Played.{Played}
 use Rattle.c8_refusals.specs.declared.error.OpenError.TheVariants as opens
@@ -25,13 +25,13 @@ IsUnbegun (Socket error) = (error ≡ sockets.Remotes) ⊎ (error ≡ sockets.Ad
 IsUnbegun Lost = ⊥
 
 -- a match was played on the journal, or failed on it
-abbrev pub IsMatchOn : Journal → Rules → ℕ → ℕ → Result Played PeerError → Type 0
+abbrev pub IsMatchOn : JournalDisk → Rules → ℕ → ℕ → Result Played PeerError → Type 0
 IsMatchOn journal rules room me (Ok played) = OfDisk (λ D g disk. HasPlayed g disk rules room me played) journal
 IsMatchOn journal rules room me (Err error) = OfDisk (λ D g disk. HasFailed g disk rules room me error) journal
 
 abbrev pub IsOutcome : ℕ → ℕ → Result Played PeerError → Type 0
 IsOutcome room me outcome =
-    ((journal : Journal) × (rules : Rules) × IsMatchOn journal rules room me outcome)
+    ((journal : JournalDisk) × (rules : Rules) × IsMatchOn journal rules room me outcome)
     ⊎ ((error : PeerError) × IsUnbegun error × (outcome ≡ Err error))
 
 -- a player's command ends with such an outcome
@@ -41,7 +41,8 @@ HasAnswered room me old new status = (outcome : Result Played PeerError) × IsOu
 -- the report of a match on a journal is added
 abbrev pub HasReported : Option (List ℕ) → Option (List ℕ) → Type 0
 HasReported old new =
-    (room me : ℕ) × (journal : Journal) × (rules : Rules) × (played : Played) × IsMatchOn journal rules room me (Ok played) × Reports old new played
+    (room me : ℕ) × (journal : JournalDisk) × (rules : Rules) × (played : Played) × IsMatchOn journal rules room me (Ok played)
+    × Reports old new played
 
 -- done only after a match, with its report
 abbrev pub EndsMatch : Option (List ℕ) → Option (List ℕ) → Status → Type 0

@@ -18,7 +18,7 @@ use crate::play::{Prepared, Unprepared, perform_on, play_on, prepare};
 use crate::seals::{seal_at, warn_of_secrets};
 use c8_command::{Refusal, Status, TextError};
 use c8_disk::FileError;
-use c8_files::{Journal, Trouble, warn_of_a_slow_disk};
+use c8_files::{JournalDisk, Trouble, warn_of_a_slow_disk};
 use c8_front::{System, Terminals, Threaded};
 use c8_game::Game;
 use c8_keys::{Played, write_report};
@@ -177,7 +177,7 @@ fn play_in<R, E>(
     rt: &R,
     asked: &Asked<'_, '_>,
     it: Prepared,
-    journal: Journal<'_>,
+    journal: JournalDisk<'_>,
     progress: &mut E,
 ) -> Result<Played, PeerError>
 where
@@ -186,8 +186,8 @@ where
     ensures { IsMatchOn journal.entry it.game asked.now.room asked.now.player.number result }
 {
     match journal {
-        Journal::File(disk) => play_on(rt, asked, it, disk, progress),
-        Journal::Memory(disk) => play_on(rt, asked, it, disk, progress),
+        JournalDisk::File(disk) => play_on(rt, asked, it, disk, progress),
+        JournalDisk::Memory(disk) => play_on(rt, asked, it, disk, progress),
     }
 }
 
@@ -196,7 +196,7 @@ fn perform_in<R, P, E>(
     rt: &R,
     asked: &Asked<'_, '_>,
     it: Prepared,
-    journal: Journal<'_>,
+    journal: JournalDisk<'_>,
     performance: P,
     progress: &mut E,
 ) -> Result<Played, PeerError>
@@ -207,8 +207,8 @@ where
     ensures { IsMatchOn journal.entry it.game asked.now.room asked.now.player.number result }
 {
     match journal {
-        Journal::File(disk) => perform_on(rt, asked, it, disk, performance, progress),
-        Journal::Memory(disk) => perform_on(rt, asked, it, disk, performance, progress),
+        JournalDisk::File(disk) => perform_on(rt, asked, it, disk, performance, progress),
+        JournalDisk::Memory(disk) => perform_on(rt, asked, it, disk, performance, progress),
     }
 }
 
@@ -283,7 +283,7 @@ fn begun<'a, 't, R, I>(
     asked: &Asked<'_, 'a>,
     input: I,
     trouble: &'t Trouble,
-) -> Result<(Prepared, Journal<'t>), Fault<'a>>
+) -> Result<(Prepared, JournalDisk<'t>), Fault<'a>>
 where
     R: Files<File = File> + AllocGlobal,
     I: Read + Drop,
@@ -321,15 +321,15 @@ fn journal_at<'a, 't, R>(
     asked: &Asked<'_, 'a>,
     game: &Game,
     trouble: &'t Trouble,
-) -> Result<Journal<'t>, Fault<'a>>
+) -> Result<JournalDisk<'t>, Fault<'a>>
 where
     R: Files<File = File> + AllocGlobal,
     ensures { IfErr result (λ fault. IsUnbegun fault.error) }
 {
     let opened = if asked.has_no_journal() {
-        Journal::in_memory(rt.alloc(), game).map_err(FileError::from)
+        JournalDisk::in_memory(rt.alloc(), game).map_err(FileError::from)
     } else {
-        Journal::in_file(rt, asked.journal, trouble)
+        JournalDisk::in_file(rt, asked.journal, trouble)
     };
     match opened {
         Ok(journal) => Ok(journal),

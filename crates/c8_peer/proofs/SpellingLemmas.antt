@@ -57,13 +57,6 @@ append_low [] ys bound one two i = two i
 append_low (x ∷ xs) ys bound one two zero = one 0
 append_low (x ∷ xs) ys bound one two (suc i) = append_low xs ys bound (λ j. one (suc j)) two i
 
--- ---- digests
-
--- the first 8 bytes of a digest
-front_is_mark : (bytes : List ℕ) → IsMark (take 8 (sha256 bytes))
-front_is_mark bytes =
-    (omega (arith, length-take 8 (sha256 bytes), digest_length bytes), take_low (sha256 bytes) 8 (2 ^ 8) (digest_bytes_fit bytes))
-
 -- ---- inputs
 
 no_words : AreWords []

@@ -1,6 +1,6 @@
 //! The options of the command `play`, and what they ask for.
 
-use crate::desk::Pace;
+use crate::desk::Tempo;
 use crate::help::PLAY_ENDING;
 use c8_front::{Argument, Form, Outline, word_of};
 use c8_game::Player;
@@ -107,8 +107,8 @@ pub(crate) fn who_of(given: &ArgMatches<'_>) -> Option<Who> {
 }
 
 /// How fast the game goes; the parser has checked the ranges.
-pub(crate) fn pace_of(given: &ArgMatches<'_>) -> Pace {
-    Pace {
+pub(crate) fn pace_of(given: &ArgMatches<'_>) -> Tempo {
+    Tempo {
         rate: given.get_one::<u8>("rate").unwrap_or(60).max(1),
         hold: given.get_one::<u8>("hold").unwrap_or(9).max(1),
     }

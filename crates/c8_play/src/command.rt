@@ -7,7 +7,7 @@ ghost use Rattle.c8_play.specs.Answers.{HasReportedAlone, EndsPlay};
 use crate::alone::play_alone;
 use crate::arguments::{Who, pace_of, who_of};
 use crate::chime::Chime;
-use crate::desk::{Desk, Pace};
+use crate::desk::{Desk, Tempo};
 use crate::live::{Live, tell_lateness};
 use crate::terminal::Terminal;
 use c8_command::Status;
@@ -63,7 +63,7 @@ fn alone<R, W, E>(
     rt: &R,
     given: &ArgMatches<'_>,
     console: Terminal<'_, R>,
-    pace: Pace,
+    pace: Tempo,
     out: &mut W,
     refused: &mut E,
 ) -> io::Result<Status>

@@ -26,7 +26,7 @@ const SILENCE: u64 = 25;
 
 /// How fast a game goes, and how long a stroke counts if the keyboard reports no release.
 #[derive(Clone, Copy, Debug, PartialEq, Eq)]
-pub struct Pace {
+pub struct Tempo {
     /// The number of frames a second.
     pub rate: u8,
     /// How many frames a stroke counts for.
@@ -55,7 +55,7 @@ pub struct Desk<C> {
 
 impl<C: Console> Desk<C> {
     /// Prepares a console. If that fails, the person counts as gone.
-    pub fn new(console: C, pace: Pace) -> Desk<C> {
+    pub fn new(console: C, pace: Tempo) -> Desk<C> {
         let mut console = console;
         let now = console.now();
         let has_left = console.enter().is_err();

@@ -7,7 +7,7 @@ ghost use Rattle.c8_play.specs.declared.host_command.Begun.TheVariants as begun;
 ghost use Rattle.c8_net.specs.Answers.{EndsMatch};
 
 use crate::addresses::{LIST, own_addresses};
-use crate::desk::Pace;
+use crate::desk::Tempo;
 use crate::digits::{digits_in, is_secret};
 use crate::inviting::{invitation, note};
 use crate::journals::journal_for;
@@ -303,7 +303,7 @@ where
         ..wanted.asked(journal.as_str(), &remotes)
     };
     let hold = given.get_one::<u8>("hold").unwrap_or(9).max(1);
-    let pace = Pace { rate: RATE, hold };
+    let pace = Tempo { rate: RATE, hold };
     play_asked(rt, &asked, Live { console, pace }, out, refused)
 }
 

@@ -36,7 +36,7 @@ pub use arguments::{HOLD, MUTE, PLAY};
 pub use chime::Chime;
 pub use command::play_given;
 pub use console::{Console, Gone, KEY_BYTES};
-pub use desk::{Desk, Pace};
+pub use desk::{Desk, Tempo};
 pub use digits::digits_in;
 pub use exchange::Exchange;
 pub use host_arguments::{HOST, JOIN};

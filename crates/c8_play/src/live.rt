@@ -10,7 +10,7 @@ ghost use Rattle.c8_play.specs.Lead.{window_of, patience_of, frames_of};
 
 use crate::chime::Chime;
 use crate::console::Console;
-use crate::desk::{Desk, Pace};
+use crate::desk::{Desk, Tempo};
 use crate::lead::{Lead, hindmost};
 use crate::status::StatusRow;
 use c8_disk::Disk;
@@ -38,7 +38,7 @@ const MOST_RESTS: u16 = 1000;
 #[derive(Drop)]
 pub struct Live<C> {
     pub console: C,
-    pub pace: Pace,
+    pub pace: Tempo,
 }
 
 impl<C: Console + Drop> Performance for Live<C> {

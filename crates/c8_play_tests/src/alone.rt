@@ -5,7 +5,7 @@ ghost use Rattle.std.specs.Prelude.{◌≤◌};
 use crate::console::{Log, Marks, Sent, Still, Written};
 use c8_game::Game;
 use c8_keys::{Played, play};
-use c8_play::{Chime, Desk, Pace, play_alone};
+use c8_play::{Chime, Desk, Tempo, play_alone};
 use std::alloc::Global;
 use std::io::Write;
 
@@ -36,7 +36,7 @@ fn seen_at(alloc: Global, game: &Game, rate: u8) -> Log
     let clock = Still::new();
     let mut log = Log::new(alloc);
     let console = Written::new(&clock, &REPAINT, &mut log);
-    let mut desk = Desk::new(console, Pace { rate, hold: 9 });
+    let mut desk = Desk::new(console, Tempo { rate, hold: 9 });
     let _played = play_alone(game, &mut desk, Chime::new(true), 5);
     let _lateness = desk.end();
     log
@@ -107,7 +107,10 @@ fn played_by(
 {
     let clock = Still::new();
     let mut log = Log::new(alloc);
-    let mut desk = Desk::new(Written::new(&clock, sent, &mut log), Pace { rate, hold: 9 });
+    let mut desk = Desk::new(
+        Written::new(&clock, sent, &mut log),
+        Tempo { rate, hold: 9 },
+    );
     let played = play_alone(game, &mut desk, Chime::new(true), asked);
     let _lateness = desk.end();
     (played, log.marks)

@@ -4,7 +4,7 @@ use crate::console::{Log, Marks, Sent, Written};
 use c8_front::System;
 use c8_game::Player;
 use c8_net::{Asked, perform};
-use c8_play::{Live, Pace};
+use c8_play::{Live, Tempo};
 use std::fs;
 use std::net::{Ipv4Addr, SocketAddr, UdpSocket};
 use std::test::Fail;
@@ -69,7 +69,7 @@ where
     let mut log = Log::new(rt.alloc());
     let live = Live {
         console: Written::new(rt, sent, &mut log),
-        pace: Pace { rate: 240, hold: 9 },
+        pace: Tempo { rate: 240, hold: 9 },
     };
     let (mut report, mut refused) = (Vec::new(rt.alloc()), Vec::new(rt.alloc()));
     let _ended = perform(rt, &asked, live, &mut report, &mut refused);

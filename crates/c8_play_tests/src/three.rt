@@ -7,7 +7,7 @@ use crate::waits::asked_for;
 use c8_disk::MemDisk;
 use c8_game::{Game, Keys, Player};
 use c8_peer::{Kind, Peer};
-use c8_play::{Desk, Pace, play_frames};
+use c8_play::{Desk, Tempo, play_frames};
 use c8_session::Session;
 use c8_transport::{Traffic, Wire, WireFailed};
 use c8_wire::{LONGEST_DATAGRAM, Seat};
@@ -106,7 +106,7 @@ fn ends_with(alloc: Global, number: u8, row: &[u8]) -> bool {
     };
     let mut session = Session::new(peer, &game, None, 0);
     let (clock, mut log) = (Still::new(), Log::new(alloc));
-    let pace = Pace {
+    let pace = Tempo {
         rate: RATE,
         hold: 9,
     };

@@ -9,7 +9,7 @@ use c8_disk::MemDisk;
 use c8_game::{Game, Player};
 use c8_net::Asked;
 use c8_peer::Peer;
-use c8_play::{Desk, Pace, play_frames};
+use c8_play::{Desk, Tempo, play_frames};
 use c8_session::Session;
 use c8_transport::{Wire, WireFailed};
 use c8_wire::Seat;
@@ -136,7 +136,7 @@ fn played(
     };
     let mut session = Session::new(peer, game, row.patience, 0);
     let (mut wire, clock) = (Nowhere { asked: 0 }, Still::new());
-    let pace = Pace {
+    let pace = Tempo {
         rate: RATE,
         hold: 9,
     };

@@ -76,9 +76,6 @@ mask_fine number small =
     let decoded = decode_sized-encode_lower (to_be_bytes w16 number) 2 refl (pair_bytes number small) in
     (rw decoded refl, rw decoded (from_be_bytes-to_be_bytes_2 number small))
 
-abbrev limit_for : Bool → ℕ
-limit_for mask = cond mask (2 ^ 16) (2 ^ 64)
-
 pub value_fine : (mask : Bool) (number : ℕ) → number < cond mask (2 ^ 16) (2 ^ 64)
     → (cond mask (is_keys_text (spelled mask number)) (is_decimal (spelled mask number)) ≡ true)
     × (cond mask (keys_number (spelled mask number)) (decimal_number (spelled mask number)) ≡ number)

@@ -7,22 +7,7 @@ ghost use Rattle.c8_program.specs.Asked.{masks_of, later_mask, rules_of, usual_s
 ghost use Rattle.c8_program.specs.Faults.{fault_of, is_outside, has_stray, has_shared, do_meet};
 
 use crate::error::ProgramError;
-use c8_game::{Field, Keys, MOST_PLAYERS, MOST_PROGRAM, WireVersion};
-
-/// All fields of a game text.
-pub(crate) const FIELDS: [Field; 11] = [
-    Field::Players,
-    Field::Ipf,
-    Field::Frames,
-    Field::Delay,
-    Field::Window,
-    Field::Seed,
-    Field::Wire,
-    Field::Mask1,
-    Field::Mask2,
-    Field::Mask3,
-    Field::Mask4,
-];
+use c8_game::{FIELDS, Field, Keys, MOST_PLAYERS, MOST_PROGRAM, WireVersion};
 
 /// The keys of players 2, 3 and 4 to whom no keys are given: C D E F, 2 5 8 0 and 3 6 9 B. Player 1 has all others.
 const USUAL_KEYS: [u16; MOST_PLAYERS] = [0, 0xf000, 0x0125, 0x0a48];

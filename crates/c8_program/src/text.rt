@@ -8,8 +8,8 @@ ghost use Rattle.c8_program.specs.checked.Blocks.{line_text, value_text, field_t
 ghost use Rattle.c8_program.specs.declared.error.ProgramError.TheVariants.{Memory};
 
 use crate::error::ProgramError;
-use crate::settings::{FIELDS, Settings};
-use c8_game::{Field, Game, GameError};
+use crate::settings::Settings;
+use c8_game::{FIELDS, Field, Game, GameError};
 use itoa::Buffer;
 use std::alloc::{AllocError, Global};
 

@@ -1,5 +1,6 @@
 -- The peers that the threads return agree, because they are the peers of a world.
 use Rattle.std.proofs.Common.{◌≡◌, ◌<◌, ◌^◌, ◌+◌, ◌-◌, ℕ, List, length, map, Option, Some, None, Bool, true, false, refl, sym, ap, subst, ◌∙◌, arith}
+use Rattle.c8_peer.specs.Runs.{never_opened}
 use Rattle.std.specs.Prelude.{slice_index_or, option_map}
 use Rattle.std.specs.List.{slice_get}
 use Rattle.std.proofs.lemmas.List.{get_or-map, length-map}
@@ -11,7 +12,7 @@ use Rattle.c8_known.specs.Known.{PlayerValue, KnownValue, player_in, known_of}
 use Rattle.c8_known.specs.checked.OneMore.{player_known}
 use Rattle.c8_peer.specs.Peer.{PeerValue, known_by}
 use Rattle.c8_world.specs.declared.ends.Standing.{Standing}
-use Rattle.c8_world.specs.World.{World, never_opened, peer_of, IsReached}
+use Rattle.c8_world.specs.World.{World, peer_of, IsReached}
 use Rattle.c8_world.specs.Agreement.{IsPlayer, Reads, AgreeByReads}
 use Rattle.c8_world.specs.Ends.{known_at, both, AreSameRows, HasStayedAt, HaveAgreed}
 use Rattle.c8_rig.specs.Log.{NoteValue, event_of, IsWorld}

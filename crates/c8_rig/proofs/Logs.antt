@@ -1,5 +1,6 @@
 -- A lawful log is a list of events of a world: note by note, what follows at a peer follows in the world.
 use Rattle.std.specs.Prelude.{slice_set, replicate}
+use Rattle.c8_peer.specs.Runs.{never_opened}
 use Rattle.std.proofs.Common.{◌≡◌, ◌≢◌, ◌<◌, ◌^◌, inl, inr, ℕ, zero, suc, ◌-◌, append-nil, append_assoc, length-set, List, [], ◌∷◌, ◌++◌}
 use Rattle.std.proofs.Common.{length, map, true, false, Some, Ok, refl, sym, ap, subst, ◌∙◌, arith}
 use Rattle.std.specs.List.{slice_get}
@@ -15,7 +16,7 @@ use Rattle.c8_peer.specs.State as calls
 use Rattle.c8_peer.specs.State.{Mode, Down, Away, State, Call, Reply, Said}
 use Rattle.c8_peer.specs.Steps.{DiskOutcome, Works, Stepped, outcome, when_down, at_mode, step}
 use Rattle.c8_peer.specs.Opening.{NoMemory, found, opened}
-use Rattle.c8_world.specs.World.{World, is_player, start, never_opened, peer_of, Act, Open, Tick, Say, Give, Leave, Decide, player_of}
+use Rattle.c8_world.specs.World.{World, is_player, start, peer_of, Act, Open, Tick, Say, Give, Leave, Decide, player_of}
 use Rattle.c8_world.specs.World.{Event, Answer, Happening, said_by as said_in_reply, stepped, call_at_mode, call_at, open_at_mode, open_at}
 use Rattle.c8_world.specs.World.{give_to, acted, CanHappen, Chain, IsReached, Check, Show, Hear, Seen, Fresh}
 use Rattle.c8_world.specs.Agreement.{IsPlayer}

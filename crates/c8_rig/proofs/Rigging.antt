@@ -1,5 +1,6 @@
 -- What all threads return.
 use Rattle.std.proofs.Common.{◌≡◌, ◌<◌, ◌^◌, ◌+◌, ◌-◌, ℕ, List, [], ◌++◌, length, map, Option, Some, None, Ok, Err, ⊎_elim, refl, sym, ap}
+use Rattle.c8_peer.specs.Runs.{never_opened}
 use Rattle.std.proofs.Common.{subst, ◌∙◌, arith, append-nil}
 use Rattle.std.specs.Prelude.{slice_index_or, option_map, Result, IfOk, IfSome}
 use Rattle.std.specs.List.{slice_get, range_with_len}
@@ -13,7 +14,7 @@ use Rattle.c8_disk.specs.contracts.mem_disk.MemDiskDisk.TheImpl.{ghosts}
 use Rattle.c8_peer.specs.State.{State}
 use Rattle.c8_peer.specs.Peer.{PeerValue}
 use Rattle.c8_peer.specs.TrueChecks.{HasTrueChecks}
-use Rattle.c8_world.specs.World.{never_opened, peer_of}
+use Rattle.c8_world.specs.World.{peer_of}
 use Rattle.c8_world.specs.Agreement.{IsPlayer}
 use Rattle.c8_rig.specs.Log.{NoteValue, IsLawful, part_of, Leads, AreLed, IsWorld, AreMoments}
 use Rattle.c8_rig.specs.Tokens.{EntryValue, first_entries}

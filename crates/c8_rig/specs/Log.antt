@@ -9,9 +9,9 @@ use Rattle.c8_peer.specs.State as calls
 use Rattle.c8_peer.specs.State.{State, Call, Reply}
 use Rattle.c8_peer.specs.Steps.{DiskOutcome}
 use Rattle.c8_peer.specs.Opening.{Opening}
-use Rattle.c8_peer.specs.Runs.{Does, Opens, IsDone}
+use Rattle.c8_peer.specs.Runs.{never_opened, Does, Opens, IsDone}
 use Rattle.c8_live.specs.Turns.{SpellsAnswer}
-use Rattle.c8_world.specs.World.{World, start, never_opened, peer_of, Act, Open, Tick, Say, Give, Leave, Decide, player_of, Event, Do}
+use Rattle.c8_world.specs.World.{World, start, peer_of, Act, Open, Tick, Say, Give, Leave, Decide, player_of, Event, Do}
 use Rattle.c8_world.specs.World.{Answer, Chain, Check, Show, Hear, Seen, Fresh}
 use Rattle.c8_world.specs.Agreement.{IsPlayer}
 use Rattle.c8_world.specs.Headline.{IsHeadline}

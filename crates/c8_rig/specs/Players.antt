@@ -1,5 +1,6 @@
 -- What a worker does to its entry and its peer.
 use Rattle.std.specs.Prelude.{◌≡◌, ℕ, List, [], ◌∷◌, ◌++◌}
+use Rattle.c8_peer.specs.Runs.{never_opened}
 use Rattle.c8_game.specs.Rules.{Rules}
 use Rattle.c8_disk.specs.declared.disk.Disk.{Ghosts}
 use Rattle.c8_known.specs.Journal.{Record}
@@ -8,7 +9,7 @@ use Rattle.c8_peer.specs.State as calls
 use Rattle.c8_peer.specs.State.{State, Call, Reply}
 use Rattle.c8_peer.specs.Peer.{PeerValue, IsAnswered, IsSaid}
 use Rattle.c8_peer.specs.Opened.{IsOpened}
-use Rattle.c8_world.specs.World.{Act, Open, Tick, Say, Give, Leave, Decide, Check, Show, Hear, Seen, Fresh, never_opened}
+use Rattle.c8_world.specs.World.{Act, Open, Tick, Say, Give, Leave, Decide, Check, Show, Hear, Seen, Fresh}
 use Rattle.c8_rig.specs.Log.{NoteValue, Leads}
 use Rattle.c8_rig.specs.Tokens.{EntryValue}
 

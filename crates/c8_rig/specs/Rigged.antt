@@ -1,5 +1,6 @@
 -- A match whose players are threads.
 use Rattle.std.specs.Prelude.{◌≡◌, ◌+◌, ◌-◌, ◌*◌, ℕ, List, ◌++◌, map, slice_index_or, Bool, true, Option, Some, IfSome, length}
+use Rattle.c8_peer.specs.Runs.{never_opened}
 use Rattle.std.specs.List.{slice_get}
 use Rattle.atomic_table.specs.Seated.{TableId}
 use Rattle.c8_game.specs.Rules.{Rules}
@@ -9,7 +10,6 @@ use Rattle.c8_disk.specs.Memory.{value_of, new_value}
 use Rattle.c8_peer.specs.State.{State}
 use Rattle.c8_peer.specs.Peer.{PeerValue}
 use Rattle.c8_peer.specs.TrueChecks.{HasTrueChecks}
-use Rattle.c8_world.specs.World.{never_opened}
 use Rattle.c8_rig.specs.Log.{NoteValue, IsLawful, Leads, IsWorld, AreMoments, part_of}
 use Rattle.c8_rig.specs.Tokens.{EntryValue}
 use Rattle.c8_rig.specs.Players.{IsPeerOf, HasPlayedOn}

@@ -206,10 +206,6 @@ snapped t row machine = record t {
 abbrev pub passed : TimelineValue → Machine → TimelineValue
 passed t machine = record t { ticks = t.ticks + 1; shown = machine; last_run = t.last_run + 1 }
 
--- the shown machine is the one after the last snapshot
-shown_last : (t : TimelineValue) → machine_at t (length t.snapshots) ≡ t.shown
-shown_last t = ap (machine_or t.shown) (slice_get_past t.snapshots (length t.snapshots) (omega arith))
-
 snapped_machine : (t : TimelineValue) (row : Row) (machine : Machine) (i : ℕ) → i ≤ length t.snapshots
     → machine_at (snapped t row machine) i ≡ machine_at t i
 snapped_machine t row machine i within =

@@ -13,9 +13,6 @@ use Rattle.c8_transport.specs.declared.error.NotTaken.TheVariants.{NotSealed, Se
 
 -- ---- the counters of a seat
 
-counter_if : Bool → ℕ → List ℕ → List ℕ
-counter_if b counter rest = if b then counter ∷ rest else rest
-
 append_if : (b : Bool) (counter : ℕ) (xs ys : List ℕ) → (if b then counter ∷ (xs ++ ys) else (xs ++ ys)) ≡ (if b then counter ∷ xs else xs) ++ ys
 append_if true counter xs ys = refl
 append_if false counter xs ys = refl
@@ -118,10 +115,6 @@ module _ (seat : ℕ) where
       → AreOnce (counters_of seat new.taken)
   once_over [] old new once are = let P : SealerValue → Type 0 = λ (s : SealerValue). AreOnce (counters_of seat s.taken) in subst P (sym are) once
   once_over (packet ∷ came) old new once are = once_over came are.1 new (once_step old packet are.0 are.1 once are.2) are.3
-
--- what was taken came in a packet, or was taken before
-CameIn : (came : List (List ℕ)) (old : SealerValue) (given : GivenValue) → Type 0
-CameIn came old given = (packet : List ℕ) × Contains came packet × IsFor old.seal packet given
 
 module _ (given : GivenValue) where
   sealed_step : (old : SealerValue) (packet : List ℕ) (answer : Result GivenValue NotTaken) (new : SealerValue)

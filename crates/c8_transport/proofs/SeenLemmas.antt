@@ -18,9 +18,6 @@ other_place_back a b less near same = omega arith
 
 -- the marks with that of one more counter
 module _ (marks : List Bool) (counter : ℕ) (size : length marks ≡ 1024) where
-  with_mark : List Bool
-  with_mark = slice_set marks (counter % 1024) true
-
   marked_itself : mark_of (slice_set marks (counter % 1024) true) counter ≡ true
   marked_itself = get_or-set_same marks (counter % 1024) true false (omega (arith, size))
 

@@ -1,5 +1,6 @@
 -- A world's life, one more event at a time, and what holds at its moments.
 use Rattle.std.proofs.Common.{◌≡◌, ◌≢◌, inl, inr, ⊎_elim, ℕ, ◌<◌, ◌^◌, List, [], ◌∷◌, ◌++◌, map, length, take, drop, ◌+◌, ◌-◌}
+use Rattle.c8_peer.specs.Runs.{never_opened}
 use Rattle.std.proofs.Common.{slice_index_or, Option, None, Err, refl, sym, ap, subst, ◌∙◌, arith}
 use Rattle.std.proofs.lemmas.List.{length-replicate, append_assoc, append-nil, take_more, drop_more, take-append-drop}
 use Rattle.c8_game.specs.declared.row.Player.{Player}
@@ -18,7 +19,7 @@ use Rattle.c8_world.specs.declared.answer.Answer.TheVariants as answers
 use Rattle.c8_world.specs.declared.event.Act as acts
 use Rattle.c8_world.specs.declared.event.Event as asked
 use Rattle.c8_world.specs.declared.event.Event.TheVariants as happenings
-use Rattle.c8_world.specs.World.{World, never_opened, start, player_of, act_inside, Act, Open, Event, Do, Happening, Answer, Told}
+use Rattle.c8_world.specs.World.{World, start, player_of, act_inside, Act, Open, Event, Do, Happening, Answer, Told}
 use Rattle.c8_world.specs.World.{CanHappen, Chain, IsReached}
 use Rattle.c8_world.specs.Events.{act_of, event_of}
 use Rattle.c8_world.specs.Table.{TableValue, IsTaken, IsFull, IsUntouched, node_of, IsSameMatch, Holds, HadMemory, HasHappened}

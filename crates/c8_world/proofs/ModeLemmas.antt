@@ -1,5 +1,6 @@
 -- The answers tell whether each peer is open, down or away.
 use Rattle.std.proofs.Common.{◌≡◌, ◌≢◌, ℕ, ◌<◌, ◌^◌, inl, inr, List, [], ◌∷◌, length, Bool, true, false, Option, Some, None, Ok, Err, refl}
+use Rattle.c8_peer.specs.Runs.{never_opened}
 use Rattle.std.proofs.Common.{sym, ap, subst, ◌∙◌, slice_index_or, ◌-◌}
 use Rattle.std.specs.Prelude.{◌==◌, if◌then◌else◌}
 use Rattle.std.specs.List.{slice_get}
@@ -15,7 +16,7 @@ use Rattle.c8_world.specs.checked.Below.{ArePeersLawful}
 use Rattle.c8_world.specs.World.{World, start, is_player, peer_of, with_peer, Act, Open, Tick, Say, Give, Leave, Decide, player_of, Event}
 use Rattle.c8_world.specs.World.{Do, Stop, Happening, Answer, Told, IsUp, IsDown, NoSuch, Stopped, After, said_by, stepped, call_at_mode}
 use Rattle.c8_world.specs.World.{call_at, open_at_mode, open_at, give_to, acted, crashed, after, MayAct, act_inside, CanHappen, Chain}
-use Rattle.c8_world.specs.World.{Check, Show, Hear, Seen, Fresh, Anew, Spoken, Watched, hear_at, seen_by_watcher, with_rows, never_opened}
+use Rattle.c8_world.specs.World.{Check, Show, Hear, Seen, Fresh, Anew, Spoken, Watched, hear_at, seen_by_watcher, with_rows}
 use Rattle.c8_world.specs.Agreement.{IsPlayer}
 use Rattle.c8_world.specs.declared.answer.Answer as codes
 use Rattle.c8_world.specs.declared.answer.Answer.TheVariants as answers

@@ -1,12 +1,12 @@
 -- What an opening finds on the disk of a peer that is not open.
 use Rattle.std.proofs.Common.{◌≡◌, ℕ, List, [], Bool, false, Option, Some, None, Ok, Err, refl, sym, subst, ◌∙◌}
+use Rattle.c8_peer.specs.Runs.{never_opened}
 use Rattle.c8_game.specs.Rules.{Rules}
 use Rattle.c8_disk.specs.declared.mem_disk.MemDisk.{MemDisk}
 use Rattle.c8_disk.specs.Memory.{bytes_of, images_of}
 use Rattle.c8_disk.specs.Disk.{Only}
 use Rattle.c8_disk.specs.checked.PastLaws.{reads_image}
 use Rattle.c8_log.specs.Slots.{kept, kept_count}
-use Rattle.c8_world.specs.World.{never_opened}
 use Rattle.c8_known.specs.Journal.{Record}
 use Rattle.c8_refusals.specs.declared.error.OpenError.{OpenError}
 use Rattle.c8_refusals.specs.declared.error.OpenError.TheVariants as opens

@@ -1,5 +1,6 @@
 -- What an opening does to a table.
 use Rattle.std.proofs.Common.{◌≡◌, ◌≢◌, inl, inr, ℕ, ◌+◌, ◌-◌, ◌<◌, ◌≤◌, List, [], length, map, Bool, false, cond, Option, Some, None}
+use Rattle.c8_peer.specs.Runs.{never_opened}
 use Rattle.std.proofs.Common.{Result, Ok, Err, refl, sym, ap, subst, ◌∙◌, slice_set, slice_index_or}
 use Rattle.std.specs.Prelude.{IfOk, IfErr}
 use Rattle.std.proofs.lemmas.List.{append-nil, set-get_or}
@@ -19,7 +20,7 @@ use Rattle.c8_peer.specs.Opening.{Opening, NoPlayer, Stands, NotWritten, NoMemor
 use Rattle.c8_world.specs.declared.answer.Answer as codes
 use Rattle.c8_world.specs.declared.answer.Answer.TheVariants as answers
 use Rattle.c8_world.specs.declared.node.Node.{Node}
-use Rattle.c8_world.specs.World.{World, never_opened, peer_of, with_peer, Open, Do, Happening, Told, IsUp, After, said_by, stepped}
+use Rattle.c8_world.specs.World.{World, peer_of, with_peer, Open, Do, Happening, Told, IsUp, After, said_by, stepped}
 use Rattle.c8_world.specs.World.{open_at_mode, acted, CanHappen}
 use Rattle.c8_world.specs.Agreement.{IsPlayer}
 use Rattle.c8_world.specs.Nodes.{IsNode, IsOpening, IsOpenedNode}

@@ -1,5 +1,6 @@
 -- What a stop does to a table.
 use Rattle.std.proofs.Common.{◌≡◌, ◌≢◌, ℕ, ◌+◌, ◌-◌, ◌<◌, length, map, Bool, true, false, cond, Option, Some, None, Result, Ok, Err, refl}
+use Rattle.c8_peer.specs.Runs.{never_opened}
 use Rattle.std.proofs.Common.{sym, ap, subst, ◌∙◌, arith, slice_set, slice_index_or}
 use Rattle.std.specs.Prelude.{IfOk, IfErr}
 use Rattle.std.proofs.lemmas.List.{length-set, get_or-set_same, get_or-set_other}
@@ -11,7 +12,7 @@ use Rattle.c8_peer.specs.Runs as runs
 use Rattle.c8_world.specs.declared.answer.Answer as codes
 use Rattle.c8_world.specs.declared.answer.Answer.TheVariants as answers
 use Rattle.c8_world.specs.declared.node.Node.{Node}
-use Rattle.c8_world.specs.World.{World, never_opened, is_player, peer_of, with_peer, Act, Open, Tick, Say, Give, Leave, Decide, player_of}
+use Rattle.c8_world.specs.World.{World, is_player, peer_of, with_peer, Act, Open, Tick, Say, Give, Leave, Decide, player_of}
 use Rattle.c8_world.specs.World.{Event, Do, Stop, Stopped, Happening, After, acted, crashed, MayAct, CanHappen, Check, Show, Hear, Seen}
 use Rattle.c8_world.specs.World.{Fresh}
 use Rattle.c8_world.specs.Agreement.{IsPlayer}

@@ -1,5 +1,6 @@
 -- What happens to a table when one of its nodes, or its pool, changes.
 use Rattle.std.proofs.Common.{◌≡◌, ◌≢◌, inl, inr, ℕ, ◌+◌, ◌-◌, ◌<◌, ◌≤◌, ◌^◌, List, [], ◌∷◌, ◌++◌, length, map, Bool, false, cond, Option}
+use Rattle.c8_peer.specs.Runs.{never_opened}
 use Rattle.std.proofs.Common.{Some, None, Ok, Err, refl, sym, ap, subst, ◌∙◌, arith, slice_set, slice_index_or}
 use Rattle.std.proofs.lemmas.Bool.{cases_eq, and_right, lt-leb}
 use Rattle.std.specs.Prelude.{nat_le, IfSome, MatchOption}
@@ -19,7 +20,7 @@ use Rattle.c8_world.specs.declared.answer.Answer.TheVariants as answers
 use Rattle.c8_world.specs.declared.answer.Counts.{Counts}
 use Rattle.c8_world.specs.declared.node.Node.{Node}
 use Rattle.c8_world.specs.declared.node.Node.TheVariants as nodes
-use Rattle.c8_world.specs.World.{World, never_opened, start, is_player, peer_of, Act, Tick, Leave, Decide, player_of, Event, Do, Happening}
+use Rattle.c8_world.specs.World.{World, start, is_player, peer_of, Act, Tick, Leave, Decide, player_of, Event, Do, Happening}
 use Rattle.c8_world.specs.World.{Answer, Told, IsDown, said_by, stepped, call_at_mode, call_at, acted, MayAct, CanHappen, Chain, IsReached}
 use Rattle.c8_world.specs.World.{Check}
 use Rattle.c8_world.specs.Agreement.{IsPlayer}

@@ -1,5 +1,6 @@
 -- A world is sound at its start, and each event keeps it sound.
 use Rattle.c8_spectator.specs.Growth.{ShowsRowsOf}
+use Rattle.c8_peer.specs.Runs.{never_opened}
 use Rattle.std.proofs.Common.{◌≡◌, ◌≢◌, ℕ, zero, suc, ◌-◌, ◌<◌, ◌^◌, ◌⊎◌, inl, inr, ⊎_elim, List, [], ◌∷◌, ◌++◌, length, Bool, true, false}
 use Rattle.std.proofs.Common.{cond, Option, Some, None, Ok, Err, refl, sym, ap, subst, ◌∙◌, arith, slice_set, slice_index_or, replicate}
 use Rattle.std.specs.Prelude.{◌==◌, nat_le, if◌then◌else◌, option_to_list}
@@ -32,7 +33,7 @@ use Rattle.c8_peer.specs.checked.TrueCheckLaws.{none_true}
 use Rattle.c8_peer.specs.Told.{told_of}
 use Rattle.c8_peer.specs.checked.TruthLaws.{truth_stays}
 use Rattle.c8_world.specs.checked.Below.{ArePeersLawful}
-use Rattle.c8_world.specs.World.{World, never_opened, start, is_player, peer_of, journal_of, with_peer, Act, Open, Tick, Say, Give, Leave}
+use Rattle.c8_world.specs.World.{World, start, is_player, peer_of, journal_of, with_peer, Act, Open, Tick, Say, Give, Leave}
 use Rattle.c8_world.specs.World.{Decide, Event, Do, Stop, player_of, Happening, Answer, After, said_by, stepped, call_at_mode, call_at}
 use Rattle.c8_world.specs.World.{open_at_mode, give_to, acted, crashed, after, MayAct, act_inside, CanHappen, Chain, Check, known_by}
 use Rattle.c8_world.specs.World.{rows_of, with_rows, hear_at, seen_by_watcher, Show, Hear, Seen, Fresh, watch_of}

@@ -1,5 +1,6 @@
 -- Worked matches: whole lists of events with their answers, and what holds at the end.
 use Rattle.std.specs.Prelude.{◌≡◌, ◌≢◌, ℕ, ◌+◌, List, [], ◌∷◌, ◌++◌, map, length, drop, replicate, Bool, true, false, Option, Some, Ok, Err}
+use Rattle.c8_peer.specs.Runs.{never_opened}
 use Rattle.c8_game.specs.Rules.{Rules, session_of}
 use Rattle.c8_game.specs.declared.wire.WireVersion.TheVariants as versions
 use Rattle.c8_machine.specs.Serial.{serial}
@@ -22,7 +23,7 @@ use Rattle.c8_peer.specs.declared.heard.Heard.TheVariants.{Nothing, Kept, Out}
 use Rattle.c8_peer.specs.State.{Saying, Hello, Welcome, Data, Freeze, Frozen, Cut, Opened, Ticked, Delivered, Said, Left, Decided}
 use Rattle.c8_peer.specs.Steps.{DiskOutcome, Works, Refuses}
 use Rattle.c8_peer.specs.Opening.{Stands}
-use Rattle.c8_world.specs.World.{World, never_opened, start, journal_of, known_by, with_peer, Open, Tick, Say, Give, Leave, Decide, Event}
+use Rattle.c8_world.specs.World.{World, start, journal_of, known_by, with_peer, Open, Tick, Say, Give, Leave, Decide, Event}
 use Rattle.c8_world.specs.World.{Do, Stop, Happening, Answer, Told, Stopped, CanHappen, Chain}
 use Rattle.c8_world.specs.Agreement.{AgreeUpTo, refused_for, not_opened_for}
 

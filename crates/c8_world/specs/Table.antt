@@ -1,5 +1,6 @@
 -- What the nodes and the pool of a world hold, and what an event does to them.
 use Rattle.std.specs.Prelude.{◌≡◌, ◌≢◌, ◌⊎◌, ℕ, ◌-◌, ◌<◌, ◌^◌, ◌==◌, if◌then◌else◌, List, [], length, Bool, map, All, slice_index_or, true}
+use Rattle.c8_peer.specs.Runs.{never_opened}
 use Rattle.std.specs.Prelude.{Option, Some, None, is_some, Ok, Err}
 use Rattle.c8_game.specs.Rules.{Rules}
 use Rattle.c8_game.specs.declared.row.Row.{Row}
@@ -12,7 +13,7 @@ use Rattle.c8_world.specs.declared.answer.Answer as codes
 use Rattle.c8_world.specs.declared.answer.Answer.TheVariants as answers
 use Rattle.c8_world.specs.declared.node.Node.{Node}
 use Rattle.c8_world.specs.declared.node.Node.TheVariants as nodes
-use Rattle.c8_world.specs.World.{World, never_opened, peer_of, with_peer, Act, Open, Tick, Say, Give, Leave, Decide, Check, Show, Hear}
+use Rattle.c8_world.specs.World.{World, peer_of, with_peer, Act, Open, Tick, Say, Give, Leave, Decide, Check, Show, Hear}
 use Rattle.c8_world.specs.World.{Seen, Fresh, player_of, Event, Do, Happening, Answer, Told, IsUp, IsDown, NoSuch, Stopped, Watched, Spoken}
 use Rattle.c8_world.specs.World.{Anew, crashed, CanHappen, IsReached}
 use Rattle.c8_world.specs.World.{act_inside}

@@ -4,20 +4,17 @@ use Rattle.std.specs.Prelude.{true, false, Option, Some, None, Result, Ok, Err, 
 use Rattle.std.specs.List.{slice_get}
 use Rattle.c8_game.specs.Rules.{Rules}
 use Rattle.c8_game.specs.declared.row.Row.{Row}
-use Rattle.c8_game.specs.declared.wire.WireVersion.TheVariants as versions
 use Rattle.c8_wire.specs.Seats.{is_watcher}
 use Rattle.c8_wire.specs.Packet.{Packet}
-use Rattle.c8_hand.specs.Links.{no_link}
 use Rattle.c8_known.specs.Journal.{Record}
 use Rattle.c8_known.specs.Known.{KnownValue, known_of}
-use Rattle.c8_window.specs.Window.{first_window}
-use Rattle.c8_round.specs.Round.{no_reports, no_haves}
 use Rattle.c8_refusals.specs.declared.error.OpenError.TheVariants as opens
+use Rattle.c8_peer.specs.Runs.{never_opened}
 use Rattle.c8_peer.specs.State as calls
 use Rattle.c8_spectator.specs.declared.error.NotTaken.{NotTaken}
 use Rattle.c8_spectator.specs.declared.taken.Taken.{Taken}
 use Rattle.c8_spectator.specs.Watching.{WatchValue, Watched as HeardWatch, hear, seen}
-use Rattle.c8_peer.specs.State.{none_seen, Mode, Down, Away, State, Saying, Call, Reply, Opened, Ticked, Delivered, Said, Left, Decided, Checked}
+use Rattle.c8_peer.specs.State.{Mode, Down, Away, State, Saying, Call, Reply, Opened, Ticked, Delivered, Said, Left, Decided, Checked}
 use Rattle.c8_peer.specs.Steps.{DiskOutcome, Stepped, step}
 use Rattle.c8_peer.specs.Opening.{Opening, found, opened, away, MayBecome}
 
@@ -30,32 +27,6 @@ pub record World : Type 0 where
   pub said : List Packet
   pub five : List Row
   pub six : List Row
-
--- a peer that was never opened: its memory does not matter
-abbrev pub never_opened : State
-never_opened = record {
-  journal = [];
-  pending = None;
-  mode = Away;
-  memory = record {
-    links = record {
-      me = 0;
-      players = 0;
-      version = versions.One;
-      session = 0;
-      epoch = 0;
-      one = no_link;
-      two = no_link;
-      three = no_link;
-      four = no_link;
-    };
-    acks = first_window 0;
-    chair = no_reports;
-    stayer = no_haves;
-    alarm = false;
-    seen = none_seen;
-  };
-}
 
 abbrev pub start : Rules → World
 start rules = record { peers = replicate rules.players never_opened; said = []; five = []; six = [] }

@@ -20,7 +20,7 @@ pub enum Field {
 }
 
 /// All fields, each at its index.
-pub(crate) const FIELDS: [Field; 11] = [
+pub const FIELDS: [Field; 11] = [
     Field::Players,
     Field::Ipf,
     Field::Frames,
