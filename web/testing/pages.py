@@ -1,0 +1,285 @@
+"""What the page reads, shows and says, beside matches."""
+import glob
+import hashlib
+import hmac
+import json
+import os
+import re
+import shutil
+import subprocess
+import time
+
+from bench import FRAMES, HERE, PAGES, ROLLBACK, SECRET, SIZES, STATE, TOP, check, is_playing, says, spelt
+from native import room_name, session_of
+
+# The first row of a paddle that stands in a column of the picture.
+PADDLE = """(() => {{
+    const points = document.getElementById('picture').getContext('2d').getImageData({}, 0, 1, 32).data;
+    return [...Array(32).keys()].findIndex(row => row > 0 && points[4 * row] !== points[0]);
+}})()"""
+ARCHIVE = f"{TOP}/crates/c8_engine/out/libc8_engine.a"
+
+
+def links(bench):
+    """Links, SHA-256 and HMAC against Python's, and the session against the one that the module writes."""
+    page = bench.browser.page(f"http://127.0.0.1:{bench.port}/none.game")
+    text = bench.page.read(f"{bench.pages}/rally.game").encode()
+    long = spelt(bytes([1, 2]) + (2**63 + 9).to_bytes(8, "big") + SECRET + text[:3000])
+    short = f"{2**64 - 1}.{spelt(SECRET)}.2.rally"
+    wrong = ["", "a", long[:-3], long + "A", spelt(bytes([2, 2]) + bytes(50)), "A" * 8193]
+    wrong += ["." + short, short.replace(".2.", ".7."), short.replace("1844", "18446"), "0" + short, short[:-6]]
+    said = json.loads(page.value(f"""(async () => {{
+        const L = await import('/link.mjs'), C = await import('/c8.mjs'), bytes = n => Uint8Array.from({{ length: n }}, (_, i) => i * 7 + n);
+        const text = new Uint8Array(await (await fetch('/rally.game')).arrayBuffer()), rules = L.rulesOf(text);
+        const c8 = await C.load(await (await fetch('/c8.wasm')).arrayBuffer()), hello = c8.open(text, 1, 9n).say(2, C.HELLO);
+        const read = it => {{ const l = L.readLink(it); return l && [l.seat, String(l.room), L.hex(l.secret), l.game, l.text && l.text.length] }};
+        return JSON.stringify({{
+            hashes: [...Array(200).keys()].map(n => L.hex(L.sha256(bytes(n)))),
+            macs: [...Array(64).keys()].map(n => L.hex(L.hmac(bytes(n), bytes(3 * n)))),
+            id: L.hex(L.gameId(rules)), session: L.hex(L.sessionOf(rules, 9n)), hello: L.hex(hello.slice(4, 12)),
+            name: L.hex(L.roomName(bytes(32), L.sessionOf(rules, 9n))),
+            long: read({json.dumps(long)}), short: read({json.dumps(short)}), wrong: {json.dumps(wrong)}.map(read),
+            speltLong: L.spellLong({{ seat: 2, room: 2n ** 63n + 9n, secret: bytes(32).map((_, i) => i), text: text.slice(0, 3000) }}),
+        }}); }})()"""))
+    data = lambda n: bytes((i * 7 + n) % 256 for i in range(n))
+    session = session_of(bench.game_id("rally"), 9)
+    check("SHA-256", said["hashes"] == [hashlib.sha256(data(n)).hexdigest() for n in range(200)])
+    check("HMAC", said["macs"] == [hmac.digest(data(n), data(3 * n), "sha256").hex() for n in range(64)])
+    check("the id of a game", said["id"] == bench.game_id("rally").hex())
+    check("the session", said["session"] == said["hello"] == session.hex())
+    check("the name of a room", said["name"] == room_name(data(32), session).hex())
+    check("a long link", said["long"] == [2, str(2**63 + 9), SECRET.hex(), None, len(text[:3000])] and said["speltLong"] == long, said["long"])
+    check("a short link", said["short"] == [2, str(2**64 - 1), SECRET.hex(), "rally", None], said["short"])
+    check("wrong links", said["wrong"] == [None] * len(wrong), said["wrong"])
+    page.close()
+
+
+def agree(bench):
+    """The compiled module does what the archive for C does: ten games of 4,000 turns, one sum each."""
+    games = sorted(glob.glob(f"{TOP}/games/*.game"))
+    told = {}
+    if shutil.which("cc") and shutil.which("rt") and os.path.exists(ARCHIVE):
+        kit = os.path.dirname(subprocess.run(["rt", "doc"], capture_output=True, text=True, check=True).stdout.strip())
+        words = ["cc", "-std=c99", "-O1", "-Wall", "-Wextra", "-Werror", f"-I{TOP}/embed", f"{HERE}/agree.c"]
+        subprocess.run([*words, ARCHIVE, f"{kit}/c/libos_c.a", f"{kit}/c/liblibc_c.a", "-o", f"{bench.folder}/agree"], check=True)
+        told["C"] = subprocess.run([f"{bench.folder}/agree", *games], capture_output=True, text=True, check=True).stdout.split("\n")[:-1]
+    else:
+        print("  no cc, no toolchain or no archive for C: the pages agree with each other alone")
+    for it in games:
+        shutil.copy(it, f"{bench.folder}/pages/agree-{os.path.basename(it)}")
+    bench.stop_relay()
+    bench.start_relay()
+    page = bench.browser.page(f"http://127.0.0.1:{bench.port}/none.game")
+    modules = [it for it in ("c8.wasm", "c8-32.wasm") if os.path.exists(f"{PAGES}/{it}")]
+    for module in modules:
+        names = json.dumps([f"/agree-{os.path.basename(it)}" for it in games])
+        said = page.value(f"""(async () => {{
+            const get = async it => new Uint8Array(await (await fetch(it)).arrayBuffer()), {{ agree }} = await import('/agree.mjs');
+            return JSON.stringify(await agree(await get('/{module}'), await Promise.all({names}.map(get)))); }})()""")
+        told[f"{module} in Chromium"] = json.loads(said) if said.startswith("[") else said
+        if shutil.which("node"):
+            # node 20 has a memory of 64 bits only if asked
+            flags = ["--experimental-wasm-memory64"] if module == "c8.wasm" else []
+            words = ["node", *flags, f"{bench.pages}/agree.mjs", f"{PAGES}/{module}", *games]
+            ran = subprocess.run(words, capture_output=True, text=True, check=False)
+            if ran.returncode and module == "c8.wasm":
+                print("  this node does not read c8.wasm")
+            else:
+                told[f"{module} in node"] = ran.stdout.split("\n")[:-1] or ran.stderr
+    page.close()
+    first = next(iter(told.values()))
+    are_equal = len(first) == len(games) + 1 and all(it == first for it in told.values())
+    check("all modules agree", are_equal, *(f"\n{name}: {it}" for name, it in told.items()))
+    print(f"  {len(games) + 1} games:", ", ".join(told))
+
+
+def memory(bench):
+    """web/page.c gives blocks that do not overlap, and takes them back; a journal's file fails where JavaScript says so."""
+    page = bench.browser.page(f"http://127.0.0.1:{bench.port}/none.game")
+    said = page.value("""(async () => {
+        const { load } = await import('/c8.mjs'), c8 = await load(await (await fetch('/c8.wasm')).arrayBuffer());
+        const x = c8.exports, before = x.page_blocks();
+        const live = new Map(), chance = n => Math.floor(Math.random() * n);
+        const give = at => { live.delete(at); x.page_give(BigInt(at)); };
+        for (let it = 0; it < 5000; it++) {
+            if (live.size > 50 || (live.size && chance(3) === 0)) { give([...live.keys()][chance(live.size)]); continue; }
+            const size = chance(30) ? chance(4000) : chance(2000000), at = c8.take(size);
+            if (at % 16) return 'not aligned';
+            for (const [other, length] of live) if (other < at + size && at < other + length) return 'two blocks overlap';
+            c8.bytes.fill(chance(256), at, at + size);
+            live.set(at, size);
+        }
+        [...live.keys()].forEach(give);
+        if (x.page_take(1n << 45n) !== 0n) return 'too much memory';
+        const text = new Uint8Array(await (await fetch('/rally.game')).arrayBuffer()), fails = () => { throw Error(); };
+        let closed = 0, why = 0;
+        const file = { read: fails, write: fails, flush: fails, getSize: () => 0, close: () => closed++ };
+        try { c8.openJournal(text, 1, 1n, 0, file); } catch (refusal) { why = refusal.number; }
+        return x.page_blocks() === before || x.page_blocks() - before < 8n ? `${why}, closed ${closed}` : 'blocks are left';
+    })()""")
+    check("memory and files", said == "1301, closed 1", said)
+    page.close()
+
+
+def wrong(bench):
+    """What the page says where it cannot begin."""
+    bench.next_room()
+    text = {"#abc": "This link is damaged.", f"#1.{spelt(SECRET)}.2.nothing": "This link is for a game that this server does not have.",
+            f"#{spelt(bytes([1, 2]) + bytes(8) + SECRET + b'players 9')}": "This match cannot begin.",
+            f"#1.{spelt(SECRET)}.3.rally": "This match cannot begin.", f"#1.{spelt(SECRET)}.5.rally": "This link is for watching."}
+    for link, sentence in text.items():
+        page = bench.browser.page(f"http://127.0.0.1:{bench.port}/{link}")
+        says(page, "ended", sentence)
+        page.close()
+    one = bench.open(1)
+    one.until("!!document.getElementById('who').textContent")
+    again = bench.open(1)
+    says(again, "then", "Another window")
+
+
+def touch(bench):
+    """Keys for fingers: those of the player's mask alone, and they move the paddle of the other page."""
+    bench.next_room()
+    one, two = bench.open(1, "paddles"), bench.open(2, "paddles", size=SIZES["phone"], touch=True)
+    check("both play", is_playing(one) and is_playing(two))
+    check("its keys", two.value("[...document.querySelectorAll('.key')].map(it => it.getAttribute('aria-label')).join()") == "up,down")
+    check("they are large", two.value("[...document.querySelectorAll('.key')].every(it => it.clientWidth >= 44 && it.clientHeight >= 44)"))
+    # the paddle of player 2 is in the last column
+    row = PADDLE.format(63)
+    before = one.value(row)
+    two.touch(".key.up", True)
+    time.sleep(1)
+    check("the key is held", two.value("!!document.querySelector('.key.held')"))
+    two.touch(".key.up", False)
+    check("it is released", two.until("!document.querySelector('.key.held')"))
+    check("the paddle moved", one.until(f"{row} !== {before}", 5), before, one.value(row))
+    # a game that the server does not offer has the keys of the mask, as they lie on the keypad
+    text = b"players 2\nipf 10\nframes 600\ndelay 0\nwindow 8\nseed 0\nmask1 0312\nmask2 8001\ncode 1200\n"
+    link = spelt(bytes([1, 1]) + (5).to_bytes(8, "big") + SECRET + text)
+    page = bench.browser.page(f"http://127.0.0.1:{bench.port}/#{link}", size=SIZES["phone"], touch=True)
+    bench.shown.append(page)
+    says(page, "who", "You are player 1 of 2.")
+    keys = "[...document.querySelectorAll('.key')].map(it => [it.textContent, it.style.gridRow[0], it.style.gridColumn[0]].join(' ')).join()"
+    check("the keys of a mask", page.value(keys) == "1 1 1,4 2 1,8 3 2,9 3 3", page.value(keys))
+
+
+def pad(bench):
+    """A game pad, which the page finds by itself: here an object in its place. And no WebAssembly."""
+    bench.next_room()
+    page = bench.browser.page("about:blank")
+    bench.shown.append(page)
+    buttons = "Array.from({ length: 17 }, (_, it) => ({ pressed: it === (globalThis.pushed ?? 99) }))"
+    pads = f"[null, {{ axes: [0, globalThis.stick ?? 0], buttons: {buttons} }}]"
+    page.call("Page.addScriptToEvaluateOnNewDocument", source=f"navigator.getGamepads = () => {pads};")
+    page.go(f"http://127.0.0.1:{bench.port}/")
+    page.until("document.querySelectorAll('#games li').length === 3", 10)
+    page.value("document.querySelectorAll('#games li')[1].querySelectorAll('button')[1].click()")
+    says(page, "state", "Playing here.")
+    row = PADDLE.format(0)
+    for what, reverse in (("stick = 1", "stick = 0"), ("pushed = 12", "pushed = 99")):
+        before = page.value(row)
+        page.value(f"globalThis.{what}")
+        check(f"{what} moves the paddle", page.until(f"{row} !== {before}", 5), before, page.value(row))
+        page.value(f"globalThis.{reverse}")
+    page.call("Page.addScriptToEvaluateOnNewDocument", source="delete globalThis.WebAssembly;")
+    page.go(f"http://127.0.0.1:{bench.port}/?none")
+    says(page, "ended", "This browser has no WebAssembly.")
+
+
+def here(bench):
+    """The list of games, and both players at one keyboard; by keys alone."""
+    page = bench.browser.page(f"http://127.0.0.1:{bench.port}/")
+    bench.shown.append(page)
+    check("three games", page.until("document.querySelectorAll('#games li').length === 3", 10))
+    shown = "[...document.querySelectorAll('button, a, input')].filter(it => it.offsetParent)"
+    check("all controls have names", page.value(f"{shown}.every(it => (it.getAttribute('aria-label') ?? it.textContent).trim() !== '')"))
+    check("they are large enough", page.value(f"{shown}.every(it => it.offsetHeight >= 44 && it.offsetWidth >= 44)"))
+    for code in ("Tab", "Tab"):
+        for is_down in (True, False):
+            page.call("Input.dispatchKeyEvent", type="keyDown" if is_down else "keyUp", code=code, key=code, windowsVirtualKeyCode=9)
+    focus = page.value("document.activeElement.textContent")
+    check("Tab goes to the buttons", focus == "Play here", focus)
+    for kind, more in (("keyDown", {"text": "\r"}), ("keyUp", {})):
+        page.call("Input.dispatchKeyEvent", type=kind, code="Enter", key="Enter", windowsVirtualKeyCode=13, **more)
+    says(page, "who", "All players are here.")
+    check("the game ends", bench.play({1: page}))
+    check("it shows the result", page.text("report").startswith(f"frames {FRAMES}\n"))
+    page.click("again")
+    says(page, "state", "Playing here.")
+    check("the end is gone", page.value("document.getElementById('end').hidden"))
+
+
+def rollback(bench):
+    """The file of rollbacks: a player dies twice and comes back, and both reports are equal."""
+    page = bench.browser.page(f"file://{ROLLBACK}", size=SIZES["laptop"])
+    bench.shown.append(page)
+    said = "document.querySelectorAll('.said')"
+    begun = page.until(f"{said}.length === 2 && /Frame (\\d\\d\\d)/.test({said}[0].textContent)", 20)
+    check("both play", begun, page.value(f"{said}[0]?.textContent"))
+    for place in (1, 0):
+        button = f"document.querySelectorAll('.player button')[{place}]"
+        page.value(f"{button}.click()")
+        time.sleep(0.7)
+        page.value(f"{button}.click()")
+        own = f"{said}[{place}].textContent"
+        check("it comes back", page.until(f"{own}.includes('Deaths: 1.') && {own}.includes(': plays')", 10), page.value(own))
+    if bench.given.pictures:
+        time.sleep(1.5)
+        page.picture(f"{bench.given.pictures}/rollback.png")
+    page.value("document.getElementById('finish').click()")
+    equal = page.until("document.getElementById('verdict').textContent.startsWith('Both reports are equal')", 20)
+    check("the reports are equal", equal, page.text("verdict"))
+    print(f"  {page.text('verdict')} {os.path.getsize(ROLLBACK)} bytes")
+
+
+def types(_):
+    """The types in the comments of all modules, where TypeScript is installed (Debian's node-typescript)."""
+    if not shutil.which("tsc"):
+        print("  no tsc: skipped")
+        return
+    words = ["--noEmit", "--allowJs", "--checkJs", "--strict", "--target", "es2022", "--module", "es2022", "--moduleResolution", "node"]
+    words += ["--lib", "es2022,dom,dom.iterable"]
+    ran = subprocess.run(["tsc", *words, *glob.glob(f"{TOP}/web/*.mjs")], capture_output=True, text=True, check=False)
+    check("types", ran.returncode == 0, ran.stdout)
+
+
+def contrast(bench):
+    """The colors of texts, by the formula of WCAG 2, in both palettes."""
+    with open(f"{PAGES}/style.css", encoding="utf-8") as it:
+        blocks = re.findall(r":root \{(.*?)\}", it.read(), re.S)
+    light = lambda part: part / 12.92 if part <= 0.03928 else ((part + 0.055) / 1.055) ** 2.4
+    part = lambda color, at: light(int(color[at:at + 2], 16) / 255)
+    pairs = ("ink", "paper"), ("ink", "raised"), ("soft", "paper"), ("soft", "raised"), ("warn", "paper"), ("on-main", "main"), ("lit", "dark")
+    for block in blocks:
+        colors = re.findall(r"--([\w-]+): #(\w{6})", block)
+        shine = {name: 0.2126 * part(color, 0) + 0.7152 * part(color, 2) + 0.0722 * part(color, 4) for name, color in colors}
+        for ink, paper in pairs:
+            two = sorted((shine[ink], shine[paper]))
+            ratio = (two[1] + 0.05) / (two[0] + 0.05)
+            check(f"the contrast of {ink} on {paper}", ratio >= 4.5, f"{ratio:.2f}")
+
+
+def pictures(bench):
+    """Pictures of the page, for eyes."""
+    os.makedirs(bench.given.pictures, exist_ok=True)
+    for name, size in SIZES.items():
+        for dark in (False, True):
+            bench.next_room()
+            look = {"size": size, "dark": dark, "touch": name == "phone"}
+            path = f"{bench.given.pictures}/{name}-{'dark' if dark else 'light'}"
+            home = bench.browser.page(f"http://127.0.0.1:{bench.port}/", **look)
+            bench.shown.append(home)
+            home.until("document.querySelectorAll('#games li').length === 3", 10)
+            home.picture(f"{path}-home.png")
+            one = bench.open(1, **look)
+            one.until(f"{STATE}.startsWith('Waiting')", 10)
+            time.sleep(0.3)
+            one.picture(f"{path}-invite.png")
+            two = bench.open(2)
+            is_playing(one)
+            one.key("KeyA", True)
+            time.sleep(3)
+            one.picture(f"{path}-match.png")
+            bench.play({1: one, 2: two})
+            one.picture(f"{path}-end.png")
+            bench.close()
