@@ -1,17 +1,19 @@
 -- What was sent stays due, as more is received.
-use Rattle.std.proofs.Common.{◌≡◌, ◌≤◌, ◌⊎◌, ◌+◌, ℕ, List, [], ◌∷◌, ◌++◌, length, refl, arith, subst, rules, inl, inr, length-append}
+use Rattle.std.proofs.Common.{◌≡◌, ◌≤◌, ◌⊎◌, ◌+◌, ℕ, List, [], ◌∷◌, ◌++◌, Some, length, refl, arith, subst, rules, inl, inr, length-append}
 use Rattle.std.proofs.Common.{add_assoc, sym, ap, ◌∙◌}
 use Rattle.std.specs.List.{All, Contains}
 use Rattle.std.proofs.lemmas.List.Elements.{All-append, Contains-append_left, Contains-append_right}
 use Rattle.c8_relay.specs.Ether.{MaySend}
 use Rattle.c8_relay.specs.Honest.{HasAsked, IsCarried, IsAnswer, IsHonest, weight}
 use Rattle.c8_relay.specs.Reading.{IsDatagram, IsJoin}
-use Rattle.c8_relay.specs.Seating.{Sits, Shares, Expels, origin, sender_at, target}
+use Rattle.c8_relay.specs.Seating.{Sits, Shares, Expels, origin, seat_of, sender_at, target}
 use Rattle.c8_relay.specs.Standing.{Standing, SeatsWhoAsks, slot_of}
 use Rattle.c8_relay.specs.declared.address.Address.{Address}
 use Rattle.c8_relay.specs.declared.address.Place.{Place}
 use Rattle.c8_relay.specs.declared.control.Join.{Join}
 use Rattle.c8_relay.specs.declared.control.Route.{Route}
+use Rattle.c8_relay.specs.declared.address.Sender.{Sender}
+use Rattle.c8_relay.specs.declared.seats.Seated.{Seated}
 
 -- the last item stands in the list
 pub last : {X : Type 0} (xs : List X) (x : X) → Contains (xs ++ x ∷ []) x
@@ -129,14 +131,20 @@ at_first key = record {
 }
 
 -- who stood up does not have to have asked
-pub fewer_seats : (now : ℕ) (old new : Standing) (received sent : List (Address × List ℕ)) → new.key ≡ old.key
-    → Expels now old.members new.members → IsHonest old received sent
-    → IsHonest new received sent
-fewer_seats now old new received sent key expels was =
+pub keeps_honest : (old new : Standing) (received sent : List (Address × List ℕ)) → new.key ≡ old.key
+    → ((other : Sender) (seated : Seated) → seat_of new.members other ≡ Some seated → seat_of old.members other ≡ Some seated)
+    → IsHonest old received sent → IsHonest new received sent
+keeps_honest old new received sent key nobody was =
     let P : List ℕ → Type 0 = λ k. IsHonest (record { key = k; members = new.members }) received sent in
     subst P (sym key) (record {
-      seated = λ address place sits. was.seated address place (sits.0, (expels (sender_at address place) sits.0).0 sits.1, sits.2, sits.3);
+      seated = λ address place sits. was.seated address place (sits.0, nobody (sender_at address place) sits.0 sits.1, sits.2, sits.3);
       due = was.due;
       fewer = was.fewer;
       lighter = was.lighter;
     })
+
+pub fewer_seats : (now : ℕ) (old new : Standing) (received sent : List (Address × List ℕ)) → new.key ≡ old.key
+    → Expels now old.members new.members → IsHonest old received sent
+    → IsHonest new received sent
+fewer_seats now old new received sent key expels was =
+    keeps_honest old new received sent key (λ other seated sits. (expels other seated).0 sits) was

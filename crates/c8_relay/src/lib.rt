@@ -31,4 +31,4 @@ pub use ether::{Ether, LONGEST_READ};
 pub use relay::{BATCH, Fate, Relay};
 pub use seats::{Limits, SILENCE, Seated};
 pub use sitting::Cause;
-pub use turning::{Turned, begin, honest_at_first, turn};
+pub use turning::{Turned, begin, honest_at_first, leave, turn};

@@ -94,6 +94,7 @@ impl Relay {
         ensures key { self.new.key ≡ self.old.key }
         ensures left { (lane : Lane) → seat_of self.new.members (record { address = address; lane = lane }) ≡ None }
         ensures others { (other : Sender) → (other.address ≡ address → ⊥) → seat_of self.new.members other ≡ seat_of self.old.members other }
+        ensures nobody { (other : Sender) (seated : Seated) → seat_of self.new.members other ≡ Some seated → seat_of self.old.members other ≡ Some seated }
     {
         let lane = Lane::Players;
         self.seats.remove(Sender { address, lane });

@@ -1,10 +1,14 @@
 //! One packet through a relay.
-ghost use Rattle.std.specs.Prelude.{◌≡◌, ◌<◌, ◌^◌, List, ℕ, []};
+ghost use Rattle.std.specs.Prelude.{◌≡◌, ◌<◌, ◌^◌, List, ℕ, [], None};
 ghost use Rattle.c8_relay.specs.Honest.{IsHonest};
+ghost use Rattle.c8_relay.specs.Seating.{seat_of};
 ghost use Rattle.c8_relay.specs.Standing.{Standing};
+ghost use Rattle.c8_relay.specs.declared.address.Lane.{Lane};
+ghost use Rattle.c8_relay.specs.declared.address.Sender.{Sender};
 ghost use Rattle.c8_relay.specs.declared.sitting.Cause.{Cause};
 ghost use Rattle.c8_relay.specs.declared.turning.Turned.TheVariants.{Idle, Dropped};
 
+use crate::address::Address;
 use crate::ether::{Ether, LONGEST_READ};
 use crate::relay::{Fate, Relay};
 use crate::sitting::Cause;
@@ -27,6 +31,17 @@ pub fn begin<E: Ether>(relay: &mut Relay, ether: &E, now: u64)
     ensures { IsHonest relay.new (E.received ether.now) (E.sent ether.now) }
 {
     relay.begin_batch(now);
+}
+
+/// Frees the seats of a connection that has closed.
+pub fn leave<E: Ether>(relay: &mut Relay, ether: &E, address: Address)
+    requires { IsHonest relay.old (E.received ether.now) (E.sent ether.now) }
+    ensures honest { IsHonest relay.new (E.received ether.now) (E.sent ether.now) }
+    ensures left { (lane : Lane) → seat_of relay.new.members (record { address = address; lane = lane }) ≡ None }
+    ensures others { (other : Sender) → (other.address ≡ address → ⊥)
+        → seat_of relay.new.members other ≡ seat_of relay.old.members other }
+{
+    relay.close(address);
 }
 
 /// Takes the next packet, and sends what it leads to. `Idle` if none had come; a dropped packet sends nothing.

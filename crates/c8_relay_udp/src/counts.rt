@@ -1,12 +1,8 @@
 //! What a relay did, in numbers.
 
-use arrayvec::ArrayString;
 use c8_relay::{Cause, Turned};
-use std::fmt::{Display, Write};
-use std::{fmt, io};
-
-/// The most bytes of a line of progress: its words, and nine numbers of 20 digits.
-const LONGEST_LINE: usize = 320;
+use std::fmt;
+use std::fmt::Display;
 
 /// How many packets had which fate.
 #[derive(Clone, Copy, Debug, Default, PartialEq, Eq)]
@@ -52,18 +48,4 @@ impl Display for Counts {
         let (fast, crowd) = (self.fast, self.crowd);
         write!(f, " fast {fast} crowd {crowd}")
     }
-}
-
-/// Writes a line of progress, in one call of the writer.
-pub(crate) fn report<W: io::Write>(
-    rooms: usize,
-    seats: usize,
-    counts: &Counts,
-    out: &mut W,
-) -> io::Result<()> {
-    let mut line = ArrayString::<LONGEST_LINE>::new();
-    // It fits, so nothing is left out.
-    let _ = writeln!(line, "rooms {rooms} seats {seats} {counts}");
-    out.write_all(line.as_bytes())?;
-    out.flush()
 }

@@ -3,12 +3,14 @@
 
 use c8_command::Status;
 use c8_front::{command_of, status_at, tell, words_in};
-use c8_relay_udp::{RELAY, relay_given};
+use c8_relay_web::{RELAY, relay_given};
 use std::env::Args;
+use std::fs::File;
 use std::io::Write;
 use std::net::Net;
 use std::process::ExitCode;
 use std::random::RandomSource;
+use std::rt::Files;
 use std::sync::Wait;
 use std::time::Clock;
 use std::{env, io};
@@ -27,7 +29,7 @@ fn obey<R, W: Write, E: Write>(
     refused: &mut E,
 ) -> io::Result<Status>
 where
-    R: Net + Clock + RandomSource + Wait + AllocGlobal,
+    R: Net + Clock + RandomSource + Wait + AllocGlobal + Files<File = File> + Clone + Drop,
 {
     let alloc = rt.alloc();
     let Some(words) = words_in(alloc, args, refused)? else {

@@ -5,7 +5,6 @@ use Rattle.c8_relay.specs.declared.relay.Fate.TheVariants.{Forward}
 use Rattle.c8_relay.specs.declared.seats.Seated.{Seated}
 use Rattle.c8_relay.specs.declared.address.Address.{Address}
 use Rattle.c8_relay.specs.declared.relay.Fate.{Fate}
-use Rattle.c8_relay.specs.declared.relay.Fate.TheVariants.{Dropped}
 use Rattle.c8_relay.specs.declared.sitting.Cause.{Cause}
 use Rattle.c8_relay.specs.Seating.{SeatsNobody, Shares, IsPaid, IsLost, IsServed}
 use Rattle.c8_relay.specs.Standing.{Standing, IsRouted}

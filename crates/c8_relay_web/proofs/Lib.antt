@@ -1,0 +1,3 @@
+-- What waits is sent in order, whatever is written behind it; begin at `BoxLemmas`.
+mod BoxLemmas
+mod SiteLemmas

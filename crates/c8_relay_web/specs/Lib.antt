@@ -1,0 +1,4 @@
+pub mod Connections
+pub mod Frames
+pub mod Parts
+pub mod Sites

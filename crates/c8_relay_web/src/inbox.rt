@@ -1,0 +1,131 @@
+//! The bytes that came by a connection.
+ghost use Rattle.std.specs.Prelude.{◌≡◌, ◌≤◌, ◌++◌, [], ℕ, List, IsTrue, drop, take};
+ghost use Rattle.c8_relay_web.specs.declared.inbox.TheConstants.{INPUT};
+ghost use Rattle.c8_relay_web.specs.Frames.{IfPacket, IsMessage};
+
+use crate::frames::{Frame, Said, read_frame};
+use c8_relay::LONGEST_READ;
+use mio::net::TcpStream;
+use std::io::{ErrorKind, Read};
+use websocket::protocol::{CloseCode, WebSocketContext};
+
+/// How many bytes are kept at most: the longest head of a request.
+pub(crate) const INPUT: usize = 8192;
+
+/// The bit of a frame's first byte that says that a message ends with it.
+const LAST_OF_MESSAGE: u8 = 0x80;
+
+/// What came of a read.
+#[derive(Clone, Copy)]
+pub(crate) enum Filled {
+    /// Bytes, and more may be there.
+    More,
+    /// Bytes, and all that were there.
+    All,
+    /// None are there now.
+    Nothing,
+    /// None will come any more, or there is no room.
+    Over,
+}
+
+/// The bytes that came and are not yet read.
+#[derive(Drop)]
+pub(crate) struct Inbox {
+    bytes: [u8; INPUT],
+    filled: usize,
+    ghost filled_fits: { filled ≤ INPUT },
+}
+
+impl Inbox {
+    pub(crate) fn new() -> Inbox
+        ensures { take result.filled result.bytes ≡ [] }
+    {
+        Inbox {
+            bytes: [0; INPUT],
+            filled: 0,
+        }
+    }
+
+    pub(crate) fn is_empty(&self) -> bool {
+        self.filled == 0
+    }
+
+    pub(crate) fn is_full(&self) -> bool {
+        self.filled >= INPUT
+    }
+
+    /// The bytes that came.
+    pub(crate) fn bytes(&self) -> &[u8]
+        ensures { result.now ≡ take self.now.filled self.now.bytes }
+    {
+        &self.bytes[..self.filled]
+    }
+
+    /// Drops the first bytes.
+    pub(crate) fn consume(&mut self, count: usize)
+        ensures { take self.new.filled self.new.bytes ≡ drop count (take self.old.filled self.old.bytes) }
+    {
+        let filled = self.filled;
+        let count = count.min(filled);
+        if count > 0 {
+            self.bytes.copy_within(count..filled, 0);
+            self.filled = filled - count;
+        }
+    }
+
+    /// Drops all bytes.
+    pub(crate) fn clear(&mut self)
+        ensures { take self.new.filled self.new.bytes ≡ [] }
+    {
+        self.filled = 0;
+    }
+
+    /// Reads what has come.
+    pub(crate) fn fill(&mut self, stream: &TcpStream) -> Filled
+        ensures { (more : List ℕ) × (take self.new.filled self.new.bytes ≡ take self.old.filled self.old.bytes ++ more) }
+    {
+        let filled = self.filled;
+        if filled >= INPUT {
+            return Filled::Over;
+        }
+        let mut stream = stream;
+        match stream.read(&mut self.bytes[filled..]) {
+            Ok(0) => Filled::Over,
+            Ok(size) => {
+                self.filled = (filled + size).min(INPUT);
+                if self.filled < INPUT {
+                    Filled::All
+                } else {
+                    Filled::More
+                }
+            }
+            Err(error) if error.kind() == ErrorKind::WouldBlock => Filled::Nothing,
+            Err(_) => Filled::Over,
+        }
+    }
+
+    /// Takes the next frame, and writes what it asks for, which replaces what a buffer held. A message in fragments is
+    /// refused, so that no memory is taken; a text is too.
+    pub(crate) fn next_frame(
+        &mut self,
+        context: &mut WebSocketContext,
+        reply: &mut Vec<u8>,
+        packet: &mut [u8; LONGEST_READ],
+    ) -> Said
+        ensures { IfPacket result (λ size. (consumed : ℕ)
+            × IsMessage context.old (take self.old.filled self.old.bytes) consumed (take size packet.new)
+            × (take self.new.filled self.new.bytes ≡ drop consumed (take self.old.filled self.old.bytes))) }
+    {
+        reply.clear();
+        let filled = self.filled;
+        if filled == 0 {
+            return Said::Unknown;
+        }
+        if self.bytes[0] < LAST_OF_MESSAGE {
+            return Said::Wrong(CloseCode::Unsupported);
+        }
+        let Frame { consumed, said } = read_frame(context, &mut self.bytes, filled, reply, packet);
+        self.consume(consumed);
+        said
+    }
+}

@@ -1,0 +1,34 @@
+//! A relay for browsers: packets in WebSocket messages beside those over UDP, and files over HTTP, on the TCP port of the
+//! UDP socket's number.
+//!
+//! A [`Hub`] is the ether of both. [`serve`] is the endless loop of the program `c8relay`, whose command line is [`RELAY`]
+//! and [`relay_given`]. A connection begins with the head of an HTTP request. `/relay` and `/relay/N` become WebSocket,
+//! where each binary message is a packet; other paths name files that [`Pages`] read at the start. Everything else is
+//! refused, and closed.
+#![tactic(auto)]
+
+mod command;
+mod connection;
+mod crowd;
+mod folder;
+mod frames;
+mod hub;
+mod inbox;
+mod numbers;
+mod outbox;
+mod page;
+mod reply;
+mod request;
+mod serving;
+mod shared;
+mod site;
+mod turns;
+mod web;
+
+pub use command::{RELAY, relay_given};
+pub use folder::MOST_BYTES;
+pub use hub::Hub;
+pub use page::{Page, Pages};
+pub use serving::serve;
+pub use site::Site;
+pub use web::MOST_CONNECTIONS;

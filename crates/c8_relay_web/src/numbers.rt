@@ -1,0 +1,56 @@
+//! The numbers of connections.
+ghost use Rattle.std.specs.Prelude.{◌≡◌, ◌<◌, ◌%◌, ◌++◌, ◌∷◌, [], IfSome, IfNone};
+ghost use Rattle.std.specs.List.{All, Contains};
+
+use c8_disk::GhostList;
+
+/// How many connections there are at once.
+pub const MOST_CONNECTIONS: usize = 1024;
+
+/// The step from the numbers of one turn to those of the next: in each turn there is one for each place.
+const STEP: u64 = 1024;
+
+/// Gives each connection a number that no other has or had, by which its place is found.
+#[derive(Drop)]
+pub(crate) struct Numbers {
+    next: u64,
+    /// The numbers that were given, for proofs.
+    pub(crate) given: GhostList<u64>,
+    ghost below: { All (λ number. number < next) given.items },
+    ghost whole_turns: { next % 1024 ≡ 0 },
+}
+
+impl Numbers {
+    pub(crate) fn new() -> Numbers
+        ensures { result.given.items ≡ [] }
+    {
+        Numbers {
+            next: 0,
+            given: GhostList::new(),
+        }
+    }
+
+    /// A number for the connection in a place; `None` once there are no more.
+    pub(crate) fn give(&mut self, place: usize) -> Option<u64>
+        ensures fresh { IfSome result (λ number. Contains self.old.given.items number → ⊥) }
+        ensures noted { IfSome result (λ number. self.new.given.items ≡ self.old.given.items ++ number ∷ []) }
+        ensures at { IfSome result (λ number. number % 1024 ≡ place) }
+        ensures kept { IfNone result (self.new.given.items ≡ self.old.given.items) }
+    {
+        let next = self.next.checked_add(STEP)?;
+        if place >= MOST_CONNECTIONS {
+            return None;
+        }
+        let number = self.next + place as u64;
+        let given = self.given.and(&number);
+        *self = Numbers { next, given };
+        Some(number)
+    }
+}
+
+/// The place of the connection with a number.
+pub(crate) fn place_of(number: u64) -> usize
+    ensures { result ≡ number % 1024 }
+{
+    (number % STEP) as usize
+}
