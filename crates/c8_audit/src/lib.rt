@@ -1,19 +1,15 @@
-//! Judges the journals of a match: whether the inputs in them were entered, whether their checkpoints are true, and
-//! whether the players who were not dropped agree. The command `audit` prints the verdicts.
+//! The command `audit`: judges the journals of a match. Were the inputs in them entered, are their checkpoints true, and do
+//! the players who were not dropped agree?
 //!
-//! [`read_image`] reads the bytes of a file, without locking or changing it, and [`read_again`] reads them once more.
-//! [`journal_in`] reads the journal that they keep: its player and room, what it makes known, and its checkpoints; or it
-//! returns why it refuses them (`specs/Journal.antt`).
+//! [`audit_given`] reads the files, without locking or changing them: all journals first, and then all once more. [`gather`]
+//! finds the journals of one match in these readings; [`journal_in`] reads each, or says why it refuses it. [`judge`]
+//! answers the questions, and [`write_audit`] prints the answers. `replay` reads its journal by [`read_image`] and
+//! [`known_in`] too.
 //!
-//! [`gather`] reads the journals from the bytes of files; each file is read twice. [`judge`] audits the journals, and
-//! [`digest_of`] returns the digest of the final machine. `specs/Images.antt` says which journal a file keeps,
-//! `OneMatch.antt` when files keep the journals of one match, `Journals.antt` what the journals make known,
-//! `Verdicts.antt` when each verdict is yes and which fault a no names, `Honest.antt` which journals and files an honest
-//! match leaves. [`laws`] has what follows: a yes means agreement, and an honest match is never accused.
-//!
-//! [`audit_given`] is the command: it reads the files, all journals first and then all once more, and prints the verdicts.
-//! [`write_audit`] prints the lines for journals that were gathered. `specs/Audit.antt` says how the exit status follows
-//! from the verdicts.
+//! `specs/Journal.antt` says which bytes are a journal, `Images.antt` which journals files keep, `OneMatch.antt` when they
+//! are of one match, `Journals.antt` what they make known, `Verdicts.antt` when each verdict is yes and which fault a no
+//! names, `Audit.antt` how the exit status follows, `Honest.antt` what an honest match leaves. [`laws`]: a yes means
+//! agreement, and an honest match is never accused.
 #![tactic(auto)]
 
 mod agreed;

@@ -1,9 +1,10 @@
-//! Tests that are text: cases of calls, each command a public call of a peer or of a part. docs/TESTING.md has the language.
+//! The program that reads cases, tests that are text: each command is a public call of a peer or of a part. docs/TESTING.md
+//! has the language.
 //!
-//! Reads the commands of cases from standard input, does what they say, and writes the answers. `tools/calls` runs it for
-//! the cases of `cases/calls`; it has the form of a file, compares, and tries failures. `commands` reads the commands,
-//! `stage` and `node` have the peers of a match and their disks, `calls` and `look` what a peer is asked, `slots` its
-//! journal, and `watchers` the watchers. c8_part_cases has the commands of the parts.
+//! It reads the commands from standard input, does what they say, and writes the answers. `tools/calls` runs it for
+//! `cases/calls`; that script has the form of a file, compares, and tries failures. `commands` reads the commands, `stage`
+//! and `node` have the peers of a match and their disks, `calls` and `look` what a peer is asked, `slots` its journal, and
+//! `watchers` the watchers. c8_part_cases has the commands of the parts.
 #![tactic(auto)]
 
 mod calls;

@@ -1,6 +1,6 @@
 //! A session for C: one peer on a handle, with the calls of c8_embed's `Endpoint`. `embed/c8.h` declares the exports.
 //!
-//! [`Handle`] is the struct of one pointer that C sees. The clause of each export says what it does to the engine of an
+//! [`Handle`] is the struct of one pointer that C sees; `parts` takes the box behind it apart, and makes it again. The clause of each export says what it does to the engine of an
 //! open handle (`specs/Calls.antt`) and which number it answers (`specs/Codes.antt`). `proofs/` has by hand what a raw
 //! pointer needs: that an open handle owns what a box owns, and a closed one nothing.
 #![tactic(auto)]

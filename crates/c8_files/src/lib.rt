@@ -1,7 +1,7 @@
 //! The files of a match: its journal, and secrets.
 //!
-//! [`JournalDisk`] is the disk of a match's journal: a file, or memory with room for a whole game. `medium` keeps the system's
-//! error if the file fails ([`Trouble`]); `syncs` measures whether a disk is quick enough for a match
+//! [`JournalDisk`] is the disk of a match's journal: a file, or memory with room for a whole game. Its file
+//! is a `Medium`, which keeps the system's error if a call fails ([`Trouble`]); `syncs` measures whether a disk is quick enough for a match
 //! ([`warn_of_a_slow_disk`], [`slow_record`]).
 //!
 //! [`secret_in`] reads a secret from a file, [`make_secret`] and [`write_secret`] make one; [`warn_of_readers`] says if

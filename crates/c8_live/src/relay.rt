@@ -4,7 +4,7 @@ ghost use Rattle.std.specs.Prelude.{◌≡◌};
 use crate::ends::{Putter, Taker};
 use crate::packet::Packet;
 use c8_transport::{Losses, Wire, WireFailed};
-use c8_wire::{LONGEST_DATAGRAM, Seat};
+use c8_wire::Seat;
 
 /// A wire of two inlets: it sends into one and receives from the other. If the outbox is full, the datagram is lost and
 /// counted. It never fails.

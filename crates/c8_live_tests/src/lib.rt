@@ -1,4 +1,4 @@
-//! Tests of sessions and of engines: c8_live's session and its printed lines, and c8_embed.
+//! Tests of sessions and of engines: sessions of c8_session over c8_live, their printed lines, and c8_embed.
 //!
 //! `turns` plays scripts: what the other players send before each turn, and all that the turn sends. `games` plays
 //! whole games in one thread, `faults` has what ends a session, and `lines` the progress line. `engines` plays matches of

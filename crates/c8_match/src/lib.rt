@@ -1,5 +1,5 @@
-//! The commands of a match: `peer`, `play`, `host`, `join`, `watch`, `secret` and `game`. The programs c8peer and c8play are
-//! made from this table.
+//! The commands that the programs c8peer and c8play have in common, as one table: `peer`, `play`, `host`, `join`, `watch`,
+//! `secret` and `game`.
 #![tactic(auto)]
 
 use c8_command::Status;

@@ -1,9 +1,9 @@
-//! The command `peer`: plays a game with others over UDP.
+//! A match over UDP: the command `peer`, and what `play`, `host`, `join` and `watch` share with it.
 //!
-//! `arguments` and [`options`] have the options, and `command` opens the files. `play` begins the match ([`prepare`],
-//! [`play_on`]), and `stage` plays it in threads: the workers of c8_live, paced by `pace`, and a viewer. A
-//! [`Performance`] plays a match in the caller's thread instead ([`perform_on`]). The transport is c8_udp; in a match
-//! with a secret, `Sealed` lies over it (`line`, `seals`).
+//! Shared are the [`options`], the refusals ([`PeerError`], [`Fault`]), and the socket with its seal ([`Line`], `seals`;
+//! c8_udp is the transport, and in a match with a secret `Sealed` lies over it). `command` opens the files, and `play` the
+//! journal. `peer` plays in threads ([`play_on`]): `stage` has the workers of c8_live, paced by `pace`, and a viewer. `play`,
+//! `host` and `join` play in the caller's thread: [`perform_on`] hands the session to a [`Performance`].
 #![tactic(auto)]
 
 mod arguments;

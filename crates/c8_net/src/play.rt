@@ -20,7 +20,7 @@ use c8_game::{Game, Keys, Player};
 use c8_keys::{KeysError, Played, key_sets};
 use c8_live::laws::{machines_begin_where_they_did, true_checks_show_the_serial_run};
 use c8_live::tell_end;
-use c8_peer::{OpenError, Peer};
+use c8_peer::Peer;
 use c8_session::laws::peers_run_on;
 use c8_session::{Life, Session};
 use c8_transport::{Seal, Sealed};

@@ -5,7 +5,7 @@ ghost use Rattle.c8_net.specs.Answers.{IsUnbegun};
 
 use crate::arguments::Asked;
 use crate::error::PeerError;
-use crate::fault::{Fault, INPUT, Why};
+use crate::fault::{Fault, Why};
 use c8_command::TextError;
 use c8_disk::DiskError;
 use c8_files::{SecretFault, secret_in, warn_of_readers};

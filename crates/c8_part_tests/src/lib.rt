@@ -1,5 +1,5 @@
-//! Tests of parts: texts of c8_game and c8_digest (`machine`), c8_terminal, c8_known with c8_roll (`known`), and the inlets
-//! of c8_live. What else the parts do stands in `cases/calls`.
+//! Tests of parts that no case in `cases/calls` can be: texts of c8_screen, c8_game, c8_machine and c8_digest (`machine`),
+//! c8_terminal, random matches of c8_roll over c8_known (`known`), and the inlets of c8_live.
 #![tactic(auto)]
 
 #[cfg(test)]

@@ -1,13 +1,14 @@
 //! The commands `play`, `host` and `join`: people play at a keyboard, and see the screen, sixty frames a second.
 //!
-//! `console` is the interface to keyboard, screen and clock; `terminal` implements it, and is the only file here that
-//! calls the system. A [`Desk`] is a console with its held keys, its painter, and a `Beat` that says when the next
-//! frame is due. `live` plays a match at a desk: a performance of c8_net with one turn a frame. `alone` plays a game at
-//! a desk without a network. `arguments` has the options of `play`, and `command` runs them.
+//! A [`Console`] is a keyboard, a screen and a clock; [`Terminal`] is that of the process. A [`Desk`] is a console with its
+//! held keys, its painter, and a `Beat` that says when the next frame is due. [`Live`] plays a match at a desk: a
+//! `Performance` of c8_net with one turn a frame, which listens between two frames. [`play_alone`] plays a game at a desk
+//! without a network. `arguments` has the options of `play`, and `command` runs it.
 //!
-//! With `host` and `join` two friends play, with a secret and a journal each. Both are `play` with its options filled in
-//! (`host_command`): `host` is player 1 and learns the friend's address, `join` is player 2. [`own_addresses`] finds the
-//! addresses that the friend may type, and [`invitation`] writes the line.
+//! `host` and `join` are `play` for two friends with a secret and a journal each (`host_command`). `host` is player 1: it
+//! makes the secret, writes the invitation ([`invitation`], [`own_addresses`]), and learns where the friend is. `join` is
+//! player 2, and asks for the digits of the secret if its file is missing ([`digits_in`]). `journals` decides where the
+//! journal is.
 #![tactic(auto)]
 
 mod addresses;

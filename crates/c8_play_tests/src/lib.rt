@@ -1,14 +1,11 @@
-//! Tests of c8_play, of what c8_watch draws of a watched match, and of texts that no command prints in `cases/` or in
+//! Tests of what people type and see: c8_play, what c8_watch draws, and texts that no command prints in `cases/` or in
 //! `tools/programs`.
 //!
-//! `console` has consoles with scripted keys. `alone` plays a game at one, `waits` a match without other players, and
-//! `pair` a match of two over the loopback. `rows` has the row below the screen, `drawing` the pictures of a watched
-//! match, and `stop` a match that is watched until enough frames were seen. `friends` has what `host` and `join` show and
-//! read.
-//!
-//! `answers` and `refusals` have refusals for want of memory or space, `arguments` and `readers` arguments and readers that
-//! fail, and `disks` disks that are too slow. Functions without contracts lend the tables, so that a proof holds for any
-//! rows.
+//! `console` has consoles with scripted keys. `alone` plays a game at one, `waits` and `three` matches whose others are
+//! absent, `pair` a match of two over the loopback. `rows` has the row below the screen, `friends` what `host` and `join`
+//! show and read, `pauses` the sleeps of a peer's threads, `disks` disks that are too slow. `drawing` has the pictures of a
+//! watched match, and `stop` its end after enough frames. `answers`, `refusals`, `arguments` and `readers` have lines of
+//! refusals. Functions without contracts lend the tables, so that a proof holds for any rows.
 #![tactic(auto)]
 
 #[cfg(test)]

@@ -9,11 +9,29 @@ use crate::explain::site_if;
 use crate::journals::are_written;
 use crate::transcript::{Transcript, Unfinished, play_script};
 use c8_command::{Refusal, Site, Status, Text, read_both};
+use c8_front::{is_explained, word_of};
 use c8_game::GameError;
+use clap::ArgMatches;
 use std::alloc::Global;
 use std::io;
 use std::io::Write;
 use std::rt::Files;
+
+/// Runs `sim` as the command line asks. The error is a writer's, or that memory ran out.
+pub fn sim_given<R, W: Write, E: Write>(
+    rt: &R,
+    given: &ArgMatches<'_>,
+    out: &mut W,
+    refused: &mut E,
+) -> io::Result<Status>
+where
+    R: Files + AllocGlobal,
+{
+    let (game, script) = (word_of(given, "GAME"), word_of(given, "SCRIPT"));
+    let journals = given.get_str("journals");
+    let explain = is_explained(given);
+    sim_files(rt, game, script, journals, explain, out, refused)
+}
 
 /// Reads a game and a script from two files, and runs them as [`sim`] does. It writes the players' journals to the folder
 /// `journals`, if there is one. If a file cannot be read, the refusal is the disk's, whatever the other file says. If a

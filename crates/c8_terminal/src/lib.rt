@@ -1,11 +1,11 @@
-//! Shows a CHIP-8 screen as text in a terminal, decodes its keyboard, and says when frames are due.
+//! Between a game and a terminal: a CHIP-8 screen as text, the bytes of a keyboard as held keys, and the clock of frames.
+//! Nothing here touches the system or takes memory.
 //!
-//! A row of text shows two rows of points, so a screen is 16 rows of 64 cells, and points are square. [`Painter`]
-//! writes the bytes of the rows of text that changed since the last painting.
-//!
-//! [`Decoder`] decodes the bytes that the terminal sends into [`Signal`]s. [`Held`] turns signals into the keys of the
-//! keypad that are held in each frame, even if the terminal does not report releases. A [`Beat`] says when each frame is
-//! due, and [`Lateness`] counts how late frames have begun. Nothing here touches the system or takes memory.
+//! A row of text shows two rows of points, so a screen is 16 rows of 64 cells, and points are square. [`Painter`] writes the
+//! bytes of the rows of text that changed since the last painting. [`Decoder`] decodes the bytes that the terminal sends
+//! into [`Signal`]s, and [`Held`] turns signals into the keys of the keypad that are held in each frame, even if the
+//! terminal does not report releases. A [`Beat`] says when each frame is due, and [`Lateness`] counts how late frames have
+//! begun (`specs/Beats.antt`).
 //!
 //! Contracts say what a terminal does that reads the bytes: `specs/Terminal.antt` defines a small terminal,
 //! `specs/Picture.antt` when it shows a set of points, `specs/Painting.antt` the bytes. For the keyboard,

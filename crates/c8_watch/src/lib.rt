@@ -1,12 +1,10 @@
-//! Watching a match live: the turns of a spectator over the network, and the command `watch`.
+//! The command `watch`: watches a match live over UDP, without playing.
 //!
-//! [`watch_turn`] is one turn: it hears the packets that wait, and tells player 1 how many rows it has.
-//! [`watch_worker`] makes turns until the match is complete, and publishes the rows on a board ([`open_watch_board`]
-//! opens one). A [`Picture`] sees the machine after each turn. c8_spectator decides which rows a spectator takes;
-//! `specs/Turns.antt` defines a turn.
-//!
-//! The command `watch` watches a match over UDP, without playing. `command` opens the files and the socket, and
-//! [`watch_on`] watches over any wire: `stage` has the two threads, `drawing` the picture.
+//! `command` opens the files and the socket, and [`watch_on`] watches over any wire, in two threads (`stage`). One makes the
+//! turns of a spectator until the match is complete ([`watch_worker`]): in each it hears the packets that wait, and tells
+//! player 1 how many rows it has ([`watch_turn`], `specs/Turns.antt`). It publishes the rows on a board, at which the other
+//! thread looks ([`open_watch_board`]). A [`Picture`] sees the machine after each turn; `drawing` is that on a terminal.
+//! c8_spectator decides which rows a spectator takes.
 #![tactic(auto)]
 
 mod arguments;

@@ -1,4 +1,4 @@
-//! Tests of what runs beside a session: the workers and boards of c8_live, and the watchers of c8_watch.
+//! Tests of the threads of a peer and of a watcher: workers and boards of c8_live, and c8_watch.
 //!
 //! `packets` moves packets between two inlets and a wire in memory. `matches` plays a game with two game workers in
 //! threads of their own, whose relays are joined, and lets a net worker and a game worker wait for each other. `run` has a

@@ -1,24 +1,21 @@
 //! The command line.
 
-use crate::help::{ENDING, SIM_ENDING};
+use crate::help::ENDING;
 use c8_audit::{AUDIT, audit_given};
 use c8_command::Status;
 use c8_front::{
-    Argument, Form, Outline, RUN, SHOW, Terminals, Threaded, is_explained, status_at, tell,
-    with_commands, word_of, words_in,
+    RUN, SHOW, Terminals, Threaded, is_explained, status_at, tell, with_commands, word_of, words_in,
 };
 use c8_keys::run_files;
 use c8_match::{match_commands, match_given};
 use c8_replay::{REPLAY, replay_given};
-use c8_script::{RIG, rig_given, sim_files};
+use c8_script::{RIG, SIM, rig_given, sim_given};
 use c8_show::show;
 use clap::{ArgMatches, Command};
 use std::alloc::{AllocError, Global};
 use std::env::Args;
-use std::fs::File;
 use std::io;
 use std::io::{Read, Write};
-use std::rt::Files;
 
 /// Runs the program with these arguments, and returns its exit status. `input` is standard input. Output goes to `out`,
 /// and refusals to `refused`.
@@ -76,32 +73,6 @@ fn command<'a>(alloc: Global) -> Result<Command<'a>, AllocError> {
     with_commands(alloc, line, &commands)
 }
 
-/// The command `sim`.
-static SIM: Outline = Outline {
-    name: "sim",
-    about: "Plays all players of a game here, as a script says, and prints the answers",
-    ending: SIM_ENDING,
-    takes: &[
-        Argument {
-            name: "GAME",
-            help: "The path of the game's text",
-            ..Argument::NEEDED
-        },
-        Argument {
-            name: "SCRIPT",
-            help: "The path of the script: one event a line",
-            ..Argument::NEEDED
-        },
-        Argument {
-            name: "journals",
-            help: "Writes each player's journal to the folder DIR at the end, as journal1 and so on",
-            form: Form::Option("DIR"),
-            ..Argument::NEEDED
-        },
-        Argument::EXPLAIN,
-    ],
-};
-
 /// Does what a command line without a mistake asks for.
 fn carry_out<R, I, W: Write, E: Write + Send>(
     rt: &R,
@@ -124,7 +95,7 @@ where
     }
 }
 
-/// Does what a command asks for that needs no other program.
+/// Does what a command asks for that is not in the table of c8_match.
 fn carry_out_alone<R, W: Write, E: Write + Send>(
     rt: &R,
     name: &str,
@@ -150,19 +121,4 @@ where
         }
         _ => Ok(Status::CommandLine),
     }
-}
-
-fn sim_given<R, W: Write, E: Write>(
-    rt: &R,
-    given: &ArgMatches,
-    out: &mut W,
-    refused: &mut E,
-) -> io::Result<Status>
-where
-    R: Files<File = File> + AllocGlobal,
-{
-    let (game, script) = (word_of(given, "GAME"), word_of(given, "SCRIPT"));
-    let journals = given.get_str("journals");
-    let explain = is_explained(given);
-    sim_files(rt, game, script, journals, explain, out, refused)
 }

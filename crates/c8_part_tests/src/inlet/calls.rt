@@ -1,6 +1,6 @@
 //! Both ends in one thread.
 use crate::told::{prints, shows};
-use c8_live::{Packet, Putter, Taker, TooLong, after, beside, inlet};
+use c8_live::{Packet, Putter, TooLong, after, beside, inlet};
 use c8_transport::LONGEST_PACKET;
 use std::alloc::AllocError;
 use std::test::Fail;
