@@ -6,6 +6,9 @@
 #include <stdlib.h>
 #include <string.h>
 #include <time.h>
+#ifdef _WIN32
+#include <windows.h>
+#endif
 
 enum { FRAMES = 20000, WINDOW = 12, ROUNDS = 5, MANY = 2000000 };
 enum { HELLO, WELCOME, DATA };
@@ -21,11 +24,20 @@ static void must(uint32_t answer, const char *what) {
     exit(1);
 }
 
+#ifdef _WIN32
+static double now_ns(void) {
+    LARGE_INTEGER now, second;
+    QueryPerformanceCounter(&now);
+    QueryPerformanceFrequency(&second);
+    return (double)now.QuadPart * 1e9 / (double)second.QuadPart;
+}
+#else
 static double now_ns(void) {
     struct timespec t;
     clock_gettime(CLOCK_MONOTONIC, &t);
     return (double)t.tv_sec * 1e9 + (double)t.tv_nsec;
 }
+#endif
 
 static uint16_t input(int player, uint32_t frame) { return (uint16_t)((frame + 1) * 7919 * (uint32_t)player); }
 

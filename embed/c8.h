@@ -5,10 +5,10 @@
  * missing inputs, rolls back when a real one differs, and agrees with the others on every confirmed frame. This is
  * proved; docs/PROOFS.md says what exactly, and under which premises.
  *
- * Link with libc8_engine.a, then the toolchain's libos_c.a and liblibc_c.a. The last one has rattle_alloc,
- * rattle_realloc and rattle_dealloc over malloc; an engine may define these three itself, as random.c does. Only the
- * opening of a session takes memory. No call starts a thread or calls back. With a journal in memory none waits; with one
- * in a file an opening, a tick, a delivery and a turn wait for the disk.
+ * Link with the library of your system: docs/EMBEDDING.md has a line for each. Only the opening of a session takes
+ * memory, by malloc or c8_memory. No call starts a thread, and none calls back but for memory. A call needs up to 140 KB
+ * of stack, an opening most: give a thread 256 KB. With a journal in memory none waits; with one in a file an opening, a
+ * tick, a delivery and a turn wait for the disk.
  *
  * example.c is a whole program, game.c a game over UDP, docs/EMBEDDING.md an overview.
  *
@@ -31,6 +31,9 @@
 #include <stdbool.h>
 #include <stddef.h>
 #include <stdint.h>
+
+/* The version of the library that this header is for. docs/EMBEDDING.md says what may change between versions. */
+#define C8_VERSION "0.2.0"
 
 #ifdef __cplusplus
 extern "C" {
@@ -97,12 +100,18 @@ c8_answer c8_open(const uint8_t *text, size_t length, uint8_t player, uint64_t r
 c8_answer c8_open_journal(const uint8_t *text, size_t length, uint8_t player, uint64_t room, uint32_t patience,
                          int32_t file, int32_t folder, c8_session *);
 
-/* Opens the file at this path to read and write, and makes it if there is none; and the folder that has its name. Returns
- * 0, or -1 with errno. It is in c8_journal.c: compile that file with the program. */
+/* Opens the file at this path, in UTF-8, to read and write, and makes it if there is none; and the folder that has its
+ * name. Returns 0, or -1 with errno; on Windows with GetLastError. On macOS, iOS and Android it is not in the library:
+ * compile c8_journal.c with the program. */
 int c8_journal_open(const char *path, int32_t *file, int32_t *folder);
 
 /* Closes a session. At a closed one it does nothing; a closed one may be opened again. */
 void c8_close(c8_session *);
+
+/* From now on the library takes memory by these three functions, which do what malloc, realloc and free do; null stands
+ * for malloc, realloc or free. Their blocks are aligned to 16 bytes. Call it while no session is open and no other call
+ * runs. */
+void c8_memory(void *(*take)(size_t size), void *(*again)(void *at, size_t size), void (*give)(void *at));
 
 /* ---- a frame: deliver what came, tick, make the turn, send what is due, step
  *

@@ -1,27 +1,20 @@
 /* Two ships: a game of two players over UDP, on the rows of a session.
  *
  *     game ROLE LOCAL_PORT HOST PORT [--frames N] [--journal FILE] [--secret FILE] [--script SEED] [--lose PERCENT]
+ *          [--die TICK]
  *
  * ROLE is 1 or 2; HOST and PORT are where the other player listens. Keys: a and d turn, w accelerates, space fires, q
  * quits. N (default 3600, one minute) must be the same for both. With --journal a killed player continues where it was.
- * The file of a secret has 64 hexadecimal digits; with it a player follows the other one to any address. For tests: with --script the inputs come from a seed, nothing is drawn, and the game runs as fast as the other player
- * allows; --lose drops this share of the datagrams that it sends. Both players end with the same last line. */
+ * The file of a secret has 64 hexadecimal digits; with it a player follows the other one to any address. For tests: with
+ * --script the inputs come from a seed, nothing is drawn, and the game runs as fast as the other player allows; --lose
+ * drops this share of the datagrams that it sends; --die kills the player before this tick. Both players end with the
+ * same last line. What it needs of Linux or Windows is in platform.h. */
 #define _POSIX_C_SOURCE 200809L
 #include "c8.h"
 
-#include <errno.h>
-#include <fcntl.h>
+#include "platform.h"
+
 #include <inttypes.h>
-#include <netdb.h>
-#include <netinet/in.h>
-#include <poll.h>
-#include <stdio.h>
-#include <stdlib.h>
-#include <string.h>
-#include <sys/socket.h>
-#include <termios.h>
-#include <time.h>
-#include <unistd.h>
 
 /* ---- the machine: a state of plain numbers, and a step that depends on nothing but the state and the row
  *
@@ -128,29 +121,13 @@ static uint64_t mix(uint64_t x) {
 /* Some keys of the four, for six frames each. */
 static uint16_t scripted(uint64_t seed, uint32_t frame) { return mix(mix(seed) + frame / 6) & 15; }
 
-static struct termios terminal;
-static void restore_terminal(void) { tcsetattr(0, TCSANOW, &terminal); }
-
-static void open_terminal(void) {
-    if (tcgetattr(0, &terminal)) {
-        perror("game: no terminal");
-        exit(1);
-    }
-    struct termios raw = terminal;
-    raw.c_lflag &= ~(tcflag_t)(ICANON | ECHO | ISIG);
-    raw.c_cc[VMIN] = 0, raw.c_cc[VTIME] = 0;
-    atexit(restore_terminal);
-    tcsetattr(0, TCSANOW, &raw);
-    printf("\033[2J");
-}
-
 /* A terminal reports when a key is struck, but not when it is released. So a stroke counts for ten frames. */
 static uint16_t typed(bool *quit) {
     static const char names[] = "adw ";
     static int left[4];
     char bytes[64];
-    ssize_t count = read(0, bytes, sizeof bytes);
-    for (ssize_t i = 0; i < count; i++) {
+    int count = read_keys(bytes, sizeof bytes);
+    for (int i = 0; i < count; i++) {
         const char *name = bytes[i] ? strchr(names, bytes[i]) : NULL;
         if (name) left[name - names] = 10;
         if (bytes[i] == 'q' || bytes[i] == 3) *quit = true;
@@ -178,34 +155,17 @@ static void draw(const state *s, const char *message) {
 /* ---- the network: a session does not care how its datagrams travel */
 
 typedef struct {
-    int udp;
+    udp_socket udp;
     struct sockaddr_in there; /* where the other player is; with a secret, where its newest packet came from */
 } network;
-
-static bool open_network(const char *local, const char *host, const char *port, bool is_sealed, network *n) {
-    struct addrinfo wanted = {.ai_family = AF_INET, .ai_socktype = SOCK_DGRAM, .ai_flags = AI_PASSIVE}, *here, *there;
-    errno = EINVAL; /* getaddrinfo does not set it */
-    if (getaddrinfo(NULL, local, &wanted, &here)) return false;
-    wanted.ai_flags = 0;
-    if (getaddrinfo(host, port, &wanted, &there)) return freeaddrinfo(here), false;
-    memcpy(&n->there, there->ai_addr, sizeof n->there);
-    n->udp = socket(AF_INET, SOCK_DGRAM, 0);
-    bool is_open = n->udp >= 0 && !bind(n->udp, here->ai_addr, here->ai_addrlen)
-        && fcntl(n->udp, F_SETFL, O_NONBLOCK) >= 0;
-    /* A connected socket receives from this address alone. */
-    is_open = is_open && (is_sealed || !connect(n->udp, there->ai_addr, there->ai_addrlen));
-    freeaddrinfo(here), freeaddrinfo(there);
-    return is_open;
-}
 
 /* Delivers the received packets. Returns 0, or the refusal after which the session cannot continue. Other refusals are
  * of packets that came late or twice, or from a stranger. */
 static uint32_t receive_all(c8_session *session, network *n) {
     uint8_t bytes[C8_PACKET + 1];
     struct sockaddr_in from;
-    socklen_t size = sizeof from;
-    ssize_t length;
-    while ((length = recvfrom(n->udp, bytes, sizeof bytes, 0, (struct sockaddr *)&from, &size)) >= 0) {
+    int length;
+    while ((length = receive(n->udp, bytes, sizeof bytes, &from)) >= 0) {
         bool newest = false;
         uint32_t answer = c8_deliver(session, bytes, (size_t)length);
         if (answer == C8_DISK || answer == C8_FULL) return answer;
@@ -220,7 +180,7 @@ static void send_all(c8_session *session, const network *n, unsigned lose) {
     uint32_t length;
     while ((length = c8_next(session, bytes, &to)) > 0)
         if (mix(++sent) % 100 >= lose) /* one that cannot be sent is one that is lost */
-            sendto(n->udp, bytes, length, 0, (const struct sockaddr *)&n->there, sizeof n->there);
+            send_packet(n->udp, bytes, length, &n->there);
 }
 
 /* ---- the loop */
@@ -229,12 +189,6 @@ static void fail(const char *what, uint32_t why) {
     uint8_t text[160];
     fprintf(stderr, "game: %s: %.*s\n", what, (int)c8_explain(why, text, sizeof text), (char *)text);
     exit(1);
-}
-
-static uint64_t now_ns(void) {
-    struct timespec t;
-    clock_gettime(CLOCK_MONOTONIC, &t);
-    return (uint64_t)t.tv_sec * 1000000000 + (uint64_t)t.tv_nsec;
 }
 
 /* Whether the player should leave out a tick: it has been more than half a window ahead of the other for a second. This
@@ -256,6 +210,7 @@ typedef struct {
     bool is_scripted;
     uint64_t seed;
     unsigned lose;
+    uint32_t death;
 } options;
 
 static options read_options(int count, char **words) {
@@ -269,12 +224,13 @@ static options read_options(int count, char **words) {
         else if (!strcmp(name, "--secret")) o.secret = value;
         else if (!strcmp(name, "--script")) o.is_scripted = true, o.seed = strtoull(value, NULL, 10);
         else if (!strcmp(name, "--lose")) o.lose = (unsigned)strtoul(value, NULL, 10);
+        else if (!strcmp(name, "--die")) o.death = (uint32_t)strtoul(value, NULL, 10);
         else goto usage;
     }
     if (o.me == 1 || o.me == 2) return o;
 usage:
     fprintf(stderr, "usage: game 1|2 LOCAL_PORT HOST PORT [--frames N] [--journal FILE] [--secret FILE] "
-                    "[--script SEED] [--lose PERCENT]\n");
+                    "[--script SEED] [--lose PERCENT] [--die TICK]\n");
     exit(2);
 }
 
@@ -295,23 +251,32 @@ static void read_secret(const char *path, c8_session *session) {
     if (why) fail("no secret", why);
 }
 
-static void open_session(const options *o, c8_session *session) {
-    /* The id names the rules: players of another version of the machine do not meet. */
-    static const uint8_t id[32] = "two ships 1";
-    enum { ROOM = 1, PATIENCE = 600 }; /* ten seconds without a datagram */
-    uint8_t text[C8_RULES];
-    uint32_t length = c8_rules(2, o->frames, DELAY, WINDOW, id, text, sizeof text), why;
-    uint32_t patience = o->is_scripted ? 0 : PATIENCE;
-    if (o->journal) {
+enum { ROOM = 1 }; /* all players of the match have the same */
+
+/* Opens the session over a journal. Windows frees the lock of a player that died a little late, so it tries some times. */
+static uint32_t open_with_journal(const options *o, const uint8_t *text, uint32_t length, uint32_t patience, c8_session *session) {
+    uint32_t why = C8_LOCKED;
+    for (int tries = 0; why == C8_LOCKED && tries < 30; tries++) {
         int32_t file, folder;
+        if (tries > 0) pause_for(100);
         if (c8_journal_open(o->journal, &file, &folder)) {
-            perror(o->journal);
+            fprintf(stderr, "game: %s: the journal cannot be opened\n", o->journal);
             exit(1);
         }
         why = c8_open_journal(text, length, o->me, ROOM, patience, file, folder, session);
-    } else {
-        why = c8_open(text, length, o->me, ROOM, patience, session);
     }
+    return why;
+}
+
+static void open_session(const options *o, c8_session *session) {
+    /* The id names the rules: players of another version of the machine do not meet. */
+    static const uint8_t id[32] = "two ships 1";
+    enum { PATIENCE = 600 }; /* ten seconds without a datagram */
+    uint8_t text[C8_RULES];
+    uint32_t length = c8_rules(2, o->frames, DELAY, WINDOW, id, text, sizeof text);
+    uint32_t patience = o->is_scripted ? 0 : PATIENCE;
+    uint32_t why = o->journal ? open_with_journal(o, text, length, patience, session)
+                              : c8_open(text, length, o->me, ROOM, patience, session);
     if (why) fail("not opened", why);
     if (o->secret) read_secret(o->secret, session);
 }
@@ -324,9 +289,8 @@ static void wait_for_frame(c8_session *session, network *n, bool is_scripted, bo
     if (due + 5 * frame_ns < now) due = now; /* does not catch up frames after a pause */
     due += frame_ns;
     do {
-        struct pollfd ready = {.fd = n->udp, .events = POLLIN};
         int wait = is_scripted ? 2 * was_refused : now < due ? (int)((due - now + 999999) / 1000000) : 0;
-        poll(&ready, 1, wait);
+        wait_for_packet(n->udp, wait);
         uint32_t why = receive_all(session, n);
         if (why) fail("the match cannot go on", why);
         now = now_ns();
@@ -340,9 +304,9 @@ int main(int count, char **words) {
     c8_player_state player = {0};
     bool was_refused = false, quit = false;
     network n;
-    if (!open_network(o.local, o.host, o.port, o.secret, &n)) return perror("game: no socket"), 1;
+    if (!open_udp(o.local, o.host, o.port, !o.secret, &n.udp, &n.there)) return fprintf(stderr, "game: no socket\n"), 1;
     open_session(&o, &session);
-    if (o.is_scripted) alarm(60); /* a test does not hang */
+    if (o.is_scripted) end_after(60); /* a test does not hang */
     else open_terminal();
     states[0] = first_state();
     run(&session);
@@ -355,6 +319,7 @@ int main(int count, char **words) {
             was_refused = why != 0;
             if (why && why != C8_THRESHOLD && why != C8_END && why != C8_DROPPED) fail("no tick", why);
         }
+        if (o.death && c8_ticked(&session) >= o.death) die();
         uint32_t why = c8_turn(&session);
         if (why) fail("no turn", why);
         if (c8_is_lost(&session)) {
@@ -372,6 +337,6 @@ int main(int count, char **words) {
     uint32_t frames = c8_confirmed(&session);
     printf("frames %" PRIu32 " hash %016" PRIx64 "\n", frames, hash(&states[frames % RING]));
     c8_close(&session);
-    close(n.udp);
+    closesocket(n.udp);
     return frames < o.frames;
 }

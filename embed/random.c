@@ -1,55 +1,33 @@
 /* Calls all exports at random, in any order, with any bytes. Nothing crashes, each answer has a meaning, no call writes
  * more than c8.h says, and only an opening takes memory.
  *
- *     random [CALLS [SEED]]
+ *     random [CALLS [SEED [JOURNAL]]]
  *
  * Three players of one match deliver each other's packets, whole or damaged, in every second match with a secret; a
  * fourth session plays some match, and a fifth is mostly closed. At the end two players of a match with a secret refuse
- * all repeated and altered packets, and a journal's disk fails. */
+ * all repeated and altered packets, and (not on Windows) a journal's disk fails. JOURNAL is the path of a file that the
+ * program makes and removes. */
 #define _POSIX_C_SOURCE 200809L
 #include "c8.h"
 
 #include <inttypes.h>
-#include <signal.h>
 #include <stdio.h>
 #include <stdlib.h>
 #include <string.h>
+#ifndef _WIN32
+#include <signal.h>
 #include <sys/resource.h>
-#include <unistd.h>
+#endif
 
-/* ---- memory that counts: an engine may define these three itself */
+/* ---- memory that counts */
 
 static uint64_t taken, given_back;
 
-typedef struct {
-    bool ok;
-    void *at;
-} tried;
+static void *take(size_t size) { return taken++, malloc(size); }
 
-tried rattle_alloc(size_t size, size_t align);
-tried rattle_realloc(void *old, size_t kept, size_t size, size_t align);
-void rattle_dealloc(void *old);
+static void *again(void *old, size_t size) { return taken++, given_back++, realloc(old, size); }
 
-/* malloc's blocks are aligned to 16, which is all that is asked for. */
-static tried got(void *at) {
-    static uint8_t nothing;
-    tried t = {at != NULL, at ? at : &nothing};
-    taken++;
-    return t;
-}
-
-tried rattle_alloc(size_t size, size_t align) { return got(malloc(size ? size : align)); }
-
-tried rattle_realloc(void *old, size_t kept, size_t size, size_t align) {
-    (void)kept;
-    given_back++;
-    return got(realloc(old, size ? size : align));
-}
-
-void rattle_dealloc(void *old) {
-    given_back++;
-    free(old);
-}
+static void give(void *old) { given_back += old != NULL, free(old); }
 
 /* ---- the dice */
 
@@ -316,6 +294,7 @@ static void call(c8_session *s) {
     }
 }
 
+#ifndef _WIN32
 /* A journal whose disk fails at some moment. Then the session is down, and sends nothing until it is opened again. */
 static void fail_disk(void) {
     c8_session s = {0}, again = {0};
@@ -323,7 +302,7 @@ static void fail_disk(void) {
     struct rlimit before, limit;
     uint32_t answer = 0;
     what = "a disk that fails";
-    unlink(journal);
+    remove(journal);
     uint8_t id[32] = {2};
     text_length = c8_rules(2, 1000, 0, 12, id, text, sizeof text);
     if (c8_journal_open(journal, &file, &folder)) fail("no journal", 0);
@@ -350,6 +329,11 @@ static void fail_disk(void) {
     c8_close(&again);
     openings += 2;
 }
+
+#else
+/* Windows has no limit of a file's size. */
+static void fail_disk(void) {}
+#endif
 
 /* Delivers a packet to player `to` of two with a secret: altered, then as it is, then again, and to its sender. */
 static void deliver_sealed(c8_session two[2], const uint8_t *packet, uint32_t length, uint8_t to) {
@@ -437,17 +421,13 @@ static void play_watched(bool has_secret, const uint8_t *of_watchers) {
 int main(int count, char **words) {
     uint64_t most = count > 1 ? strtoull(words[1], NULL, 10) : 1000000;
     dice = (count > 2 ? strtoull(words[2], NULL, 10) : 1) * 0x9e3779b97f4a7c15 | 1;
-    const char *temporary = getenv("TMPDIR");
-    char folder[512], path[sizeof folder + 8];
-    snprintf(folder, sizeof folder, "%s/c8_random.XXXXXX", temporary ? temporary : "/tmp");
-    if (!mkdtemp(folder)) return perror(folder), 1;
-    snprintf(path, sizeof path, "%s/journal", folder);
-    journal = path;
+    c8_memory(take, again, give);
+    journal = count > 3 ? words[3] : "random.journal";
     for (; calls < most; calls++) {
         c8_session *s = &sessions[roll(20) ? roll(4) : 4];
         if (calls % OPENING == 0) {
             what = "opening";
-            unlink(journal);
+            remove(journal);
             open_all();
         } else if (roll(OPENING) == 0) {
             what = "opening one";
@@ -470,9 +450,9 @@ int main(int count, char **words) {
     fail_disk();
     what = "the end";
     for (int i = 0; i < SESSIONS; i++) c8_close(&sessions[i]);
+    if (taken < openings) fail("memory that c8_memory does not see", taken);
     if (taken - given_back > 2 * openings) fail("lost memory", taken - given_back);
-    unlink(journal);
-    rmdir(folder);
+    remove(journal);
     printf("random: %" PRIu64 " calls, fine\n", calls);
     fprintf(stderr,
             "openings %" PRIu64 ", ticks %" PRIu64 ", rows %" PRIu64 ", packets kept %" PRIu64 ", refused %" PRIu64

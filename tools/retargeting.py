@@ -24,7 +24,7 @@ FILES = frozenset(("rattle_errno", "pread", "pwrite", "lseek", "fsync", "fdatasy
 BYTES = frozenset(("memcpy", "memmove", "memset", "memcmp"))
 # Assembly and intrinsics belong to a processor. The rest are conventions that systems have in different forms.
 REFUSED = re.compile(r"\basm\b|@llvm\.(?:x86|aarch64)\.|\b(?:byval|sret|inalloca|thread_local|preallocated)\b")
-# An export that returns fewer than 32 bits. Callers on macOS for ARM take the upper bits for zeros; other systems make no difference.
+# An export that returns fewer than 32 bits. JavaScript, and C on macOS for ARM, take the bits above for zeros; other callers ignore them.
 NARROW = re.compile(r"^(define (?:(?!zeroext|signext)\w+ )*)(i(?:1|8|16) @c8_)")
 OF_PROCESSOR = ("target-cpu", "target-features", "tune-cpu")
 

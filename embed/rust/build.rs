@@ -1,31 +1,32 @@
-//! Links the archive of the session and two of the toolchain. C8PLAY_LIB names their folders, separated by `:`.
+//! Finds the library of the session: in the folder that C8PLAY_LIB names, else in `lib` beside this file, where a packed crate has it.
+//!
+//! Without a library the crate can be checked, documented and compiled, also its tests, but not run: `src/sys/absent.rs` stands in for it.
 
 use std::env;
-use std::path::PathBuf;
+use std::path::{Path, PathBuf};
 use std::process::exit;
-
-/// The archives, in the order in which they are linked.
-const ARCHIVES: [&str; 3] = ["c8_engine", "os_c", "libc_c"];
 
 fn main() {
     println!("cargo:rerun-if-changed=build.rs");
+    println!("cargo:rerun-if-changed=lib");
     println!("cargo:rerun-if-env-changed=C8PLAY_LIB");
-    let Some(folders) = env::var_os("C8PLAY_LIB") else {
-        fail(
-            "C8PLAY_LIB is not set. It names the folders of libc8_engine.a, libos_c.a and liblibc_c.a, separated by `:`",
-        );
+    println!("cargo:rustc-check-cfg=cfg(c8_absent)");
+    let beside = Path::new(&env::var_os("CARGO_MANIFEST_DIR").expect("cargo sets it")).join("lib");
+    let folder = match env::var_os("C8PLAY_LIB") {
+        Some(folder) => match PathBuf::from(folder).canonicalize() {
+            Ok(folder) if has_library(&folder) => folder,
+            _ => fail("there is no libc8.a in the folder that C8PLAY_LIB names"),
+        },
+        None if has_library(&beside) => beside,
+        None => return println!("cargo:rustc-cfg=c8_absent"),
     };
-    let folders: Vec<PathBuf> = env::split_paths(&folders).collect();
-    for archive in ARCHIVES {
-        let file = format!("lib{archive}.a");
-        let Some(folder) = folders.iter().find(|folder| folder.join(&file).is_file()) else {
-            fail(&format!("there is no {file} in a folder of C8PLAY_LIB: {folders:?}"));
-        };
-        let folder = folder.canonicalize().unwrap_or_else(|error| fail(&format!("{}: {error}", folder.display())));
-        println!("cargo:rustc-link-search=native={}", folder.display());
-        println!("cargo:rustc-link-lib=static={archive}");
-        println!("cargo:rerun-if-changed={}", folder.join(&file).display());
-    }
+    println!("cargo:rustc-link-search=native={}", folder.display());
+    println!("cargo:rustc-link-lib=static=c8");
+    println!("cargo:rerun-if-changed={}", folder.join("libc8.a").display());
+}
+
+fn has_library(folder: &Path) -> bool {
+    folder.join("libc8.a").is_file()
 }
 
 fn fail(message: &str) -> ! {

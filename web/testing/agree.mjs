@@ -93,8 +93,9 @@ class Game {
 function play(c8, text, isSealed) {
   dice = 12345;
   sum = 2166136261 | 0;
-  const game = new Game(c8, text, isSealed);
+  const game = new Game(c8, text, isSealed), blocks = c8.exports.page_blocks();
   for (let turn = 0; turn < TURNS; turn++) game.turn(turn);
+  if (c8.exports.page_blocks() !== blocks) throw new Error('a turn took memory');
   return game.end();
 }
 

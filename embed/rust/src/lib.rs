@@ -29,8 +29,8 @@
 //! # Ok::<(), c8play_session::Refusal>(())
 //! ```
 //!
-//! When the crate is built, the environment variable `C8PLAY_LIB` names the folders of `libc8_engine.a` and of the
-//! toolchain's `libos_c.a` and `liblibc_c.a`, separated by `:`.
+//! When the crate is built, the environment variable `C8PLAY_LIB` names the folder of `libc8.a`; a packed crate has it in `lib`. Without
+//! either, the crate can be checked and documented, and its calls panic.
 #![deny(unsafe_code)]
 #![warn(missing_debug_implementations)]
 

@@ -6,7 +6,10 @@ use crate::sys::{self, Handle, PlayerState};
 use std::fmt;
 use std::fs::{File, OpenOptions};
 use std::io;
-use std::os::fd::OwnedFd;
+#[cfg(unix)]
+use std::os::fd::OwnedFd as Owned;
+#[cfg(windows)]
+use std::os::windows::{fs::OpenOptionsExt, io::OwnedHandle as Owned};
 use std::path::{Path, PathBuf};
 
 /// The answer of a call that answers 0 or a refusal.
@@ -59,8 +62,8 @@ pub enum Kind {
 /// The file of a journal, and the folder that has its name.
 #[derive(Debug)]
 pub struct Journal {
-    file: OwnedFd,
-    folder: OwnedFd,
+    file: Owned,
+    folder: Owned,
 }
 
 impl Journal {
@@ -72,14 +75,26 @@ impl Journal {
         }
         // A link is followed first: the name to make durable is that of the file itself.
         let real = path.as_ref().canonicalize()?;
-        let folder = File::open(real.parent().map_or(PathBuf::from("/"), Path::to_path_buf))?;
+        let folder = open_folder(&real.parent().map_or(PathBuf::from("/"), Path::to_path_buf))?;
         Ok(Journal::of(file, folder))
     }
 
     /// A file that is open to read and write, and its folder.
-    pub fn of(file: impl Into<OwnedFd>, folder: impl Into<OwnedFd>) -> Journal {
+    pub fn of(file: impl Into<Owned>, folder: impl Into<Owned>) -> Journal {
         Journal { file: file.into(), folder: folder.into() }
     }
+}
+
+#[cfg(unix)]
+fn open_folder(path: &Path) -> io::Result<File> {
+    File::open(path)
+}
+
+#[cfg(windows)]
+fn open_folder(path: &Path) -> io::Result<File> {
+    /// Windows opens a folder with this flag alone.
+    const FILE_FLAG_BACKUP_SEMANTICS: u32 = 0x0200_0000;
+    OpenOptions::new().read(true).custom_flags(FILE_FLAG_BACKUP_SEMANTICS).open(path)
 }
 
 impl Session {

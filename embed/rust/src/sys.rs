@@ -12,8 +12,12 @@
 #![allow(unsafe_code)]
 
 use std::cell::UnsafeCell;
-use std::os::fd::{IntoRawFd, OwnedFd};
 use std::ptr;
+
+#[cfg(unix)]
+use std::os::fd::{IntoRawFd, OwnedFd as Owned};
+#[cfg(windows)]
+use std::os::windows::io::{IntoRawHandle, OwnedHandle as Owned};
 
 pub const PACKET: usize = 198;
 pub const PICTURE: usize = 256;
@@ -41,6 +45,12 @@ pub struct PlayerState {
     pub dropped: bool,
 }
 
+#[cfg(c8_absent)]
+mod absent;
+#[cfg(c8_absent)]
+use absent::*;
+
+#[cfg(not(c8_absent))]
 extern "C" {
     fn c8_open(text: *const u8, length: usize, player: u8, room: u64, patience: u32, session: *mut Raw) -> u32;
     fn c8_open_journal(
@@ -81,6 +91,18 @@ extern "C" {
     fn c8_explain(number: u32, out: *mut u8, length: usize) -> u32;
 }
 
+/// The number by which the library knows a file, which it closes.
+#[cfg(unix)]
+fn number(file: Owned) -> i32 {
+    file.into_raw_fd()
+}
+
+/// The number by which the library knows a file, which it closes. Windows keeps the upper half of a handle clear.
+#[cfg(windows)]
+fn number(file: Owned) -> i32 {
+    file.into_raw_handle() as usize as i32
+}
+
 /// A handle, which is closed when it is dropped.
 pub struct Handle(UnsafeCell<Raw>);
 
@@ -103,9 +125,9 @@ impl Handle {
         (why, handle)
     }
 
-    pub fn open_journal(text: &[u8], player: u8, room: u64, patience: u32, files: (OwnedFd, OwnedFd)) -> (u32, Handle) {
+    pub fn open_journal(text: &[u8], player: u8, room: u64, patience: u32, files: (Owned, Owned)) -> (u32, Handle) {
         let handle = Handle::closed();
-        let (file, folder) = (files.0.into_raw_fd(), files.1.into_raw_fd());
+        let (file, folder) = (number(files.0), number(files.1));
         let why =
             unsafe { c8_open_journal(text.as_ptr(), text.len(), player, room, patience, file, folder, handle.0.get()) };
         (why, handle)

@@ -1,0 +1,28 @@
+"""One player's side of a rollback match, for Python: the calls of c8.h over the library libc8 (ctypes). c8.h says what each call does, when
+it refuses, and what the session is afterwards; here stands what differs.
+
+    from c8play import Session, rules
+
+    text = rules(players=2, frames=600, delay=1, window=8, id=b"my game, version 1")
+    with Session(text, player=1, room=7) as session:
+        while not session.is_over():
+            for packet in received():
+                session.deliver(packet)
+            session.tick(keys())
+            session.turn()
+            for to, packet in session.packets():
+                send(to, packet)
+            for frame, row in session.rows():
+                states[frame + 1] = step(states[frame], row)
+
+The library is found beside this package, or by the variable C8_LIBRARY, which has its path. A call of one session is made by one thread at
+a time; ctypes lets other threads run meanwhile.
+"""
+from .calls import DATAGRAM, PACKET, PICTURE, ROW, ROWS, RULES, STATE
+from .refusals import (BadSecret, Closed, Desync, DiskFailed, DiskFull, DiskLocked, Dropped, End, NotSealed, Refusal, SealedAlready,
+                       SeenBefore, Threshold, explain)
+from .session import Kind, PlayerState, Sender, Session, Step, rules
+
+__all__ = ["BadSecret", "Closed", "DATAGRAM", "Desync", "DiskFailed", "DiskFull", "DiskLocked", "Dropped", "End", "Kind", "NotSealed", "PACKET",
+           "PICTURE", "PlayerState", "ROW", "ROWS", "RULES", "Refusal", "STATE", "SealedAlready", "SeenBefore", "Sender", "Session", "Step",
+           "Threshold", "explain", "rules"]

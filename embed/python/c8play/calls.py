@@ -1,0 +1,80 @@
+"""The functions of c8.h, as ctypes calls them."""
+import ctypes as c
+import os
+import sys
+from typing import Any
+
+DATAGRAM, PACKET, PICTURE, STATE, RULES, ROW, ROWS = 174, 198, 256, 4419, 256, 4, 16
+
+HERE = os.path.dirname(os.path.realpath(__file__))
+IS_WINDOWS = os.name == "nt"
+
+
+class Handle(c.Structure):
+    """c8_session"""
+    _fields_ = [("at", c.c_void_p)]
+
+
+class State(c.Structure):
+    """c8_player_state"""
+    _fields_ = [("silent", c.c_uint64), ("held", c.c_uint32), ("acknowledged", c.c_uint32), ("linked", c.c_bool), ("dropped", c.c_bool)]
+
+
+U8, U16, U32, U64, I32, SIZE, BYTES, FLAG = c.c_uint8, c.c_uint16, c.c_uint32, c.c_uint64, c.c_int32, c.c_size_t, c.c_char_p, c.c_bool
+SESSION = c.POINTER(Handle)
+
+# Each function: what it returns, and what it takes.
+CALLS: dict[str, tuple[Any, ...]] = {
+    "c8_open": (U32, BYTES, SIZE, U8, U64, U32, SESSION),
+    "c8_open_journal": (U32, BYTES, SIZE, U8, U64, U32, I32, I32, SESSION),
+    "c8_journal_open": (c.c_int, BYTES, c.POINTER(I32), c.POINTER(I32)),
+    "c8_close": (None, SESSION),
+    "c8_deliver": (U32, SESSION, BYTES, SIZE),
+    "c8_tick": (U32, SESSION, U16),
+    "c8_turn": (U32, SESSION),
+    "c8_next": (U32, SESSION, BYTES, c.POINTER(U8)),
+    "c8_watched": (U32, SESSION, U8),
+    "c8_is_over": (FLAG, SESSION),
+    "c8_is_lost": (FLAG, SESSION),
+    "c8_step": (U32, SESSION, c.POINTER(U32), c.POINTER(U16), SIZE),
+    "c8_check": (U32, SESSION, U32),
+    "c8_rules": (U32, U8, U32, U8, U8, BYTES, BYTES, SIZE),
+    "c8_ticked": (U32, SESSION),
+    "c8_confirmed": (U32, SESSION),
+    "c8_epoch": (U32, SESSION),
+    "c8_player": (U32, SESSION, U8, c.POINTER(State)),
+    "c8_screen": (U32, SESSION, BYTES),
+    "c8_tone": (U32, SESSION),
+    "c8_state": (U32, SESSION, BYTES),
+    "c8_mark": (U32, SESSION, BYTES),
+    "c8_say": (U32, SESSION, U8, U8, U8, BYTES, c.POINTER(U32)),
+    "c8_leave": (U32, SESSION, U8),
+    "c8_decide": (U32, SESSION, U8),
+    "c8_checkpoint": (U32, SESSION),
+    "c8_secrets": (U32, SESSION, BYTES, BYTES, SIZE),
+    "c8_sender": (U8, SESSION, c.POINTER(FLAG)),
+    "c8_explain": (U32, U32, BYTES, SIZE),
+}
+# On some systems the library does not have it.
+MAY_LACK = {"c8_journal_open"}
+
+
+def library_path() -> str:
+    """The library that C8_LIBRARY names, else the one beside this file."""
+    name = "c8.dll" if IS_WINDOWS else "libc8.dylib" if sys.platform == "darwin" else "libc8.so"
+    return os.environ.get("C8_LIBRARY") or os.path.join(HERE, name)
+
+
+def load(path: str) -> Any:
+    """The library at this path, with the types of its functions. Raises OSError."""
+    library = c.CDLL(path, use_last_error=True) if IS_WINDOWS else c.CDLL(path, use_errno=True)
+    for name, (answer, *words) in CALLS.items():
+        call = getattr(library, name, None)
+        if call is not None:
+            call.restype, call.argtypes = answer, words
+        elif name not in MAY_LACK:
+            raise OSError(f"{path} has no {name}")
+    return library
+
+
+LIBRARY = load(library_path())

@@ -1,0 +1,229 @@
+"""A session, and the rules of its match."""
+from __future__ import annotations
+
+import ctypes as c
+import enum
+import os
+from collections.abc import Iterator
+from typing import Any, NamedTuple
+
+from .calls import IS_WINDOWS, LIBRARY, PACKET, PICTURE, ROW, ROWS, RULES, STATE, Handle, State
+from .refusals import Closed, Desync, DiskFailed, Dropped, End, Refusal, Threshold, done
+
+SECRET = 32
+# Answers of c8_deliver.
+KEPT, DROPPED = 1, 2
+
+
+class Kind(enum.IntEnum):
+    """The kinds of `say`."""
+    HELLO = 0
+    WELCOME = 1
+    DATA = 2
+    FREEZE = 3
+    FROZEN = 4
+    CUT = 5
+
+
+class PlayerState(NamedTuple):
+    """What a session knows of another player. Of its own, only `held` and `dropped` mean something."""
+    silent: int        # turns in a row without a datagram that its open link admitted
+    held: int          # its inputs that are here, with the empty ones of the delay
+    acknowledged: int  # own inputs that it has acknowledged
+    linked: bool       # inputs can be sent
+    dropped: bool      # player 1 has dropped it
+
+
+class Sender(NamedTuple):
+    """Who sealed the packet that the last delivery accepted."""
+    seat: int     # 1 to 6
+    newest: bool  # no later packet of it came before: send to where this one came from
+
+
+class Step(NamedTuple):
+    """The first frame whose row changed, and the rows from there on, each with an input of four players."""
+    first: int
+    rows: list[tuple[int, ...]]
+
+
+def rules(players: int, frames: int, delay: int, window: int, id: bytes) -> bytes:
+    """The text of a game for an engine with a machine of its own. `id` has at most 32 bytes: the version of the game. Raises ValueError if
+    there is no such text."""
+    if len(id) > SECRET:
+        raise ValueError("an id has at most 32 bytes")
+    out = c.create_string_buffer(RULES)
+    length = LIBRARY.c8_rules(players, frames, delay, window, id.ljust(SECRET, b"\0"), out, RULES)
+    if not length:
+        raise ValueError("there is no such game")
+    return out.raw[:length]
+
+
+class Session:
+    """One player's session of a match. With `journal`, the path of a file, a session that was closed or crashed goes on where it was.
+
+    Opening raises a Refusal, or OSError for the file. A session is closed at the end of `with`, by `close`, or with its last reference."""
+
+    def __init__(self, text: bytes, player: int, room: int, patience: int = 0, journal: str | os.PathLike[str] | None = None) -> None:
+        self._session = Handle()
+        self._out, self._to, self._size = c.create_string_buffer(max(PACKET, STATE)), c.c_uint8(), c.c_uint32()
+        self._rows, self._newest = (c.c_uint16 * (ROW * ROWS))(), c.c_bool()
+        if journal is None:
+            done(LIBRARY.c8_open(text, len(text), player, room, patience, self._session))
+            return
+        file, folder = open_journal(journal)
+        done(LIBRARY.c8_open_journal(text, len(text), player, room, patience, file, folder, self._session))
+
+    def close(self) -> None:
+        """Closes the session. Closing it again does nothing."""
+        LIBRARY.c8_close(self._session)
+
+    def __enter__(self) -> Session:
+        return self
+
+    def __exit__(self, *_: object) -> None:
+        self.close()
+
+    def __del__(self) -> None:
+        if hasattr(self, "_newest"):
+            self.close()
+
+    # ---- a frame
+
+    def deliver(self, packet: bytes, strict: bool = False) -> bool:
+        """Processes a received packet: any bytes. Returns whether it added something. Late, repeated and strange packets are normal, and add
+        nothing; with `strict` they raise their Refusal. Raises Dropped if player 1 has dropped this player, Desync, DiskFailed, and Closed."""
+        answer: int = LIBRARY.c8_deliver(self._session, packet, len(packet))
+        if answer == DROPPED:
+            raise Dropped(403)
+        try:
+            return done(answer) == KEPT
+        except (Closed, Desync, DiskFailed):
+            raise
+        except Refusal:
+            if strict:
+                raise
+            return False
+
+    def tick(self, keys: int) -> bool:
+        """Enters the own player's next input, 16 bits. Returns whether it was taken: not if the player is too far ahead (tick it again in the
+        next frame), at the end of the match, or once it was dropped."""
+        try:
+            done(LIBRARY.c8_tick(self._session, keys))
+        except (Threshold, End, Dropped):
+            return False
+        return True
+
+    def turn(self) -> None:
+        """Begins a turn, once a frame."""
+        done(LIBRARY.c8_turn(self._session))
+
+    def packets(self) -> Iterator[tuple[int, bytes]]:
+        """The packets of this turn that are still to be sent, each with the seat that it is for."""
+        while length := LIBRARY.c8_next(self._session, self._out, self._to):
+            yield self._to.value, self._out.raw[:length]
+
+    def step(self) -> Step:
+        """The rows that changed: go back to the state before `first`, and run the rows from there."""
+        first, rows = None, []
+        while True:
+            count = LIBRARY.c8_step(self._session, self._size, self._rows, len(self._rows))
+            first = self._size.value if first is None else first
+            rows += [tuple(self._rows[ROW * it:ROW * it + ROW]) for it in range(count)]
+            if count < ROWS:
+                return Step(first, rows)
+
+    def rows(self) -> Iterator[tuple[int, tuple[int, ...]]]:
+        """The same, each row with its frame."""
+        step = self.step()
+        return enumerate(step.rows, step.first)
+
+    def watched(self, watcher: int) -> None:
+        """Shows watcher 5 or 6 the confirmed rows from now on."""
+        done(LIBRARY.c8_watched(self._session, watcher))
+
+    def check(self, depth: int) -> None:
+        """Makes each step go back by `depth` frames, to test an engine's machine. 0 ends the test."""
+        done(LIBRARY.c8_check(self._session, depth))
+
+    # ---- what a session knows
+
+    def is_over(self) -> bool:
+        return bool(LIBRARY.c8_is_over(self._session))
+
+    def is_lost(self) -> bool:
+        return bool(LIBRARY.c8_is_lost(self._session))
+
+    def ticked(self) -> int:
+        return int(LIBRARY.c8_ticked(self._session))
+
+    def confirmed(self) -> int:
+        return int(LIBRARY.c8_confirmed(self._session))
+
+    def epoch(self) -> int:
+        return int(LIBRARY.c8_epoch(self._session))
+
+    def player(self, player: int) -> PlayerState:
+        state = State()
+        done(LIBRARY.c8_player(self._session, player, state))
+        return PlayerState(state.silent, state.held, state.acknowledged, state.linked, state.dropped)
+
+    # ---- CHIP-8's own machine
+
+    def screen(self) -> bytes:
+        """32 rows of 8 bytes, the leftmost point the highest bit."""
+        return self._read(LIBRARY.c8_screen, PICTURE)
+
+    def tone(self) -> int:
+        """For how many frames the tone still runs."""
+        return int(LIBRARY.c8_tone(self._session))
+
+    def state(self) -> bytes:
+        return self._read(LIBRARY.c8_state, STATE)
+
+    def mark(self) -> bytes:
+        return self._read(LIBRARY.c8_mark, 8)
+
+    # ---- by hand
+
+    def say(self, to: int, kind: Kind, leaver: int = 0) -> bytes:
+        """A datagram to a player, for a schedule other than that of `turn`."""
+        done(LIBRARY.c8_say(self._session, to, kind, leaver, self._out, self._size))
+        return self._out.raw[:self._size.value]
+
+    def leave(self, leaver: int) -> None:
+        done(LIBRARY.c8_leave(self._session, leaver))
+
+    def decide(self, leaver: int) -> None:
+        done(LIBRARY.c8_decide(self._session, leaver))
+
+    def checkpoint(self) -> bool:
+        """Records the next part of a checkpoint. Returns whether it was the last."""
+        return done(LIBRARY.c8_checkpoint(self._session)) == 1
+
+    # ---- a secret
+
+    def secret(self, secret: bytes, watchers: bytes | None = None) -> None:
+        """Gives the session its secrets, each of 32 bytes: after an opening, before anything is sent."""
+        if len(secret) != SECRET:
+            raise ValueError("a secret has 32 bytes")
+        done(LIBRARY.c8_secrets(self._session, secret, watchers or secret, len(watchers) if watchers else 0))
+
+    def sender(self) -> Sender | None:
+        """Who sealed the packet that the last delivery accepted; None if it accepted no sealed one."""
+        seat = LIBRARY.c8_sender(self._session, self._newest)
+        return Sender(seat, self._newest.value) if seat else None
+
+    def _read(self, call: Any, size: int) -> bytes:
+        done(call(self._session, self._out))
+        return self._out.raw[:size]
+
+
+def open_journal(path: str | os.PathLike[str]) -> tuple[int, int]:
+    """Opens the file of a journal and its folder. Raises OSError."""
+    file, folder = c.c_int32(), c.c_int32()
+    encoded = os.fspath(path).encode() if IS_WINDOWS else os.fsencode(path)
+    if LIBRARY.c8_journal_open(encoded, file, folder):
+        if IS_WINDOWS:
+            raise c.WinError(c.get_last_error())  # type: ignore[attr-defined]
+        raise OSError(c.get_errno(), os.strerror(c.get_errno()), os.fspath(path))
+    return file.value, folder.value

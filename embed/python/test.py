@@ -1,0 +1,112 @@
+"""Tests of the package: python3 test.py. The library is beside the package, or C8_LIBRARY names it."""
+import contextlib
+import io
+import os
+import tempfile
+import unittest
+
+import example
+from c8play import (Closed, DiskLocked, Kind, NotSealed, Refusal, SealedAlready, SeenBefore, Session, Threshold, calls, explain, rules)
+
+HERE = os.path.dirname(os.path.realpath(__file__))
+TEXT = rules(2, 100, 1, 8, b"test 1")
+SECRET, WATCHERS = bytes(range(32)), bytes(32)
+
+
+def greet(one: Session, two: Session) -> None:
+    """Opens the link between players 1 and 2."""
+    for kind in (Kind.HELLO, Kind.WELCOME):
+        two.deliver(one.say(2, kind))
+        one.deliver(two.say(1, kind))
+
+
+class Tests(unittest.TestCase):
+    def test_example(self) -> None:
+        said = io.StringIO()
+        with contextlib.redirect_stdout(said):
+            example.main()
+        beside = [f"{HERE}/example.out", f"{HERE}/../example.out"]
+        with open(next(it for it in beside if os.path.exists(it)), encoding="utf-8") as wanted:
+            self.assertEqual(said.getvalue(), wanted.read())
+
+    def test_frame(self) -> None:
+        with Session(TEXT, 1, 7) as one, Session(TEXT, 2, 7) as two:
+            greet(one, two)
+            self.assertTrue(one.tick(5))
+            self.assertTrue(two.tick(6))
+            self.assertTrue(two.deliver(one.say(2, Kind.DATA)))
+            self.assertFalse(two.deliver(one.say(2, Kind.DATA)))
+            self.assertEqual(list(two.rows()), [(0, (0, 0, 0, 0))])
+            self.assertTrue(two.tick(7))
+            self.assertEqual(two.step(), (1, [(5, 6, 0, 0)]))
+            self.assertEqual((two.ticked(), two.confirmed(), two.epoch(), two.is_over(), two.is_lost()), (2, 2, 1, False, False))
+            self.assertEqual(two.player(1)[1:], (2, 1, True, False))
+            two.turn()
+            self.assertEqual({it for it, _ in two.packets()}, {1})
+            self.assertEqual(list(two.packets()), [])
+
+    def test_machine(self) -> None:
+        with Session(TEXT, 1, 7) as session:
+            self.assertEqual((len(session.screen()), len(session.state()), len(session.mark())), (256, 4419, 8))
+            self.assertEqual(session.tone(), 0)
+
+    def test_limits(self) -> None:
+        with Session(TEXT, 1, 7) as session:
+            while session.tick(1):
+                pass
+            self.assertEqual(session.ticked(), 9)
+        self.assertRaises(ValueError, rules, 5, 100, 1, 8, b"")
+        self.assertRaises(ValueError, rules, 2, 100, 1, 8, bytes(33))
+
+    def test_refusals(self) -> None:
+        with self.assertRaises(Refusal) as caught:
+            Session(b"players 2\n", 1, 7)
+        self.assertEqual(caught.exception.number // 100, 2)
+        session = Session(TEXT, 1, 7)
+        self.assertFalse(session.deliver(b"no packet"))
+        self.assertRaises(Refusal, session.deliver, b"no packet", strict=True)
+        self.assertRaises(Refusal, session.player, 9)
+        self.assertRaises(Refusal, session.watched, 4)
+        session.close()
+        session.close()
+        self.assertRaises(Closed, session.turn)
+        self.assertRaises(Closed, session.deliver, b"")
+        self.assertTrue(session.is_over())
+        self.assertEqual(explain(1), "")
+        self.assertEqual(explain(401).partition(":")[0], "Threshold")
+        self.assertEqual(Threshold(401).number, 401)
+
+    def test_secret(self) -> None:
+        with Session(TEXT, 1, 7) as one, Session(TEXT, 2, 7) as two, Session(TEXT, 2, 7) as stranger:
+            one.secret(SECRET, WATCHERS)
+            two.secret(SECRET)
+            packet = one.say(2, Kind.HELLO)
+            self.assertFalse(two.deliver(packet))
+            self.assertEqual(two.sender(), (1, True))
+            self.assertRaises(SeenBefore, two.deliver, packet, strict=True)
+            self.assertIsNone(two.sender())
+            stranger.secret(WATCHERS)
+            self.assertRaises(NotSealed, stranger.deliver, packet, strict=True)
+            self.assertRaises(SealedAlready, one.secret, SECRET)
+
+    def test_journal(self) -> None:
+        with tempfile.TemporaryDirectory() as folder:
+            path = f"{folder}/ein Tagebuch ä"
+            with Session(TEXT, 1, 7, journal=path) as session:
+                self.assertTrue(session.tick(3) and session.tick(4))
+                self.assertRaises(DiskLocked, Session, TEXT, 1, 7, journal=path)
+            with Session(TEXT, 1, 7, journal=path) as session:
+                self.assertEqual((session.ticked(), session.epoch(), [row[0] for _, row in session.rows()]), (2, 2, [0, 3]))
+            self.assertRaises(OSError, Session, TEXT, 1, 7, journal=f"{folder}/none/journal")
+
+    def test_hand(self) -> None:
+        with Session(TEXT, 1, 7) as session:
+            for call in (session.leave, session.decide):
+                self.assertRaises(Refusal, call, 9)
+            self.assertRaises(Refusal, session.checkpoint)
+            session.check(3)
+            self.assertRaises(OSError, calls.load, f"{HERE}/none.so")
+
+
+if __name__ == "__main__":
+    unittest.main()

@@ -1,0 +1,119 @@
+//! Stands in for the library where there is none, so that the crate can still be compiled. Each call panics, but for the close of a handle
+//! that was never opened.
+#![allow(unsafe_code, clippy::too_many_arguments)]
+
+use super::{PlayerState, Raw};
+
+fn absent() -> ! {
+    panic!("c8play-session was compiled without its library: set C8PLAY_LIB to the folder of libc8.a")
+}
+
+pub unsafe fn c8_close(_: *mut Raw) {}
+
+pub unsafe fn c8_open(_: *const u8, _: usize, _: u8, _: u64, _: u32, _: *mut Raw) -> u32 {
+    absent()
+}
+
+pub unsafe fn c8_open_journal(_: *const u8, _: usize, _: u8, _: u64, _: u32, _: i32, _: i32, _: *mut Raw) -> u32 {
+    absent()
+}
+
+pub unsafe fn c8_deliver(_: *mut Raw, _: *const u8, _: usize) -> u32 {
+    absent()
+}
+
+pub unsafe fn c8_tick(_: *mut Raw, _: u16) -> u32 {
+    absent()
+}
+
+pub unsafe fn c8_turn(_: *mut Raw) -> u32 {
+    absent()
+}
+
+pub unsafe fn c8_next(_: *mut Raw, _: *mut u8, _: *mut u8) -> u32 {
+    absent()
+}
+
+pub unsafe fn c8_watched(_: *mut Raw, _: u8) -> u32 {
+    absent()
+}
+
+pub unsafe fn c8_is_over(_: *mut Raw) -> bool {
+    absent()
+}
+
+pub unsafe fn c8_is_lost(_: *mut Raw) -> bool {
+    absent()
+}
+
+pub unsafe fn c8_step(_: *mut Raw, _: *mut u32, _: *mut u16, _: usize) -> u32 {
+    absent()
+}
+
+pub unsafe fn c8_check(_: *mut Raw, _: u32) -> u32 {
+    absent()
+}
+
+pub unsafe fn c8_rules(_: u8, _: u32, _: u8, _: u8, _: *const u8, _: *mut u8, _: usize) -> u32 {
+    absent()
+}
+
+pub unsafe fn c8_ticked(_: *mut Raw) -> u32 {
+    absent()
+}
+
+pub unsafe fn c8_confirmed(_: *mut Raw) -> u32 {
+    absent()
+}
+
+pub unsafe fn c8_epoch(_: *mut Raw) -> u32 {
+    absent()
+}
+
+pub unsafe fn c8_player(_: *mut Raw, _: u8, _: *mut PlayerState) -> u32 {
+    absent()
+}
+
+pub unsafe fn c8_screen(_: *mut Raw, _: *mut u8) -> u32 {
+    absent()
+}
+
+pub unsafe fn c8_tone(_: *mut Raw) -> u32 {
+    absent()
+}
+
+pub unsafe fn c8_state(_: *mut Raw, _: *mut u8) -> u32 {
+    absent()
+}
+
+pub unsafe fn c8_mark(_: *mut Raw, _: *mut u8) -> u32 {
+    absent()
+}
+
+pub unsafe fn c8_say(_: *mut Raw, _: u8, _: u8, _: u8, _: *mut u8, _: *mut u32) -> u32 {
+    absent()
+}
+
+pub unsafe fn c8_leave(_: *mut Raw, _: u8) -> u32 {
+    absent()
+}
+
+pub unsafe fn c8_decide(_: *mut Raw, _: u8) -> u32 {
+    absent()
+}
+
+pub unsafe fn c8_checkpoint(_: *mut Raw) -> u32 {
+    absent()
+}
+
+pub unsafe fn c8_secrets(_: *mut Raw, _: *const u8, _: *const u8, _: usize) -> u32 {
+    absent()
+}
+
+pub unsafe fn c8_sender(_: *mut Raw, _: *mut bool) -> u8 {
+    absent()
+}
+
+pub unsafe fn c8_explain(_: u32, _: *mut u8, _: usize) -> u32 {
+    absent()
+}
