@@ -115,7 +115,7 @@ def trusted(system):
     if system == "web":
         names = ["web/page.c", "web/c8.mjs"]
     else:
-        names = ["embed/native/heap.ll", "embed/native/memory.c"]
+        names = ["embed/native/files.h", "embed/native/heap.ll", "embed/native/memory.c"]
         names += ["embed/native/windows.c"] if system.startswith("windows") else ["embed/native/posix.c", "embed/c8_journal.c"]
     lines += [f"trusted too: {it} {sha256(f'{TOP}/{it}')}" for it in names]
     lines.append(f"trusted too: {compiler(system)}")

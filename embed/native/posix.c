@@ -1,7 +1,7 @@
 /* What the library calls of the system for a journal in a file, where that differs from Linux: errors, and on macOS and iOS also syncs.
  * pread, pwrite, lseek, flock and close are the system's own. No header of the system is needed here, so that the toolchain compiles this
  * file for systems whose headers the machine does not have. */
-#include <stdint.h>
+#include "files.h"
 
 int32_t rattle_errno(void);
 
@@ -12,11 +12,6 @@ enum { EIO = 5, EAGAIN = 11, ENOSPC = 28, EINTR = 4 };
 int *__error(void);
 int fcntl(int file, int what, ...);
 int fsync(int file);
-
-int32_t c8os_rattle_errno(void);
-int32_t c8os_fsync(int32_t file);
-int32_t c8os_fdatasync(int32_t file);
-int32_t c8os_posix_fadvise(int32_t file, int64_t at, int64_t length, int32_t how);
 
 /* The library tells apart Linux's numbers. */
 int32_t c8os_rattle_errno(void) {

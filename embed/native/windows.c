@@ -8,21 +8,12 @@
 #include <windows.h>
 
 #include "c8.h"
+#include "files.h"
 
 #include <wchar.h>
 
 enum { LINUX_EIO = 5, LINUX_EAGAIN = 11, LINUX_ENOSPC = 28 };
 enum { MOST = 1 << 30 };
-
-int32_t c8os_rattle_errno(void);
-int64_t c8os_pread(int32_t file, void *bytes, uint64_t length, int64_t at);
-int64_t c8os_pwrite(int32_t file, const void *bytes, uint64_t length, int64_t at);
-int64_t c8os_lseek(int32_t file, int64_t offset, int32_t whence);
-int32_t c8os_fsync(int32_t file);
-int32_t c8os_fdatasync(int32_t file);
-int32_t c8os_flock(int32_t file, int32_t how);
-int32_t c8os_posix_fadvise(int32_t file, int64_t at, int64_t length, int32_t how);
-int32_t c8os_close(int32_t file);
 
 static HANDLE handle_of(int32_t descriptor) { return (HANDLE)(intptr_t)descriptor; }
 

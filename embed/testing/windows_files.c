@@ -1,18 +1,10 @@
 /* The file calls of native/windows.c, one by one. Its status is 0, or the number of the line that fails. */
+#include "../native/files.h"
 #include "c8.h"
 
 #include <stdio.h>
 #include <string.h>
 #include <windows.h>
-
-int32_t c8os_rattle_errno(void);
-int64_t c8os_pread(int32_t file, void *bytes, uint64_t length, int64_t at);
-int64_t c8os_pwrite(int32_t file, const void *bytes, uint64_t length, int64_t at);
-int64_t c8os_lseek(int32_t file, int64_t offset, int32_t whence);
-int32_t c8os_fsync(int32_t file);
-int32_t c8os_fdatasync(int32_t file);
-int32_t c8os_flock(int32_t file, int32_t how);
-int32_t c8os_close(int32_t file);
 
 #define MUST(holds) \
     if (!(holds)) return printf("line %d: %s\n", __LINE__, #holds), __LINE__
