@@ -1,5 +1,5 @@
 //! How many connections each host has.
-ghost use Rattle.std.specs.Prelude.{◌≡◌, ◌≤◌, ◌↔◌, IsTrue, count_by};
+ghost use Rattle.std.specs.Prelude.{◌≡◌, ◌≤◌, ◌↔◌, IsTrue, count_by, slice_set};
 ghost use Rattle.c8_relay_web.specs.Connections.{is_of};
 
 use crate::numbers::MOST_CONNECTIONS;
@@ -38,7 +38,9 @@ impl Crowd {
     }
 
     /// Notes whose connection is at a place.
-    pub(crate) fn note(&mut self, place: usize, network: Option<u128>) {
+    pub(crate) fn note(&mut self, place: usize, network: Option<u128>)
+        ensures { self.new.networks.items ≡ slice_set self.old.networks.items place network }
+    {
         if place < self.networks.len() {
             self.networks[place] = network;
         }
