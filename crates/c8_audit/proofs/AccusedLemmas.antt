@@ -146,7 +146,7 @@ cut_is rules e one q is = ap (λ (o : Option Readings). cut_by (option_map (seen
 
 -- ---- entered
 
-plays_known : (rules : Rules) (p q : ℕ) (journal : List Record) → IsPlayer rules q → Plays (known_of rules p journal) q
+pub plays_known : (rules : Rules) (p q : ℕ) (journal : List Record) → IsPlayer rules q → Plays (known_of rules p journal) q
 plays_known rules p q journal plays =
     let from = plays.from_one in
     let to = plays.in_game in

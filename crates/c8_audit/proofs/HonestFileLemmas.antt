@@ -31,12 +31,21 @@ use Rattle.c8_audit.proofs.ReadingLemmas.{some_same, head_names}
 use Rattle.c8_audit.proofs.StoryLemmas.{AreSame, entered_same, true_same, agreed_same}
 use Rattle.c8_audit.specs.Gathered.{AreGathered, IsNotGathered, IsOutOfMemory}
 use Rattle.c8_audit.specs.Honest.{WasReadTwice, IsHonest, IsFileOf, AreHonestFiles}
+use Rattle.c8_audit.specs.Honest.{WereRead, IsHonestAtAnyMoments, IsCopyOf, AreHonestFilesAtAnyMoments}
 use Rattle.c8_audit.specs.Images.{first_bytes, later_bytes, readings_of, names_player, if_of, or_else, evidence_in, evidence_of, IsUnread}
-use Rattle.c8_audit.specs.Journals.{Readings, AllSeen, seen_in}
-use Rattle.c8_audit.specs.Judged.{AreVerdicts, AreYes}
+use Rattle.c8_audit.specs.Journals.{Readings, Seen, AllSeen, seen_in, IsGiven, dropped_by, cut_by, cut_in, Stays}
+use Rattle.c8_audit.specs.Judged.{AreVerdicts, AreYes, AccuseNobody}
 use Rattle.c8_audit.specs.OneMatch.{Names, IsMismatch, keeps_nothing}
 use Rattle.c8_audit.specs.Read.{all_seen}
-use Rattle.c8_audit.specs.Verdicts.{AreEntered, IsUnentered, AreTrue, IsUntrue, AreAgreed, IsDifference}
+use Rattle.c8_audit.specs.Verdicts.{IsEntered, AreEntered, IsUnentered, IsAccused, AreTrue, IsUntrue}
+use Rattle.c8_audit.specs.Verdicts.{AreAgreed, IsDifference, IsAhead, IsOpposed, AnswersEntered, AnswersAgreed}
+use Rattle.c8_audit.specs.declared.fault.Fault.{Fault}
+use Rattle.c8_known.specs.Known.{player_in}
+use Rattle.c8_known.specs.Confirmed.{input_of}
+use Rattle.c8_world.specs.checked.Below.{ArePeersLawful}
+use Rattle.c8_audit.proofs.MomentLemmas.{beginnings, never_accused, never_opposed_at, checks_true}
+use Rattle.c8_audit.specs.declared.fault.Answer.{Answer}
+use Rattle.c8_audit.specs.declared.fault.Answer.TheVariants.{Yes, Short, No}
 use Rattle.c8_audit.specs.checked.Below.{AreWorldsLawful}
 use Rattle.c8_audit.specs.declared.error.GatherError.{GatherError}
 use Rattle.c8_audit.specs.declared.error.GatherError.TheVariants.{File, Journals}
@@ -116,11 +125,30 @@ only_memory rules p room asked bodies errors.Memory are some is memory = refl
 -- ---- one file
 
 -- both readings of a file are journals of its player in the room
-record IsInOrder (rules : Rules) (room p : ℕ) (file : Twice) (readings : Readings) : Type 0 where
-  first : AreJournalBodies rules p room (kept (first_bytes file))
-  later : AreJournalBodies rules p room (kept (later_bytes file))
-  same : readings_of (first_bytes file) (later_bytes file) ≡ readings
-  continues : Begins (kept (first_bytes file)) (kept (later_bytes file))
+pub record IsInOrder (rules : Rules) (room p : ℕ) (file : Twice) (readings : Readings) : Type 0 where
+  pub first : AreJournalBodies rules p room (kept (first_bytes file))
+  pub later : AreJournalBodies rules p room (kept (later_bytes file))
+  pub same : readings_of (first_bytes file) (later_bytes file) ≡ readings
+  pub continues : Begins (kept (first_bytes file)) (kept (later_bytes file))
+
+in_order_by : (rules : Rules) (room p : ℕ) (file : Twice) (readings : Readings) → IsJournal rules p room readings.first
+    → IsJournal rules p room readings.later → kept (first_bytes file) ≡ map body_of readings.first
+    → kept (later_bytes file) ≡ map body_of readings.later → Begins readings.first readings.later → IsInOrder rules room p file readings
+in_order_by rules room p file readings first later first_is later_is continues =
+    let one : records_of (kept (first_bytes file)) ≡ readings.first =
+    ap records_of first_is ∙ journal_back rules p room readings.first first in
+    let two : records_of (kept (later_bytes file)) ≡ readings.later =
+    ap records_of later_is ∙ journal_back rules p room readings.later later in
+    record {
+      first = subst (λ (b : List (List ℕ)). AreJournalBodies rules p room b) (sym first_is) (journal_bodies rules p room readings.first first);
+      later = subst (λ (b : List (List ℕ)). AreJournalBodies rules p room b) (sym later_is) (journal_bodies rules p room readings.later later);
+      same = λ i. record { first = one i; later = two i };
+      continues = record {
+        rest = map body_of continues.rest;
+        is = later_is ∙ ap (map body_of) continues.is ∙ map-append body_of readings.first continues.rest
+            ∙ ap (λ (xs : List (List ℕ)). xs ++ map body_of continues.rest) (sym first_is);
+      };
+    }
 
 in_order : (laws : AreWorldsLawful) (rules : Rules) (room p : ℕ) (between : World) (file : Twice) → AreInRange rules → room < 2 ^ 64
     → (is : IsFileOf rules room between p file) → IsInOrder rules room p file is.readings
@@ -129,26 +157,63 @@ in_order laws rules room p between file range few is =
     let reached : IsReached rules room between = reached_later rules room was.first_at between was.events was.answers was.first_reached was.before in
     let after : IsReached rules room was.later_at =
     reached_later rules room between was.later_at was.more_events was.more_answers reached was.after in
-    let first : IsJournal rules p room is.readings.first =
-    subst (λ (j : List Record). IsJournal rules p room j) (sym was.first_is)
-    (laws.journals rules room was.first_at p was.finds range few was.first_reached is.plays) in
-    let later : IsJournal rules p room is.readings.later =
-    subst (λ (j : List Record). IsJournal rules p room j) (sym was.later_is)
-    (laws.journals rules room was.later_at p was.later_finds range few after is.plays) in
-    let one : records_of (kept (first_bytes file)) ≡ is.readings.first =
-    ap records_of is.first_is ∙ journal_back rules p room is.readings.first first in
-    let two : records_of (kept (later_bytes file)) ≡ is.readings.later =
-    ap records_of is.later_is ∙ journal_back rules p room is.readings.later later in
-    record {
-      first = subst (λ (b : List (List ℕ)). AreJournalBodies rules p room b) (sym is.first_is) (journal_bodies rules p room is.readings.first first);
-      later = subst (λ (b : List (List ℕ)). AreJournalBodies rules p room b) (sym is.later_is) (journal_bodies rules p room is.readings.later later);
-      same = λ i. record { first = one i; later = two i };
-      continues = record {
-        rest = map body_of was.continues.rest;
-        is = is.later_is ∙ ap (map body_of) was.continues.is ∙ map-append body_of is.readings.first was.continues.rest
-            ∙ ap (λ (xs : List (List ℕ)). xs ++ map body_of was.continues.rest) (sym is.first_is);
-      };
-    }
+    in_order_by rules room p file is.readings
+    (subst (λ (j : List Record). IsJournal rules p room j) (sym was.first_is)
+    (laws.journals rules room was.first_at p was.finds range few was.first_reached is.plays))
+    (subst (λ (j : List Record). IsJournal rules p room j) (sym was.later_is)
+    (laws.journals rules room was.later_at p was.later_finds range few after is.plays))
+    is.first_is is.later_is was.continues
+
+copy_in_order : (laws : AreWorldsLawful) (rules : Rules) (room p : ℕ) (last : World) (file : Twice) → AreInRange rules → room < 2 ^ 64
+    → (is : IsCopyOf rules room last p file) → IsInOrder rules room p file is.readings
+copy_in_order laws rules room p last file range few is =
+    let were = is.read in
+    in_order_by rules room p file is.readings
+    (subst (λ (j : List Record). IsJournal rules p room j) (sym were.first.is)
+    (laws.journals rules room were.first.at p were.first.finds range few were.first.reached were.plays))
+    (subst (λ (j : List Record). IsJournal rules p room j) (sym were.later.is)
+    (laws.journals rules room were.later.at p were.later.finds range few were.later.reached were.plays))
+    is.first_is is.later_is were.continues
+
+-- Each file keeps two readings of its player's journal, one file a player, and player 1's keeps a record.
+pub record AreInOrder (rules : Rules) (room : ℕ) (files : List Twice) : Type 0 where
+  pub owner : ℕ → ℕ
+  pub readings : (n : ℕ) (file : Twice) → slice_get files n ≡ Some file → Readings
+  pub order : (n : ℕ) (file : Twice) (at : slice_get files n ≡ Some file) → IsInOrder rules room (owner n) file (readings n file at)
+  pub apart : (m n : ℕ) (a b : Twice) → slice_get files m ≡ Some a → slice_get files n ≡ Some b → owner m ≡ owner n → m ≡ n
+  pub one : ℕ
+  pub one_file : Twice
+  pub one_given : slice_get files one ≡ Some one_file
+  pub one_owner : owner one ≡ 1
+  pub one_keeps : keeps_nothing one_file ≡ false
+
+ordered : (laws : AreWorldsLawful) (rules : Rules) (room : ℕ) (files : List Twice) → AreInRange rules → room < 2 ^ 64
+    → AreHonestFiles rules room files → AreInOrder rules room files
+ordered laws rules room files range few honest = record {
+  owner = honest.owner;
+  readings = λ n file at. (honest.each n file at).readings;
+  order = λ n file at. in_order laws rules room (honest.owner n) honest.between file range few (honest.each n file at);
+  apart = honest.apart;
+  one = honest.one;
+  one_file = honest.one_file;
+  one_given = honest.one_given;
+  one_owner = honest.one_owner;
+  one_keeps = honest.one_keeps;
+}
+
+copies_ordered : (laws : AreWorldsLawful) (rules : Rules) (room : ℕ) (files : List Twice) → AreInRange rules → room < 2 ^ 64
+    → AreHonestFilesAtAnyMoments rules room files → AreInOrder rules room files
+copies_ordered laws rules room files range few honest = record {
+  owner = honest.owner;
+  readings = λ n file at. (honest.each n file at).readings;
+  order = λ n file at. copy_in_order laws rules room (honest.owner n) honest.last file range few (honest.each n file at);
+  apart = honest.apart;
+  one = honest.one;
+  one_file = honest.one_file;
+  one_given = honest.one_given;
+  one_owner = honest.one_owner;
+  one_keeps = honest.one_keeps;
+}
 
 some_kept : (bodies : List (List ℕ)) → (length bodies == 0) ≡ false → 0 < length bodies
 some_kept [] none = absurd (let wrong : true ≡ false = none in cc)
@@ -158,11 +223,10 @@ begun_longer : (xs ys : List (List ℕ)) → Begins xs ys → 0 < length xs → 
 begun_longer [] ys begins some = absurd (omega (arith, some))
 begun_longer (x ∷ xs) ys begins some = subst (λ (zs : List (List ℕ)). 0 < length zs) (sym begins.is) (omega arith)
 
-module _ (laws : AreWorldsLawful) (rules : Rules) (room : ℕ) (files : List Twice) (range : AreInRange rules) (few : room < 2 ^ 64)
-    (honest : AreHonestFiles rules room files) where
+module _ (rules : Rules) (room : ℕ) (files : List Twice) (honest : AreInOrder rules room files) where
   file_in_order : (n : ℕ) (file : Twice) (at : slice_get files n ≡ Some file)
-      → IsInOrder rules room (honest.owner n) file (honest.each n file at).readings
-  file_in_order n file at = in_order laws rules room (honest.owner n) honest.between file range few (honest.each n file at)
+      → IsInOrder rules room (honest.owner n) file (honest.readings n file at)
+  file_in_order n file at = honest.order n file at
 
   -- what a file names is its owner and the room
   names_owner : (n : Named) (names : Names rules files n) → (n.player.number ≡ honest.owner n.place) × (n.room ≡ room)
@@ -213,7 +277,13 @@ module _ (laws : AreWorldsLawful) (rules : Rules) (room : ℕ) (files : List Twi
 
 pub honest_gathered : (laws : AreWorldsLawful) (rules : Rules) (room : ℕ) (files : List Twice) (error : GatherError) → AreInRange rules
     → room < 2 ^ 64 → AreHonestFiles rules room files → IsNotGathered rules files error → IsOutOfMemory error
-honest_gathered laws rules room files error range few honest wrong = gathered_honestly laws rules room files range few honest error wrong
+honest_gathered laws rules room files error range few honest wrong =
+    gathered_honestly rules room files (ordered laws rules room files range few honest) error wrong
+
+pub copies_gathered : (laws : AreWorldsLawful) (rules : Rules) (room : ℕ) (files : List Twice) (error : GatherError) → AreInRange rules
+    → room < 2 ^ 64 → AreHonestFilesAtAnyMoments rules room files → IsNotGathered rules files error → IsOutOfMemory error
+copies_gathered laws rules room files error range few honest wrong =
+    gathered_honestly rules room files (copies_ordered laws rules room files range few honest) error wrong
 
 -- ---- the evidence of the files
 
@@ -267,42 +337,71 @@ names_some : (bodies : List (List ℕ)) (p : ℕ) → names_player p (records_of
 names_some [] p named = absurd cc
 names_some (b ∷ bodies) p named = omega arith
 
-module _ (laws : AreWorldsLawful) (rules : Rules) (room : ℕ) (files : List Twice) (range : AreInRange rules) (few : room < 2 ^ 64)
-    (honest : AreHonestFiles rules room files) where
+module _ (rules : Rules) (room : ℕ) (files : List Twice) (honest : AreInOrder rules room files) where
   owner_is : (p : ℕ) (r : Readings) (from : IsFrom files p r) → honest.owner from.place ≡ p
   owner_is p r from =
-      let order = in_order laws rules room (honest.owner from.place) honest.between from.file range few (honest.each from.place from.file from.at) in
+      let order = honest.order from.place from.file from.at in
       let head = begins_with_head rules (honest.owner from.place) room (kept (first_bytes from.file)) order.first
       (names_some (kept (first_bytes from.file)) p from.named) in
       names_one (records_of (kept (first_bytes from.file))) (honest.owner from.place) p
       (head_names (kept (first_bytes from.file)) (honest.owner from.place) (id_of rules) room head) from.named
 
-  file_of : (p : ℕ) (r : Readings) (from : IsFrom files p r) → IsPlayer rules p × WasReadTwice rules room honest.between p r
-  file_of p r from =
-      let is = honest.each from.place from.file from.at in
-      let order = in_order laws rules room (honest.owner from.place) honest.between from.file range few is in
-      let same : is.readings ≡ r = sym order.same ∙ from.same in
-      subst (λ (q : ℕ). IsPlayer rules q × WasReadTwice rules room honest.between q r) (owner_is p r from)
-      (is.plays, subst (λ (x : Readings). WasReadTwice rules room honest.between (honest.owner from.place) x) same is.read)
+  readings_are : (p : ℕ) (r : Readings) (from : IsFrom files p r) → honest.readings from.place from.file from.at ≡ r
+  readings_are p r from = sym (honest.order from.place from.file from.at).same ∙ from.same
 
   one_given_is : (r : Readings) × (evidence_of files 1 ≡ Some r)
   one_given_is =
-      let order = in_order laws rules room (honest.owner honest.one) honest.between honest.one_file range few
-      (honest.each honest.one honest.one_file honest.one_given) in
+      let order = honest.order honest.one honest.one_file honest.one_given in
       let head = begins_with_head rules (honest.owner honest.one) room (kept (first_bytes honest.one_file)) order.first
       (some_kept (kept (first_bytes honest.one_file)) honest.one_keeps) in
       is_given files honest.one 1 honest.one_file honest.one_given
       (subst (λ (p : ℕ). names_player p (records_of (kept (first_bytes honest.one_file))) ≡ true) honest.one_owner
       (head_names (kept (first_bytes honest.one_file)) (honest.owner honest.one) (id_of rules) room head))
 
+module _ (laws : AreWorldsLawful) (rules : Rules) (room : ℕ) (files : List Twice) (range : AreInRange rules) (few : room < 2 ^ 64)
+    (honest : AreHonestFiles rules room files) where
+  file_of : (p : ℕ) (r : Readings) (from : IsFrom files p r) → IsPlayer rules p × WasReadTwice rules room honest.between p r
+  unfolding ordered
+  file_of p r from =
+      let is = honest.each from.place from.file from.at in
+      let order = ordered laws rules room files range few honest in
+      subst (λ (q : ℕ). IsPlayer rules q × WasReadTwice rules room honest.between q r) (owner_is rules room files order p r from) (
+        is.plays,
+        subst (λ (x : Readings). WasReadTwice rules room honest.between (honest.owner from.place) x)
+            (readings_are rules room files order p r from) is.read,
+      )
+
   pub honest_evidence : IsHonest rules room (evidence_of files)
-  honest_evidence = record {
-    between = honest.between;
-    one = one_given_is.0;
-    one_given = one_given_is.1;
-    players = λ p r is. (file_of p r (is_from files p r is)).0;
-    read = λ p r is. (file_of p r (is_from files p r is)).1;
-  }
+  honest_evidence =
+      let one = one_given_is rules room files (ordered laws rules room files range few honest) in
+      record {
+        between = honest.between;
+        one = one.0;
+        one_given = one.1;
+        players = λ p r is. (file_of p r (is_from files p r is)).0;
+        read = λ p r is. (file_of p r (is_from files p r is)).1;
+      }
+
+module _ (laws : AreWorldsLawful) (rules : Rules) (room : ℕ) (files : List Twice) (range : AreInRange rules) (few : room < 2 ^ 64)
+    (honest : AreHonestFilesAtAnyMoments rules room files) where
+  copy_of : (p : ℕ) (r : Readings) (from : IsFrom files p r) → WereRead rules room honest.last p r
+  unfolding copies_ordered
+  copy_of p r from =
+      let is = honest.each from.place from.file from.at in
+      let order = copies_ordered laws rules room files range few honest in
+      subst (λ (q : ℕ). WereRead rules room honest.last q r) (owner_is rules room files order p r from)
+      (subst (λ (x : Readings). WereRead rules room honest.last (honest.owner from.place) x)
+      (readings_are rules room files order p r from) is.read)
+
+  pub copies_evidence : IsHonestAtAnyMoments rules room (evidence_of files)
+  copies_evidence =
+      let one = one_given_is rules room files (copies_ordered laws rules room files range few honest) in
+      record {
+        last = honest.last;
+        one = one.0;
+        one_given = one.1;
+        read = λ p r is. copy_of p r (is_from files p r is);
+      }
 
 -- ---- the verdicts
 
@@ -310,7 +409,7 @@ none_of : {T : Type 0} (P : Type 0) (Q : T → Type 0) (o : Option T) → MatchO
 none_of P Q None is never = refl
 none_of P Q (Some x) is never = absurd (never x is)
 
-never_unentered : (all : AllSeen) → AreEntered all → (frame q p : ℕ) → IsUnentered all frame q p → ⊥
+pub never_unentered : (all : AllSeen) → AreEntered all → (frame q p : ℕ) → IsUnentered all frame q p → ⊥
 never_unentered all entered frame q p wrong = wrong.never (entered p q frame wrong.by wrong.own wrong.by_given wrong.own_given wrong.below)
 
 never_untrue : (rules : Rules) (all : AllSeen) → AreTrue rules all → (p : ℕ) → IsUntrue rules all p → ⊥
@@ -325,12 +424,23 @@ row_at a b frame same =
     get_or-map-range_with_len (row b) 0 (frame + 1) frame frame d (omega arith) (omega arith) in
     sym one ∙ ap (λ (rows : List Row). get_or rows frame d) same ∙ two
 
-never_different : (rules : Rules) (all : AllSeen) → AreAgreed rules all → (frame p r : ℕ) → IsDifference all frame p r → ⊥
+pub never_different : (rules : Rules) (all : AllSeen) → AreAgreed rules all → (frame p r : ℕ) → IsDifference all frame p r → ⊥
 never_different rules all agreed frame p r wrong =
     let one = wrong.one_counts in
     let other = wrong.other_counts in
     wrong.rows (row_at wrong.one.first wrong.other.first frame
     (agreed p r wrong.one wrong.other wrong.one_stays wrong.other_stays (frame + 1) (omega (arith, one)) (omega (arith, other))).rows)
+
+entered_yes : (all : AllSeen) → AreEntered all → (answer : Answer) → AnswersEntered all answer → answer ≡ Yes
+entered_yes all entered Yes is = refl
+entered_yes all entered (Short short) is = absurd (never_unentered all entered is.frame is.q is.p is.first.is)
+entered_yes all entered (No fault) is = absurd (never_unentered all entered fault.frame fault.one.number fault.other.number is.is.is)
+
+agreed_yes : (rules : Rules) (all : AllSeen) → AreAgreed rules all → (answer : Answer) → AnswersAgreed rules all answer → answer ≡ Yes
+agreed_yes rules all agreed Yes is = refl
+agreed_yes rules all agreed (Short short) is = absurd (never_different rules all agreed is.frame is.p is.r is.difference)
+agreed_yes rules all agreed (No fault) is =
+    absurd (never_different rules all agreed fault.frame fault.one.number fault.other.number is.is.is)
 
 pub honest_yes : (laws : AreWorldsLawful) (rules : Rules) (room : ℕ) (files : List Twice) (given : List (Option journals.Journal))
     (verdicts : Verdicts) → AreInRange rules → room < 2 ^ 64 → AreHonestFiles rules room files
@@ -346,10 +456,93 @@ honest_yes laws rules room files given verdicts range few honest gathered judged
     let agreed : AreAgreed rules (all_seen given) =
     agreed_same (seen_in rules e) (all_seen given) same rules (honest_agreed laws rules room e range few is) in
     record {
-      entered = none_of (AreEntered (all_seen given)) _ verdicts.unentered judged.entered
-          (λ fault wrong. never_unentered (all_seen given) entered fault.frame fault.one.number fault.other.number wrong.is);
+      entered = entered_yes (all_seen given) entered verdicts.entered judged.entered;
       checks = none_of (AreTrue rules (all_seen given)) _ verdicts.untrue judged.checks
           (λ player wrong. never_untrue rules (all_seen given) checks player.number wrong.is);
-      agree = none_of (AreAgreed rules (all_seen given)) _ verdicts.difference judged.agree
-          (λ fault wrong. never_different rules (all_seen given) agreed fault.frame fault.one.number fault.other.number wrong.is);
+      agree = agreed_yes rules (all_seen given) agreed verdicts.agree judged.agree;
+    }
+
+-- ---- the verdicts at any moments
+
+module _ (all other : AllSeen) (same : AreSame all other) where
+  given_there : (p : ℕ) (s : Seen) → IsGiven other p s → IsGiven all p s
+  given_there p s given = record { from_one = given.from_one; is = same.each p given.from_one ∙ given.is }
+
+  one_there : all 1 ≡ other 1
+  one_there = same.each 1 (omega arith)
+
+  accused_there : (frame q p : ℕ) → IsAccused other frame q p → IsAccused all frame q p
+  accused_there frame q p accused =
+      let cut : cut_in all q ≡ cut_in other q = ap (λ (o : Option Seen). cut_by o q) one_there in
+      record {
+        is = record {
+          by = accused.is.by;
+          own = accused.is.own;
+          by_given = given_there p accused.is.by accused.is.by_given;
+          own_given = given_there q accused.is.own accused.is.own_given;
+          below = accused.is.below;
+          never = λ entered. accused.is.never
+              (subst (λ (o : Option ℕ). IsEntered o accused.is.own.later q frame (input_of (player_in accused.is.by.first q) frame)) cut entered);
+        };
+        has = accused.has;
+        decided = λ lacks. accused.decided (lacks.0, sym cut ∙ lacks.1);
+      }
+
+  ahead_there : (k : KnownValue) → IsAhead all k → IsAhead other k
+  ahead_there k ahead =
+      (ahead.0, ahead.1, ahead.2, ahead.3, sym (ap (λ (o : Option Seen). cut_by o ahead.0) one_there) ∙ ahead.4)
+
+  stays_there : (p : ℕ) (s : Seen) → Stays other p s → Stays all p s
+  stays_there p s stays = record {
+    given = given_there p s stays.given;
+    undropped = ap (λ (o : Option Seen). dropped_by o p) one_there ∙ stays.undropped;
+  }
+
+  opposed_there : (frame p r : ℕ) → IsOpposed other frame p r → IsOpposed all frame p r
+  opposed_there frame p r opposed = record {
+    is = record {
+      one = opposed.is.one;
+      other = opposed.is.other;
+      one_stays = stays_there p opposed.is.one opposed.is.one_stays;
+      other_stays = stays_there r opposed.is.other opposed.is.other_stays;
+      order = opposed.is.order;
+      one_counts = opposed.is.one_counts;
+      other_counts = opposed.is.other_counts;
+      rows = opposed.is.rows;
+    };
+    one_decided = λ ahead. opposed.one_decided (ahead_there opposed.is.one.first ahead);
+    other_decided = λ ahead. opposed.other_decided (ahead_there opposed.is.other.first ahead);
+  }
+
+not_accused : (all : AllSeen) → ((frame q p : ℕ) → IsAccused all frame q p → ⊥) → (answer : Answer) → AnswersEntered all answer
+    → (fault : Fault) → answer ≡ No fault → ⊥
+not_accused all never Yes is fault e = absurd cc
+not_accused all never (Short short) is fault e = absurd cc
+not_accused all never (No own) is fault e = never own.frame own.one.number own.other.number is.is
+
+not_opposed : (rules : Rules) (all : AllSeen) → ((frame p r : ℕ) → IsOpposed all frame p r → ⊥) → (answer : Answer)
+    → AnswersAgreed rules all answer → (fault : Fault) → answer ≡ No fault → ⊥
+not_opposed rules all never Yes is fault e = absurd cc
+not_opposed rules all never (Short short) is fault e = absurd cc
+not_opposed rules all never (No own) is fault e = never own.frame own.one.number own.other.number is.is
+
+pub copies_accuse_nobody : (peers : ArePeersLawful) (laws : AreWorldsLawful) (rules : Rules) (room : ℕ) (files : List Twice)
+    (given : List (Option journals.Journal)) (verdicts : Verdicts) → AreInRange rules → room < 2 ^ 64
+    → AreHonestFilesAtAnyMoments rules room files → AreGathered rules (evidence_of files) given
+    → AreVerdicts rules (all_seen given) verdicts → AccuseNobody verdicts
+copies_accuse_nobody peers laws rules room files given verdicts range few honest gathered judged =
+    let e = evidence_of files in
+    let is = copies_evidence laws rules room files range few honest in
+    let same : AreSame (seen_in rules e) (all_seen given) = record { each = λ p from. sym (gathered.gathered.seen_is p from) } in
+    let checks : AreTrue rules (all_seen given) =
+    true_same (seen_in rules e) (all_seen given) same rules (checks_true laws rules room e range few is) in
+    record {
+      entered = not_accused (all_seen given)
+          (λ frame q p wrong. never_accused peers rules room e range few (beginnings rules room e is) frame q p
+          (accused_there (seen_in rules e) (all_seen given) same frame q p wrong)) verdicts.entered judged.entered;
+      checks = none_of (AreTrue rules (all_seen given)) _ verdicts.untrue judged.checks
+          (λ player wrong. never_untrue rules (all_seen given) checks player.number wrong.is);
+      agree = not_opposed rules (all_seen given)
+          (λ frame p r wrong. never_opposed_at peers rules room e range few is frame p r
+          (opposed_there (seen_in rules e) (all_seen given) same frame p r wrong)) verdicts.agree judged.agree;
     }

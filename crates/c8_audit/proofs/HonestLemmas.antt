@@ -117,7 +117,7 @@ settled_here rules w p finds plays nodes =
     let to = plays.in_game in
     get_or-set_same w.peers (p - 1) _ never_opened (omega (arith, from, to, nodes))
 
-settled_there : (rules : Rules) (w : World) (p q : ℕ) (finds : Bool) → IsPlayer rules p → IsPlayer rules q → q ≢ p
+pub settled_there : (rules : Rules) (w : World) (p q : ℕ) (finds : Bool) → IsPlayer rules p → IsPlayer rules q → q ≢ p
     → peer_of (settled_at w p finds) q ≡ peer_of w q
 settled_there rules w p q finds plays others apart =
     let from = plays.from_one in

@@ -8,10 +8,12 @@ pub mod TruthLemmas
 pub mod CountLemmas
 pub mod AgreedLemmas
 pub mod EnteredLemmas
+pub mod ShortLemmas
 pub mod StepLemmas
 pub mod FateLemmas
 pub mod HonestLemmas
 pub mod AccusedLemmas
+pub mod MomentLemmas
 pub mod YesLemmas
 pub mod ReadingLemmas
 pub mod FileLemmas
@@ -19,6 +21,7 @@ pub mod RosterLemmas
 pub mod SortedLemmas
 pub mod StoryLemmas
 pub mod HonestFileLemmas
+pub mod AnswerLemmas
 -- What is read of a file is all its bytes, and the journal in them is that of the player and room in its HEAD.
 pub mod JournalLemmas
 pub mod ImageLemmas

@@ -1,5 +1,5 @@
 -- What is printed, line by line.
-use Rattle.std.proofs.Common.{◌≡◌, ℕ, List, [], ◌++◌, codes, Option, Some, None, Result, Ok, Err, sym, subst}
+use Rattle.std.proofs.Common.{◌≡◌, ℕ, List, ◌++◌, codes, Option, Some, None, Result, Ok, Err, sym, subst}
 use Rattle.std.specs.Prelude.{OnOk, IfSome, option_map}
 use Rattle.std.specs.Io.KnownBytes.{Appends}
 use Rattle.std.proofs.KnownBytes.{Appends-trans}
@@ -7,7 +7,7 @@ use Rattle.c8_game.specs.declared.row.Player.{Player}
 use Rattle.c8_audit.specs.declared.verdict.Verdicts.{Verdicts}
 use Rattle.c8_keys.specs.Report.{Grows}
 use Rattle.c8_keys.specs.checked.Grows.{grows_then}
-use Rattle.c8_audit.specs.Printed.{checks_text, verdicts_text, Tells}
+use Rattle.c8_audit.specs.Printed.{checks_text, verdicts_text, sentence_of, Tells}
 
 pub true_checks : {T E : Type 0} (before after : Option (List ℕ)) (untrue : Option Player) (told : Result T E) → untrue ≡ None
     → OnOk told (Appends before after (codes "checks yes\n"))
@@ -21,14 +21,15 @@ pub some_of : (f : List ℕ → List ℕ) (P : List ℕ → Type 0) (o : Option 
 some_of f P (Some z) x is has = (f z, has)
 some_of f P None x is has = absurd cc
 
--- the verdicts, after the lines of the journals, and before what follows
-pub tells_by : (a b c d e f : Option (List ℕ)) (verdicts : Verdicts) → Grows a b → Grows b c → Grows c d
-    → (check : ℕ) × Appends d e (verdicts_text verdicts check) → Grows e f → Tells a f verdicts
-tells_by a b c d e f verdicts players empty dropped told after =
-    let before = grows_then a c d (grows_then a b c players empty) dropped in (
+-- the verdicts, after the lines of the journals, and before what follows and the sentence
+pub tells_by : (a b c d e f g : Option (List ℕ)) (verdicts : Verdicts) → Grows a b → Grows b c → Grows c d
+    → (check : ℕ) × Appends d e (verdicts_text verdicts check) → Grows e f → Appends f g (sentence_of verdicts) → Tells a g verdicts
+tells_by a b c d e f g verdicts players empty dropped told after sentence =
+    let before = grows_then a c d (grows_then a b c players empty) dropped in
+    let last = Appends-trans e f g after.0 (sentence_of verdicts) after.1 sentence in (
       before.0,
       told.0,
       after.0,
-      Appends-trans a d f before.0 (verdicts_text verdicts told.0 ++ after.0) before.1
-          (Appends-trans d e f (verdicts_text verdicts told.0) after.0 told.1 after.1),
+      Appends-trans a d g before.0 (verdicts_text verdicts told.0 ++ (after.0 ++ sentence_of verdicts)) before.1
+          (Appends-trans d e g (verdicts_text verdicts told.0) (after.0 ++ sentence_of verdicts) told.1 last),
     )

@@ -8,7 +8,7 @@ use Rattle.c8_audit.specs.Verdicts.{IsUpTo}
 use Rattle.c8_audit.specs.Search.{IsFault, IsFirstOf, IsLeastOf, IsLeastBelow, IsLeast, earlier_of}
 use Rattle.c8_audit.specs.declared.fault.Fault.{Fault}
 use Rattle.c8_audit.specs.declared.fault.Question.{Question}
-use Rattle.c8_audit.specs.declared.fault.Question.TheVariants.{Entered, Agreed}
+use Rattle.c8_audit.specs.declared.fault.Question.TheVariants.{Entered, Agreed, Accused, Opposed}
 
 -- below the next number: below this one, or it
 below_next : (k n : ℕ) → k < n + 1 → (k < n) ⊎ (k ≡ n)
@@ -115,6 +115,18 @@ below_five rules Agreed all of_game =
     record {
       one = λ frame one other fault. omega (arith, four, of_game.players one fault.one fault.one_stays.given);
       other = λ frame one other fault. omega (arith, four, of_game.players other fault.other fault.other_stays.given);
+    }
+below_five rules Accused all of_game =
+    let four = of_game.at_most_four in
+    record {
+      one = λ frame one other fault. omega (arith, four, of_game.players one fault.is.own fault.is.own_given);
+      other = λ frame one other fault. omega (arith, four, of_game.players other fault.is.by fault.is.by_given);
+    }
+below_five rules Opposed all of_game =
+    let four = of_game.at_most_four in
+    record {
+      one = λ frame one other fault. omega (arith, four, of_game.players one fault.is.one fault.is.one_stays.given);
+      other = λ frame one other fault. omega (arith, four, of_game.players other fault.is.other fault.is.other_stays.given);
     }
 
 -- the fault found for player n is not after any other fault of player n

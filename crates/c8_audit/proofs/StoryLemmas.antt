@@ -10,7 +10,8 @@ use Rattle.c8_audit.specs.Images.{evidence_of}
 use Rattle.c8_audit.specs.Journals.{Seen, AllSeen, seen_in, IsGiven, dropped_by, cut_by, Stays}
 use Rattle.c8_audit.specs.Judged.{AreVerdicts, AreYes, AlwaysTellOneStory}
 use Rattle.c8_audit.specs.Read.{all_seen}
-use Rattle.c8_audit.specs.Verdicts.{IsEntered, AreEntered, AreTrue, AreAgreed}
+use Rattle.c8_audit.specs.Verdicts.{IsEntered, AreEntered, AreTrue, AreAgreed, AnswersEntered, AnswersAgreed}
+use Rattle.c8_audit.specs.declared.fault.Answer.{Answer}
 use Rattle.c8_audit.specs.declared.files.Twice.{Twice}
 use Rattle.c8_audit.specs.declared.journal.Journal.{Journal}
 use Rattle.c8_audit.specs.declared.verdict.Verdicts.{Verdicts}
@@ -57,13 +58,13 @@ one_story rules files journals verdicts gathered judged three w v of =
     let same : AreSame (all_seen journals) (seen_in rules e) = record { each = gathered.gathered.seen_is } in
     let entered : AreEntered (seen_in rules e) =
     entered_same (all_seen journals) (seen_in rules e) same
-    (yes_of (AreEntered (all_seen journals)) _ verdicts.unentered judged.entered three.entered) in
+    (subst (λ (a : Answer). AnswersEntered (all_seen journals) a) three.entered judged.entered) in
     let checks : AreTrue rules (seen_in rules e) =
     true_same (all_seen journals) (seen_in rules e) same rules
     (yes_of (AreTrue rules (all_seen journals)) _ verdicts.untrue judged.checks three.checks) in
     let agreed : AreAgreed rules (seen_in rules e) =
     agreed_same (all_seen journals) (seen_in rules e) same rules
-    (yes_of (AreAgreed rules (all_seen journals)) _ verdicts.difference judged.agree three.agree) in
+    (subst (λ (a : Answer). AnswersAgreed rules (all_seen journals) a) three.agree judged.agree) in
     record {
       entered = yes_entered rules e w v of entered;
       checks = yes_true rules e w v of checks;

@@ -18,24 +18,34 @@ use Rattle.c8_audit.specs.Read.{all_seen}
 use Rattle.c8_audit.specs.declared.error.GatherError.{GatherError}
 use Rattle.c8_audit.specs.declared.error.GatherError.TheVariants as gathering
 use Rattle.c8_audit.specs.declared.error.Unread.TheVariants as unread
-use Rattle.c8_audit.specs.declared.fault.Fault.{Fault}
+use Rattle.c8_audit.specs.declared.fault.Answer.{Answer}
+use Rattle.c8_audit.specs.declared.fault.Answer.TheVariants.{Yes, Short, No}
 use Rattle.c8_audit.specs.declared.files.Twice.{Twice}
 use Rattle.c8_audit.specs.declared.journal.Journal.{Journal}
 use Rattle.c8_audit.specs.declared.verdict.Verdicts.{Verdicts}
 use Rattle.c8_audit.specs.Errors.{audit_part}
 use Rattle.c8_audit.specs.declared.error.AuditFault.{AuditFault}
+use Rattle.c8_program.specs.Asked.{usual_settings}
+use Rattle.c8_program.specs.Errors.{game_fault}
+use Rattle.c8_program.specs.Faults.{fault_of}
+use Rattle.c8_program.specs.declared.error.ProgramError.{ProgramError}
 use Rattle.c8_audit.specs.declared.error.AuditFault.TheVariants as faults
 use Rattle.c8_audit.specs.declared.error.Unreadable.TheVariants as unreadable
 
--- the first verdict that is no, in the order of the lines
-abbrev pub first_no : Option Fault → Option Player → Option Fault → Option AuditFault
-first_no (Some fault) untrue difference = Some faults.Entered
-first_no None (Some player) difference = Some faults.Checks
-first_no None None (Some fault) = Some faults.Disagree
-first_no None None None = None
+-- The first verdict that is no, in the order of the lines. If none is no, whether one is short.
+abbrev pub first_no : Answer → Option Player → Answer → Option AuditFault
+first_no (No fault) untrue agree = Some faults.Entered
+first_no Yes (Some player) agree = Some faults.Checks
+first_no Yes None (No fault) = Some faults.Disagree
+first_no Yes None (Short short) = Some faults.Short
+first_no Yes None Yes = None
+first_no (Short short) (Some player) agree = Some faults.Checks
+first_no (Short short) None (No fault) = Some faults.Disagree
+first_no (Short short) None (Short other) = Some faults.Short
+first_no (Short short) None Yes = Some faults.Short
 
 abbrev pub fault_in : Verdicts → Option AuditFault
-fault_in verdicts = first_no verdicts.unentered verdicts.untrue verdicts.difference
+fault_in verdicts = first_no verdicts.entered verdicts.untrue verdicts.agree
 
 -- the verdicts of these journals are all yes, or this is the first no
 abbrev pub IsJudged : Rules → AllSeen → Result Verdicts AuditFault → Type 0
@@ -50,6 +60,7 @@ IsOfDisk (faults.Journal error) = ⊥
 IsOfDisk faults.Entered = ⊥
 IsOfDisk faults.Checks = ⊥
 IsOfDisk faults.Disagree = ⊥
+IsOfDisk faults.Short = ⊥
 IsOfDisk (faults.Journals why) = ⊥
 
 -- the refusal of journals that cannot be judged
@@ -79,10 +90,16 @@ IsWithout fault = IsOfDisk fault ⊎ (fault ≡ faults.Game games.Memory) ⊎ (f
 abbrev pub IsNoGame : List ℕ → AuditFault → Type 0
 IsNoGame text fault = (error : GameError) × IsRefused text error × (fault ≡ faults.Game error)
 
--- Why nothing is judged: a file or memory is missing, the text spells no game, or the readings of the files are refused.
+-- the fault of a program with the usual settings
+abbrev pub IsNoProgram : List ℕ → AuditFault → Type 0
+IsNoProgram program fault =
+    (why : ProgramError) × (fault_of usual_settings program ≡ Some why) × (fault ≡ faults.Game (game_fault why))
+
+-- Why nothing is judged: a file or memory is missing, the text spells no game, the program makes none, or the readings of
+-- the files are refused.
 abbrev pub IsUnjudged : AuditFault → Type 0
 IsUnjudged fault =
-    IsWithout fault ⊎ ((text : List ℕ) × IsNoGame text fault)
+    IsWithout fault ⊎ ((text : List ℕ) × IsNoGame text fault) ⊎ ((program : List ℕ) × IsNoProgram program fault)
     ⊎ ((text : List ℕ) × (rules : Rules) × (files : List Twice) × Spells text rules × AreRefused rules files fault)
 
 -- a text spells a game, and readings of files are judged by it

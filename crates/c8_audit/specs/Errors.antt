@@ -6,7 +6,7 @@ use Rattle.c8_command.specs.declared.refusal.Part.{Part}
 use Rattle.c8_command.specs.declared.refusal.Part.TheVariants as parts
 use Rattle.c8_game.specs.Errors as games
 use Rattle.c8_audit.specs.declared.error.AuditFault.{AuditFault}
-use Rattle.c8_audit.specs.declared.error.AuditFault.TheVariants.{Game, Journal, Entered, Checks, Disagree, Journals, Disk}
+use Rattle.c8_audit.specs.declared.error.AuditFault.TheVariants.{Game, Journal, Entered, Checks, Disagree, Journals, Short, Disk}
 
 abbrev pub journal_error_number : JournalError → ℕ
 journal_error_number WrongGame = 1
@@ -20,6 +20,7 @@ audit_part Entered = parts.Audit
 audit_part Checks = parts.Audit
 audit_part Disagree = parts.Audit
 audit_part (Journals why) = parts.Audit
+audit_part Short = parts.Audit
 audit_part (Disk why) = parts.Disk
 
 abbrev pub audit_error_number : AuditFault → ℕ
@@ -29,4 +30,5 @@ audit_error_number Entered = 1
 audit_error_number Checks = 2
 audit_error_number Disagree = 3
 audit_error_number (Journals why) = 4
+audit_error_number Short = 5
 audit_error_number (Disk why) = 1

@@ -3,6 +3,7 @@ use Rattle.std.specs.Prelude.{◌≡◌, ℕ, List, Bool, false, Some, map}
 use Rattle.std.specs.List.{slice_get}
 use Rattle.c8_game.specs.Rules.{Rules}
 use Rattle.c8_known.specs.Growth.{Begins}
+use Rattle.c8_known.specs.Journal.{Record}
 use Rattle.c8_peer.specs.Opening.{found}
 use Rattle.c8_world.specs.World.{World, Event, Answer, Chain, IsReached, peer_of, journal_of}
 use Rattle.c8_world.specs.Agreement.{IsPlayer}
@@ -60,6 +61,71 @@ pub record AreHonestFiles (rules : Rules) (room : ℕ) (files : List Twice) : Ty
   pub one_given : slice_get files one ≡ Some one_file
   pub one_owner : owner one ≡ 1
   pub one_keeps : keeps_nothing one_file ≡ false
+
+-- ---- at any moments
+
+-- A player's journal was read at a moment of the match that leads to the world `last`; or a copy was read that ends where
+-- the journal ended at that moment. The reading finds the pending record or not. No record that it found was lost later: a
+-- crash can lose one that the disk refused.
+pub record WasRead (rules : Rules) (room : ℕ) (last : World) (p : ℕ) (records : List Record) : Type 0 where
+  pub at : World
+  pub reached : IsReached rules room at
+  pub events : List Event
+  pub answers : List Answer
+  pub until : Chain rules room at events answers last
+  pub finds : Bool
+  pub is : records ≡ found (peer_of at p) finds
+  pub last_finds : Bool
+  pub stays : Begins records (found (peer_of last p) last_finds)
+
+-- Two readings of a player's journal at any moments, the second one not before the first. The readings of a copy are equal.
+pub record WereRead (rules : Rules) (room : ℕ) (last : World) (p : ℕ) (r : Readings) : Type 0 where
+  pub plays : IsPlayer rules p
+  pub first : WasRead rules room last p r.first
+  pub later : WasRead rules room last p r.later
+  pub continues : Begins r.first r.later
+
+-- The journals are those of peers of one match, player 1's among them, each read at its own moments.
+pub record IsHonestAtAnyMoments (rules : Rules) (room : ℕ) (e : Evidence) : Type 0 where
+  pub last : World
+  pub one : Readings
+  pub one_given : e 1 ≡ Some one
+  pub read : (p : ℕ) (r : Readings) → e p ≡ Some r → WereRead rules room last p r
+
+-- The readings are beginnings, of any length, of what reads of the players' disks find at the end of a match. Player 1's is
+-- among them. The second reading of a journal begins with the first.
+pub record AreBeginnings (rules : Rules) (room : ℕ) (e : Evidence) : Type 0 where
+  pub last : World
+  pub reached : IsReached rules room last
+  pub one : Readings
+  pub one_given : e 1 ≡ Some one
+  pub finds : ℕ → Bool
+  pub plays : (p : ℕ) (r : Readings) → e p ≡ Some r → IsPlayer rules p
+  pub continues : (p : ℕ) (r : Readings) → e p ≡ Some r → Begins r.first r.later
+  pub begins : (p : ℕ) (r : Readings) → e p ≡ Some r → Begins r.later (found (peer_of last p) (finds p))
+
+-- The file is that of player p, read twice at any moments: by each reading its bytes keep the spellings of the records that
+-- this reading of the player's disk finds.
+pub record IsCopyOf (rules : Rules) (room : ℕ) (last : World) (p : ℕ) (file : Twice) : Type 0 where
+  pub readings : Readings
+  pub read : WereRead rules room last p readings
+  pub first_is : kept (first_bytes file) ≡ map body_of readings.first
+  pub later_is : kept (later_bytes file) ≡ map body_of readings.later
+
+-- The files are those of peers of one match, one file a player, each read at its own moments. Player 1's is among them, and
+-- keeps a record.
+pub record AreHonestFilesAtAnyMoments (rules : Rules) (room : ℕ) (files : List Twice) : Type 0 where
+  pub last : World
+  pub owner : ℕ → ℕ
+  pub each : (n : ℕ) (file : Twice) → slice_get files n ≡ Some file → IsCopyOf rules room last (owner n) file
+  pub apart : (m n : ℕ) (a b : Twice) → slice_get files m ≡ Some a → slice_get files n ≡ Some b → owner m ≡ owner n → m ≡ n
+  pub one : ℕ
+  pub one_file : Twice
+  pub one_given : slice_get files one ≡ Some one_file
+  pub one_owner : owner one ≡ 1
+  pub one_keeps : keeps_nothing one_file ≡ false
+
+-- ---- journals of worlds
 
 -- The first readings are the journals of one world, the second ones those of another.
 pub record AreOfWorlds (rules : Rules) (e : Evidence) (earlier later : World) : Type 0 where

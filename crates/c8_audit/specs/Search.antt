@@ -1,10 +1,10 @@
 -- How an audit searches for the least fault of a question.
 use Rattle.std.specs.Prelude.{◌≡◌, ℕ, ◌<◌, ◌≤◌, ◌⊎◌, Option, Some, None, nat_le, if◌then◌else◌}
 use Rattle.c8_audit.specs.Journals.{Seen, AllSeen, Stays}
-use Rattle.c8_audit.specs.Verdicts.{IsUnentered, IsDifference, IsUpTo}
+use Rattle.c8_audit.specs.Verdicts.{IsUnentered, IsDifference, IsAccused, IsOpposed, IsUpTo}
 use Rattle.c8_audit.specs.declared.fault.Fault.{Fault}
 use Rattle.c8_audit.specs.declared.fault.Question.{Question}
-use Rattle.c8_audit.specs.declared.fault.Question.TheVariants.{Entered, Agreed}
+use Rattle.c8_audit.specs.declared.fault.Question.TheVariants.{Entered, Agreed, Accused, Opposed}
 
 -- what is known by the player's journal, if it is given and the player was not dropped
 abbrev pub IsStayer : AllSeen → ℕ → Option Seen → Type 0
@@ -15,6 +15,8 @@ IsStayer all p (Some s) = Stays all p s
 abbrev pub IsFault : Question → AllSeen → ℕ → ℕ → ℕ → Type 0
 IsFault Entered all frame one other = IsUnentered all frame one other
 IsFault Agreed all frame one other = IsDifference all frame one other
+IsFault Accused all frame one other = IsAccused all frame one other
+IsFault Opposed all frame one other = IsOpposed all frame one other
 
 -- the first frame in which the answer for two players is no; none, if there is no such frame
 abbrev pub IsFirstFrame : Question → AllSeen → ℕ → ℕ → Option ℕ → Type 0

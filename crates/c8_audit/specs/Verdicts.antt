@@ -1,14 +1,16 @@
 -- When each verdict of an audit is yes: the inputs in the journals were entered, the checkpoints are true, the players
--- agree. And the least fault, if a verdict is no.
-use Rattle.std.specs.Prelude.{◌≡◌, ◌≢◌, ℕ, ◌<◌, ◌≤◌, ◌⊎◌, Option, Some}
+-- agree. When it is no, and the least fault. And when it is short: a journal ends before what others hold of its player.
+use Rattle.std.specs.Prelude.{◌≡◌, ◌≢◌, ℕ, ◌<◌, ◌≤◌, ◌⊎◌, Option, Some, None}
 use Rattle.std.specs.List.{slice_get}
 use Rattle.c8_game.specs.Rules.{Rules}
 use Rattle.c8_digest.specs.Origin.{Origin}
 use Rattle.c8_roll.specs.Roll.{IsOnTheWay}
-use Rattle.c8_known.specs.Known.{KnownValue, player_in}
+use Rattle.c8_known.specs.Known.{KnownValue, player_in, count_in}
 use Rattle.c8_known.specs.Confirmed.{input_of, confirmed, row}
 use Rattle.c8_world.specs.Agreement.{AreSameUpTo}
 use Rattle.c8_audit.specs.Journals.{Seen, AllSeen, IsGiven, cut_in, Stays}
+use Rattle.c8_audit.specs.declared.fault.Answer.{Answer}
+use Rattle.c8_audit.specs.declared.fault.Answer.TheVariants.{Yes, Short, No}
 
 -- ---- entered
 
@@ -32,6 +34,16 @@ pub record IsUnentered (all : AllSeen) (frame q p : ℕ) : Type 0 where
   pub own_given : IsGiven all q own
   pub below : frame < confirmed by.first
   pub never : IsEntered (cut_in all q) own.later q frame (input_of (player_in by.first q) frame) → ⊥
+
+-- Player p's journal counts the input empty, since player q was dropped; but player 1's journal does not have the cut.
+abbrev pub LacksCut : AllSeen → Seen → ℕ → ℕ → Type 0
+LacksCut all by q frame = (count_in by.first q ≤ frame) × (cut_in all q ≡ None)
+
+-- Player q is accused: it did not enter that input, and its own journal has another one in the frame.
+pub record IsAccused (all : AllSeen) (frame q p : ℕ) : Type 0 where
+  pub is : IsUnentered all frame q p
+  pub has : frame < count_in is.own.later q
+  pub decided : LacksCut all is.by q frame → ⊥
 
 -- ---- checkpoints
 
@@ -66,6 +78,16 @@ pub record IsDifference (all : AllSeen) (frame p r : ℕ) : Type 0 where
   pub other_counts : frame < confirmed other.first
   pub rows : row one.first frame ≢ row other.first frame
 
+-- a journal has a cut of a player, and player 1's journal does not
+abbrev pub IsAhead : AllSeen → KnownValue → Type 0
+IsAhead all k = (q K : ℕ) × (1 ≤ q) × ((player_in k q).cut ≡ Some K) × (cut_in all q ≡ None)
+
+-- Players p and r are accused of a difference: player 1's journal has each cut that theirs have.
+pub record IsOpposed (all : AllSeen) (frame p r : ℕ) : Type 0 where
+  pub is : IsDifference all frame p r
+  pub one_decided : IsAhead all is.one.first → ⊥
+  pub other_decided : IsAhead all is.other.first → ⊥
+
 -- every undropped player has confirmed N frames, and one of them no more
 pub record IsLeastCount (all : AllSeen) (N : ℕ) : Type 0 where
   pub player : ℕ
@@ -89,6 +111,70 @@ pub record IsFirstUntrue (rules : Rules) (all : AllSeen) (p : ℕ) : Type 0 wher
   pub is : IsUntrue rules all p
   pub least : (p' : ℕ) → IsUntrue rules all p' → p ≤ p'
 
-pub record IsFirstDifference (all : AllSeen) (frame p r : ℕ) : Type 0 where
-  pub is : IsDifference all frame p r
-  pub least : (frame' p' r' : ℕ) → IsDifference all frame' p' r' → IsUpTo frame p r frame' p' r'
+pub record IsFirstAccused (all : AllSeen) (frame q p : ℕ) : Type 0 where
+  pub is : IsAccused all frame q p
+  pub least : (frame' q' p' : ℕ) → IsAccused all frame' q' p' → IsUpTo frame q p frame' q' p'
+
+pub record IsFirstOpposed (all : AllSeen) (frame p r : ℕ) : Type 0 where
+  pub is : IsOpposed all frame p r
+  pub least : (frame' p' r' : ℕ) → IsOpposed all frame' p' r' → IsUpTo frame p r frame' p' r'
+
+-- ---- the answers
+
+-- this many inputs of the player are in its own journal, by the second reading
+pub record HasLength (all : AllSeen) (player length : ℕ) : Type 0 where
+  pub seen : Seen
+  pub given : IsGiven all player seen
+  pub is : length ≡ count_in seen.later player
+
+-- The journal that ends too early for an input that was not entered: player 1's, if it lacks the cut; otherwise that of
+-- the input's player, which ends before the frame.
+abbrev pub IsEnd : AllSeen → Seen → ℕ → ℕ → ℕ → ℕ → Type 0
+IsEnd all by frame q player length =
+    (LacksCut all by q frame × (player ≡ 1)) ⊎ ((LacksCut all by q frame → ⊥) × (player ≡ q) × (length ≤ frame))
+
+-- Nobody is accused, but some inputs were not entered. The first of them names the journal that ends too early.
+pub record IsShort (all : AllSeen) (player length : ℕ) : Type 0 where
+  pub nobody : (frame q p : ℕ) → IsAccused all frame q p → ⊥
+  pub frame : ℕ
+  pub q : ℕ
+  pub p : ℕ
+  pub first : IsFirstUnentered all frame q p
+  pub end : IsEnd all first.is.by frame q player length
+  pub length_is : HasLength all player length
+
+-- Nobody is accused, but two players differ. So player 1's journal lacks a cut.
+pub record IsUndecided (all : AllSeen) (player length : ℕ) : Type 0 where
+  pub nobody : (frame p r : ℕ) → IsOpposed all frame p r → ⊥
+  pub frame : ℕ
+  pub p : ℕ
+  pub r : ℕ
+  pub difference : IsDifference all frame p r
+  pub one : player ≡ 1
+  pub length_is : HasLength all player length
+
+-- whether the inputs were entered
+abbrev pub AnswersEntered : AllSeen → Answer → Type 0
+AnswersEntered all Yes = AreEntered all
+AnswersEntered all (Short short) = IsShort all short.player.number short.length
+AnswersEntered all (No fault) = IsFirstAccused all fault.frame fault.one.number fault.other.number
+
+-- whether the players agree
+abbrev pub AnswersAgreed : Rules → AllSeen → Answer → Type 0
+AnswersAgreed rules all Yes = AreAgreed rules all
+AnswersAgreed rules all (Short short) = IsUndecided all short.player.number short.length
+AnswersAgreed rules all (No fault) = IsFirstOpposed all fault.frame fault.one.number fault.other.number
+
+-- which of the three answers it is
+abbrev pub kind_of : Answer → ℕ
+kind_of Yes = 0
+kind_of (Short short) = 1
+kind_of (No fault) = 2
+
+-- Player p's journal counts an input of player q in the frame, and q's own journal has another one there.
+pub record HaveTwoInputs (by own : Seen) (q frame : ℕ) : Type 0 where
+  pub counted : ℕ
+  pub counted_is : input_of (player_in by.first q) frame ≡ Some counted
+  pub entered : ℕ
+  pub entered_is : slice_get (player_in own.later q).held frame ≡ Some entered
+  pub apart : counted ≢ entered

@@ -1,13 +1,15 @@
 //! Whether the players who were not dropped agree.
 
-ghost use Rattle.std.specs.Prelude.{◌≡◌, option_map};
+ghost use Rattle.std.specs.Prelude.{◌≡◌, ◌↔◌, true, option_map};
 ghost use Rattle.c8_game.specs.Rules.{Rules};
 ghost use Rattle.c8_audit.specs.Frames.{IsFirstDifferent};
-ghost use Rattle.c8_audit.specs.Journals.{AreOfGame, is_dropped};
+ghost use Rattle.c8_audit.specs.Journals.{Seen, IsGiven, AreOfGame, is_dropped};
 ghost use Rattle.c8_audit.specs.Read.{seen, all_seen};
 ghost use Rattle.c8_audit.specs.Search.{IsStayer, IsFirstFrame};
+ghost use Rattle.c8_audit.specs.Verdicts.{IsAhead};
 ghost use Rattle.c8_audit.specs.declared.fault.Question.TheVariants as questions;
 
+use crate::entered::cut_of;
 use crate::journal::{Journal, journal_of};
 use c8_game::Player;
 use c8_known::Known;
@@ -29,6 +31,44 @@ pub(crate) fn first_difference(
         (Some(a), Some(b)) => first_different(&a.first, &b.first),
         _ => None,
     }
+}
+
+/// Returns the first frame that both players count as confirmed with different inputs. `None` also if one of their
+/// journals has a cut that player 1's journal lacks.
+pub(crate) fn first_opposed(journals: &[Option<Journal>], one: Player, other: Player) -> Option<u32>
+    requires { (rules : Rules) × AreOfGame rules (all_seen journals.now) }
+    ensures { IsFirstFrame questions.Opposed (all_seen journals.now) one.number other.number result }
+{
+    if is_ahead(journals, one) || is_ahead(journals, other) {
+        return None;
+    }
+    first_difference(journals, one, other)
+}
+
+/// Returns whether the player's journal is given, and has a cut that player 1's journal lacks.
+fn is_ahead(journals: &[Option<Journal>], player: Player) -> bool
+    requires { (rules : Rules) × AreOfGame rules (all_seen journals.now) }
+    ensures { (result ≡ true) ↔ ((s : Seen) × IsGiven (all_seen journals.now) player.number s
+        × IsAhead (all_seen journals.now) s.first) }
+{
+    match journal_of(journals, player) {
+        Some(journal) => has_more_cuts(journals, &journal.first),
+        None => false,
+    }
+}
+
+/// Returns whether something that is known has a cut that player 1's journal lacks.
+fn has_more_cuts(journals: &[Option<Journal>], known: &Known) -> bool
+    requires { (rules : Rules) × AreOfGame rules (all_seen journals.now) }
+    ensures { (result ≡ true) ↔ IsAhead (all_seen journals.now) known.now }
+{
+    for number in 1..known.players() + 1 {
+        let player = Player { number };
+        if known.cut_of(player).is_some() && cut_of(journals, player).is_none() {
+            return true;
+        }
+    }
+    false
 }
 
 /// Returns the player's journal, if it is given and the player was not dropped.

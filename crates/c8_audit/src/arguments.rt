@@ -14,7 +14,7 @@ pub static AUDIT: Outline = Outline {
     takes: &[
         Argument {
             name: "GAME",
-            help: "The path of the game's text",
+            help: "The path of the game's text or of a CHIP-8 program (.ch8)",
             ..Argument::NEEDED
         },
         Argument {

@@ -9,6 +9,7 @@ ghost use Rattle.c8_audit.specs.Read.{all_seen};
 ghost use Rattle.c8_audit.specs.declared.verdict.Verdicts.{Verdicts};
 ghost use Rattle.c8_command.specs.Status.{status_of, status_of_outcome};
 ghost use Rattle.c8_command.specs.declared.status.Status.TheVariants as statuses;
+ghost use Rattle.c8_program.specs.Errors.{game_fault};
 ghost use Rattle.c8_audit.specs.Audit.{IsJudged, AreRefused, HasAudited, IsFaultOf, IsWithout};
 ghost use Rattle.c8_audit.specs.Errors.{audit_part};
 ghost use Rattle.c8_audit.specs.Printed.{TellsYes};
@@ -24,6 +25,7 @@ use c8_command::{Site, Status, Text, TextError, read_file};
 use c8_front::{is_explained, word_of};
 use c8_game::{Game, GameError};
 use c8_keys::game_site;
+use c8_program::{NO_TEXT, ProgramError, is_binary, is_program, text_of};
 use clap::ArgMatches;
 use std::alloc::Global;
 use std::io;
@@ -56,8 +58,8 @@ pub fn audit_given<R: Files + AllocGlobal, W: Write, E: Write>(
     let path = word_of(given, "GAME");
     let files = given.get_strs("JOURNAL").unwrap_or(&[]);
     let explain = is_explained(given);
-    let text = match read_file(rt, path) {
-        Ok(text) => text,
+    let bytes = match read_file(rt, path) {
+        Ok(bytes) => bytes,
         Err(error) => {
             return text_fault(error).tell_at(explain.then_some(Site::File(path)), refused);
         }
@@ -66,13 +68,17 @@ pub fn audit_given<R: Files + AllocGlobal, W: Write, E: Write>(
         Ok(readings) => readings,
         Err(unjudged) => return refuse(files, unjudged, explain, refused),
     };
+    let text = match text_of(rt.alloc(), is_program(path), bytes) {
+        Ok(text) => text,
+        Err(why) => return refuse_program(path, why, explain, refused),
+    };
     let game = match Game::read(rt.alloc(), &text) {
         Ok(game) => game,
         Err(error) => return refuse_game(rt.alloc(), path, &text, error, explain, refused),
     };
     laws::a_yes_of_files_means_agreement();
     match gather_files(rt, &game, files, &mut readings) {
-        Ok(gathered) => judge_all(&game, &gathered, explain, out, refused),
+        Ok(gathered) => judge_all(&game, &gathered, files, explain, out, refused),
         Err(unjudged) => refuse(files, unjudged, explain, refused),
     }
 }
@@ -81,6 +87,7 @@ pub fn audit_given<R: Files + AllocGlobal, W: Write, E: Write>(
 fn judge_all<W: Write, E: Write>(
     game: &Game,
     gathered: &Gathered,
+    files: &[&str],
     explain: bool,
     out: &mut W,
     refused: &mut E,
@@ -93,7 +100,7 @@ fn judge_all<W: Write, E: Write>(
     ensures printed { IfOk result (λ status. status ≡ statuses.Done
         → TellsYes (W.contents out.old) (W.contents out.new)) }
 {
-    match write_audit(game, gathered, out)? {
+    match write_audit(game, gathered, files, out)? {
         Some(fault) => fault.tell_at(explain.then_some(Site::Nowhere), refused),
         None => Ok(Status::Done),
     }
@@ -233,8 +240,25 @@ fn refuse_game<'t, E: Write>(
 ) -> io::Result<Status>
     ensures { IfOk result (λ status. status ≡ status_of (audit_part (faults.Game error))) }
 {
+    if is_binary(bytes) {
+        let site = explain.then_some(Site::File(file));
+        return AuditFault::Game(error).tell_why(site, &NO_TEXT, refused);
+    }
     let site = explain.then_some(game_site(alloc, Text { file, bytes }, error));
     AuditFault::Game(error).tell_at(site, refused)
+}
+
+/// Writes why a program makes no game.
+fn refuse_program<E: Write>(
+    file: &str,
+    why: ProgramError,
+    explain: bool,
+    refused: &mut E,
+) -> io::Result<Status>
+    ensures { IfOk result (λ status. status ≡ status_of (audit_part (faults.Game (game_fault why)))) }
+{
+    let site = explain.then_some(Site::File(file));
+    AuditFault::Game(GameError::from(why)).tell_why(site, &why, refused)
 }
 
 /// Writes why journals are not judged.

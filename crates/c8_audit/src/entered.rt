@@ -5,7 +5,7 @@ ghost use Rattle.std.specs.List.{slice_get};
 ghost use Rattle.c8_game.specs.Rules.{Rules};
 ghost use Rattle.c8_known.specs.Known.{player_in, Plays};
 ghost use Rattle.c8_known.specs.Confirmed.{confirmed, input_of};
-ghost use Rattle.c8_audit.specs.Frames.{WasEntered, IsFirstNever};
+ghost use Rattle.c8_audit.specs.Frames.{WasEntered, IsFirstNever, IsBelied, IsFirstBelied};
 ghost use Rattle.c8_audit.specs.Journals.{AreOfGame, cut_in};
 ghost use Rattle.c8_audit.specs.Read.{all_seen};
 ghost use Rattle.c8_audit.specs.Search.{IsFirstFrame};
@@ -27,6 +27,19 @@ pub(crate) fn first_unentered(
     let cut = cut_of(journals, player);
     match (journal_of(journals, by), journal_of(journals, player)) {
         (Some(by), Some(own)) => first_never(&by.first, cut, own.later(), player),
+        _ => None,
+    }
+}
+
+/// Returns the first frame in which `player`'s own journal has another input than the journal of `by` counts as
+/// confirmed. An input that is empty by a cut which player 1's journal lacks is none.
+pub(crate) fn first_accused(journals: &[Option<Journal>], player: Player, by: Player) -> Option<u32>
+    requires { (rules : Rules) × AreOfGame rules (all_seen journals.now) }
+    ensures { IsFirstFrame questions.Accused (all_seen journals.now) player.number by.number result }
+{
+    let cut = cut_of(journals, player);
+    match (journal_of(journals, by), journal_of(journals, player)) {
+        (Some(by), Some(own)) => first_belied(&by.first, cut, own.later(), player),
         _ => None,
     }
 }
@@ -54,6 +67,31 @@ fn first_never(by: &Known, cut: Option<u32>, own: &Known, player: Player) -> Opt
         }
     }
     None
+}
+
+/// Returns the first confirmed frame in which the own journal has another input.
+fn first_belied(by: &Known, cut: Option<u32>, own: &Known, player: Player) -> Option<u32>
+    requires by { Plays by.now player.number }
+    requires own { Plays own.now player.number }
+    ensures { IsFirstBelied by.now cut own.now player.number result }
+{
+    for frame in 0..by.confirmed() {
+        if is_belied(by, cut, own, player, frame) {
+            return Some(frame);
+        }
+    }
+    None
+}
+
+/// Returns whether the own journal has another input than the confirmed one.
+fn is_belied(by: &Known, cut: Option<u32>, own: &Known, player: Player, frame: u32) -> bool
+    requires by { Plays by.now player.number }
+    requires own { Plays own.now player.number }
+    requires confirmed { frame < confirmed by.now }
+    ensures { (result ≡ true) ↔ IsBelied by.now cut own.now player.number frame }
+{
+    let lacks_cut = by.count(player) <= frame && cut.is_none();
+    !lacks_cut && frame < own.count(player) && !was_entered(by, cut, own, player, frame)
 }
 
 /// Returns whether a confirmed input is what the player entered, or is empty and not before the cut.

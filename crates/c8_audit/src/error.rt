@@ -7,6 +7,7 @@ ghost use Rattle.c8_command.specs.Status.{status_of};
 use crate::journal::Named;
 use c8_command::{Part, Refusal, Site, Status};
 use c8_game::GameError;
+use std::fmt::Display;
 use std::io::Write;
 use std::{fmt, io};
 use thiserror::Error;
@@ -115,6 +116,9 @@ pub enum AuditFault {
     /// The journals are not of one match.
     #[error("{0}")]
     Journals(Mismatch),
+    /// A journal ends before what others hold of its player.
+    #[error("a journal that ends before what others hold of its player")]
+    Short,
     /// A file is not read.
     #[error("{0}")]
     Disk(Unreadable),
@@ -144,6 +148,7 @@ impl AuditFault {
             AuditFault::Checks => (Part::Audit, 2, "Checks"),
             AuditFault::Disagree => (Part::Audit, 3, "Disagree"),
             AuditFault::Journals(_) => (Part::Audit, 4, "Journals"),
+            AuditFault::Short => (Part::Audit, 5, "Short"),
             AuditFault::Disk(_) => return Refusal::DISK,
         };
         Refusal { part, number, name }
@@ -155,6 +160,18 @@ impl AuditFault {
         ensures { IfOk result (λ status. status ≡ status_of (audit_part self)) }
     {
         self.refusal().tell_at(site, &self, out)
+    }
+
+    /// The same with another sentence.
+    pub(crate) fn tell_why<W: Write, D: Display>(
+        self,
+        site: Option<Site<'_>>,
+        why: &D,
+        out: &mut W,
+    ) -> io::Result<Status>
+        ensures { IfOk result (λ status. status ≡ status_of (audit_part self)) }
+    {
+        self.refusal().tell_at(site, why, out)
     }
 
     /// The same for a fault of these files: the sentence names the files that are not of one match.

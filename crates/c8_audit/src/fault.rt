@@ -1,4 +1,4 @@
-//! The faults that an audit finds in pairs of journals.
+//! The answers of an audit, and the faults that it finds in pairs of journals.
 
 use c8_game::Player;
 
@@ -9,6 +9,10 @@ pub enum Question {
     Entered,
     /// Whether both have the same inputs; asked only of players who were not dropped.
     Agreed,
+    /// Whether the first player's own journal has another input than the second player's journal counts as confirmed.
+    Accused,
+    /// Whether both have different inputs, although player 1's journal has each cut that theirs have.
+    Opposed,
 }
 
 /// Where the answer is no.
@@ -19,4 +23,22 @@ pub struct Fault {
     pub one: Player,
     /// The player whose journal counts that input as confirmed, or the second of two players who differ.
     pub other: Player,
+}
+
+/// A journal that ends before what others hold of its player.
+#[derive(Clone, Copy, Debug, PartialEq, Eq)]
+pub struct Short {
+    pub player: Player,
+    /// How many inputs of the player its own journal has, by the second reading.
+    pub length: u32,
+}
+
+/// The answer to a question.
+#[derive(Clone, Copy, Debug, PartialEq, Eq)]
+pub enum Answer {
+    Yes,
+    /// Nobody is accused, but a journal ends too early for a yes.
+    Short(Short),
+    /// The least fault. It does not come from a journal that ends too early.
+    No(Fault),
 }

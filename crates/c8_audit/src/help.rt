@@ -4,22 +4,29 @@
 pub const AUDIT_ENDING: &str =
     "Each journal names its player and the room. A match may still be under way: all journals are read without
 a lock, and then all once more. Rows and counts go by the first reading; what was entered, and who was
-dropped, by the second. If a second reading lacks what the first one had, all are read again.
+dropped, by the second. If a second reading lacks what the first one had, all are read again. Copies may
+be from different moments, or end too early: then an answer is short, and nobody is accused.
 
 What it prints:
-  player P records R epochs E now T confirmed C
+  player P records R epochs E now T confirmed C file FILE
                     of each journal: how many records it keeps, how often its peer was opened, how many
                     key sets its player entered, and how many frames it confirms
+  unchecked P       no journal of player P is given, so what others hold of P is not checked
   empty N           N files keep no record: players who never began
   dropped L at K    player 1 dropped player L, and L's inputs end at K; without 'at K' this is not decided
   entered yes       each confirmed input is what its player entered, or empty from that player's end on
-  entered no Q F P  the input of player Q in frame F, by the journal of player P, is not
+  entered short Q N nobody is accused, but others hold more of player Q than Q's journal, which has N
+                    inputs of Q; or player 1's journal lacks a drop that others hold
+  entered no Q F P  player Q's own journal has another input in frame F than player P's journal
   checks yes        the last checkpoint of each journal is that of its confirmed rows
   checks no P R     the one in record R of player P's journal is not
   agree yes N       all players who were not dropped have the same inputs; all confirm N frames
+  agree short 1 N   players differ only where player 1's journal, which has N inputs of player 1, lacks a
+                    drop that theirs have
   agree no F P R    players P and R differ in frame F
   result N DIGEST   if all three are yes: SHA-256 over the machine's state after N frames. Two audits
                     with the same line have found the same match
+  the journals agree, or a sentence that says what does not
 
 Refusals, each one line on standard error, as 'refused: audit 3 Disagree':
   game 1 Line to 6 Memory: those of the command run
@@ -30,6 +37,7 @@ Refusals, each one line on standard error, as 'refused: audit 3 Disagree':
   audit 2 Checks    'checks no'
   audit 3 Disagree  'agree no'
   audit 4 Journals  two journals of one player, none of player 1, or journals of two rooms
+  audit 5 Short     'entered short' or 'agree short', and no verdict is no
   disk 1 Failed     a file that cannot be read, a text above 16777216 bytes, a journal above 1073741824
                     bytes, a journal that lost records while it was read; output that cannot be written
 

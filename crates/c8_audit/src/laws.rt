@@ -7,19 +7,20 @@ ghost use Rattle.c8_record.specs.Allowed.{IsJournal};
 ghost use Rattle.c8_peer.specs.TrueChecks.{HasTrueLast};
 ghost use Rattle.c8_world.specs.World.{World, journal_of, known_by};
 ghost use Rattle.c8_world.specs.Agreement.{IsUndropped, AgreeUpTo, IsEntered};
-ghost use Rattle.c8_audit.specs.Journals.{Readings, Evidence, Seen, AllSeen, seen_in, Stays};
-ghost use Rattle.c8_audit.specs.Honest.{IsHonest, AreOfWorlds, AreHonestFiles};
-ghost use Rattle.c8_audit.specs.Verdicts.{AreEntered, AreTrue, AreAgreed, IsLeastCount};
+ghost use Rattle.c8_audit.specs.Journals.{Readings, Evidence, Seen, AllSeen, seen_in, AreOfGame, Stays};
+ghost use Rattle.c8_audit.specs.Honest.{IsHonest, IsHonestAtAnyMoments, AreBeginnings, AreOfWorlds, AreHonestFiles, AreHonestFilesAtAnyMoments};
+ghost use Rattle.c8_audit.specs.Verdicts.{AreEntered, IsAccused, AreTrue, AreAgreed, IsOpposed, IsLeastCount, AnswersEntered, AnswersAgreed, kind_of, HaveTwoInputs};
 ghost use Rattle.c8_audit.specs.Gathered.{AreGathered, IsNotGathered, IsOutOfMemory};
 ghost use Rattle.c8_audit.specs.Images.{evidence_of};
-ghost use Rattle.c8_audit.specs.Judged.{AreVerdicts, AreYes, AlwaysTellOneStory};
+ghost use Rattle.c8_audit.specs.Judged.{AreVerdicts, AreYes, AccuseNobody, AlwaysTellOneStory};
 ghost use Rattle.c8_audit.specs.Read.{all_seen};
 ghost use Rattle.c8_audit.specs.declared.error.GatherError.{GatherError};
+ghost use Rattle.c8_audit.specs.declared.fault.Answer.{Answer};
 ghost use Rattle.c8_audit.specs.declared.files.Twice.{Twice};
 ghost use Rattle.c8_audit.specs.declared.journal.Journal.{Journal};
 ghost use Rattle.c8_audit.specs.declared.verdict.Verdicts.{Verdicts};
 
-use crate::below::worlds_are_lawful;
+use crate::below::{peers_are_lawful, worlds_are_lawful};
 
 /// A yes means agreement, whoever wrote the journals. What the theorem about worlds states for one moment holds for the
 /// first readings as the journals of one world, and the second readings as those of another.
@@ -57,6 +58,20 @@ pub fn a_yes_of_files_means_agreement()
         → AlwaysTellOneStory rules (evidence_of files) }
 {}
 
+/// Of the three answers to a question exactly one is right: `judge` gives one, and two right ones are of one kind.
+///
+/// - `entered`, `agree`: yes, short and no exclude one another.
+/// - `no`: a no of `entered` has two inputs: what a journal counts as confirmed, and what the player's own journal has in
+///   that frame.
+pub fn one_answer_is_right()
+    ensures entered { (all : AllSeen) (a b : Answer) → AnswersEntered all a → AnswersEntered all b
+        → kind_of a ≡ kind_of b }
+    ensures agree { (rules : Rules) (all : AllSeen) (a b : Answer) → AnswersAgreed rules all a
+        → AnswersAgreed rules all b → kind_of a ≡ kind_of b }
+    ensures no { (rules : Rules) (all : AllSeen) (frame q p : ℕ) → AreOfGame rules all
+        → (accused : IsAccused all frame q p) → HaveTwoInputs accused.is.by accused.is.own q frame }
+{}
+
 /// An honest match is never accused, whichever journals are given beside player 1's. They may be read at any moments,
 /// if all first readings come before all second ones, and each second reading begins with the first (`IsHonest`).
 ///
@@ -79,6 +94,34 @@ pub fn an_honest_match_is_never_accused()
     worlds_are_lawful();
 }
 
+/// An honest match is never accused, whichever journals are given beside player 1's, and whenever each of them was read or
+/// copied (`IsHonestAtAnyMoments`). No reading has a relation to another player's: one may be from the first second, another
+/// from the end. Peers may crash and start again in between.
+///
+/// - `entered`, `agree`: nobody is accused, so the answer is yes or short.
+/// - `checks`: the verdict is yes.
+/// - `journals`: no reading is refused.
+/// - `cut_short`: nobody is accused of an input over beginnings of the journals of any length either.
+pub fn an_honest_match_is_never_accused_at_any_moments()
+    ensures entered { (rules : Rules) (room : ℕ) (e : Evidence) → AreInRange rules → room < 2 ^ 64
+        → IsHonestAtAnyMoments rules room e
+        → (frame q p : ℕ) → IsAccused (seen_in rules e) frame q p → ⊥ }
+    ensures checks { (rules : Rules) (room : ℕ) (e : Evidence) → AreInRange rules → room < 2 ^ 64
+        → IsHonestAtAnyMoments rules room e → AreTrue rules (seen_in rules e) }
+    ensures agree { (rules : Rules) (room : ℕ) (e : Evidence) → AreInRange rules → room < 2 ^ 64
+        → IsHonestAtAnyMoments rules room e
+        → (frame p r : ℕ) → IsOpposed (seen_in rules e) frame p r → ⊥ }
+    ensures journals { (rules : Rules) (room : ℕ) (e : Evidence) → AreInRange rules
+        → room < 2 ^ 64 → IsHonestAtAnyMoments rules room e → (p : ℕ) (r : Readings) → e p ≡ Some r
+        → IsJournal rules p room r.first × IsJournal rules p room r.later }
+    ensures cut_short { (rules : Rules) (room : ℕ) (e : Evidence) → AreInRange rules → room < 2 ^ 64
+        → AreBeginnings rules room e
+        → (frame q p : ℕ) → IsAccused (seen_in rules e) frame q p → ⊥ }
+{
+    worlds_are_lawful();
+    peers_are_lawful();
+}
+
 /// The files of an honest match are never accused: the step from their bytes to [`an_honest_match_is_never_accused`]. Each
 /// reading of a file keeps what a read of its player's disk finds at some moment (`AreHonestFiles`).
 ///
@@ -94,4 +137,22 @@ pub fn honest_files_are_never_accused()
         → AreVerdicts rules (all_seen journals) verdicts → AreYes verdicts }
 {
     worlds_are_lawful();
+}
+
+/// The files of an honest match are never accused, whenever each of them was read or copied: the step from their bytes to
+/// [`an_honest_match_is_never_accused_at_any_moments`].
+///
+/// - `gathered`: `gather` refuses them only if memory runs out.
+/// - `nobody`: if it does not, each verdict of `judge` is yes or short.
+pub fn honest_files_are_never_accused_at_any_moments()
+    ensures gathered { (rules : Rules) (room : ℕ) (files : List Twice) (error : GatherError)
+        → AreInRange rules → room < 2 ^ 64 → AreHonestFilesAtAnyMoments rules room files
+        → IsNotGathered rules files error → IsOutOfMemory error }
+    ensures nobody { (rules : Rules) (room : ℕ) (files : List Twice) (journals : List (Option Journal))
+        (verdicts : Verdicts) → AreInRange rules → room < 2 ^ 64 → AreHonestFilesAtAnyMoments rules room files
+        → AreGathered rules (evidence_of files) journals
+        → AreVerdicts rules (all_seen journals) verdicts → AccuseNobody verdicts }
+{
+    worlds_are_lawful();
+    peers_are_lawful();
 }

@@ -39,7 +39,7 @@ pub use command::audit_given;
 pub use count::{digest_of, least_count};
 pub use entered::cut_of;
 pub use error::{AuditFault, GatherError, JournalError, Mismatch, Unfit, Unread, Unreadable};
-pub use fault::{Fault, Question};
+pub use fault::{Answer, Fault, Question, Short};
 pub use files::{Gathered, Twice, gather};
 pub use image::{LONGEST_IMAGE, has_bytes, image_of, read_again, read_image};
 pub use journal::{Journal, Named, journal_of};

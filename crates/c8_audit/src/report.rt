@@ -10,13 +10,13 @@ ghost use Rattle.c8_audit.specs.Verdicts.{IsLeastCount};
 ghost use Rattle.c8_audit.specs.declared.verdict.Verdicts.{Verdicts};
 ghost use Rattle.c8_audit.specs.Audit.{fault_in};
 ghost use Rattle.c8_keys.specs.Report.{Grows};
-ghost use Rattle.c8_audit.specs.Printed.{entered_text, checks_text, agree_text, verdicts_text, Tells};
+ghost use Rattle.c8_audit.specs.Printed.{entered_text, checks_text, agree_text, verdicts_text, unchecked_text, accused_text, untrue_text, opposed_text, short_text, rest_text, sentence_of, Tells};
 
 use crate::agreed::is_dropped;
 use crate::count::digest_of;
 use crate::entered::cut_of;
-use crate::error::AuditFault;
-use crate::fault::Fault;
+use crate::error::{AuditFault, name_of};
+use crate::fault::{Answer, Fault, Short};
 use crate::files::Gathered;
 use crate::journal::{Journal, journal_of};
 use crate::search::PLAYERS_END;
@@ -25,10 +25,12 @@ use c8_game::{Game, Player};
 use std::io;
 use std::io::Write;
 
-/// Judges the journals of a match, and prints all lines. Returns the first verdict that is no. The error is the writer's.
+/// Judges the journals of a match, and prints all lines: of each player with the name of its file. Returns the first
+/// verdict that is no; if none is, whether one is short. The error is the writer's.
 pub fn write_audit<W: Write>(
     game: &Game,
     gathered: &Gathered,
+    files: &[&str],
     out: &mut W,
 ) -> io::Result<Option<AuditFault>>
     requires of_game { AreOfGame game.now (all_seen gathered.now.journals) }
@@ -39,41 +41,58 @@ pub fn write_audit<W: Write>(
         × Tells (W.contents out.old) (W.contents out.new) verdicts) }
 {
     let journals = gathered.journals.as_slice();
-    write_players(journals, out)?;
+    write_players(game, journals, files, out)?;
     write_empty(gathered.empty, out)?;
     write_dropped(journals, out)?;
     let verdicts = judge(game, journals);
     write_verdicts(journals, &verdicts, out)?;
     let fault = fault_of(&verdicts);
-    if fault.is_none() {
-        write_result(game, journals, verdicts.count, out)?;
-    }
+    write_end(game, journals, verdicts.count, fault.is_none(), out)?;
+    write_sentence(&verdicts, out)?;
     Ok(fault)
 }
 
-/// Writes a line for each journal.
-fn write_players<W: Write>(journals: &[Option<Journal>], out: &mut W) -> io::Result<()>
+/// Writes a line for each player of the game.
+fn write_players<W: Write>(
+    game: &Game,
+    journals: &[Option<Journal>],
+    files: &[&str],
+    out: &mut W,
+) -> io::Result<()>
     ensures { OnOk result (Grows (W.contents out.old) (W.contents out.new)) }
 {
-    for number in 1..PLAYERS_END {
-        write_player(number, journal_of(journals, Player { number }), out)?;
+    for number in 1..game.players() + 1 {
+        write_player(number, journal_of(journals, Player { number }), files, out)?;
     }
     Ok(())
 }
 
-/// Writes the line of a player's journal, if it is given.
-fn write_player<W: Write>(number: u8, journal: Option<&Journal>, out: &mut W) -> io::Result<()>
+/// Writes the line of a player's journal, or that it is not given.
+fn write_player<W: Write>(
+    number: u8,
+    journal: Option<&Journal>,
+    files: &[&str],
+    out: &mut W,
+) -> io::Result<()>
     ensures { OnOk result (Grows (W.contents out.old) (W.contents out.new)) }
 {
     let Some(journal) = journal else {
-        return Ok(());
+        return write_unchecked(number, out);
     };
     let (records, epochs) = (journal.tally.records, journal.tally.epochs);
     let (now, confirmed) = (journal.first.ticks(), journal.first.confirmed());
+    let file = name_of(files, journal.named.place);
     writeln!(
         out,
-        "player {number} records {records} epochs {epochs} now {now} confirmed {confirmed}"
+        "player {number} records {records} epochs {epochs} now {now} confirmed {confirmed} file {file}"
     )
+}
+
+/// Writes the line of a player whose journal is not given.
+fn write_unchecked<W: Write>(number: u8, out: &mut W) -> io::Result<()>
+    ensures { OnOk result (Appends (W.contents out.old) (W.contents out.new) (unchecked_text number)) }
+{
+    writeln!(out, "unchecked {number}")
 }
 
 /// Writes how many files keep no record, if there are any.
@@ -121,21 +140,25 @@ fn write_verdicts<W: Write>(
     ensures { OnOk result ((check : ℕ) × Appends (W.contents out.old) (W.contents out.new)
         (verdicts_text verdicts.now check)) }
 {
-    write_entered(verdicts.unentered, out)?;
+    write_entered(verdicts.entered, out)?;
     write_checks(verdicts.untrue, journals, out)?;
-    write_agree(verdicts.difference, verdicts.count, out)
+    write_agree(verdicts.agree, verdicts.count, out)
 }
 
-fn write_entered<W: Write>(unentered: Option<Fault>, out: &mut W) -> io::Result<()>
+fn write_entered<W: Write>(entered: Answer, out: &mut W) -> io::Result<()>
     ensures { OnOk result (Appends (W.contents out.old) (W.contents out.new)
-        (entered_text unentered)) }
+        (entered_text entered)) }
 {
-    match unentered {
-        Some(fault) => {
+    match entered {
+        Answer::Yes => writeln!(out, "entered yes"),
+        Answer::Short(short) => {
+            let (player, length) = (short.player.number, short.length);
+            writeln!(out, "entered short {player} {length}")
+        }
+        Answer::No(fault) => {
             let (frame, one, other) = (fault.frame, fault.one.number, fault.other.number);
             writeln!(out, "entered no {one} {frame} {other}")
         }
-        None => writeln!(out, "entered yes"),
     }
 }
 
@@ -156,17 +179,96 @@ fn write_checks<W: Write>(
     }
 }
 
-fn write_agree<W: Write>(difference: Option<Fault>, count: u32, out: &mut W) -> io::Result<()>
+fn write_agree<W: Write>(agree: Answer, count: u32, out: &mut W) -> io::Result<()>
     ensures { OnOk result (Appends (W.contents out.old) (W.contents out.new)
-        (agree_text difference count)) }
+        (agree_text agree count)) }
 {
-    match difference {
-        Some(fault) => {
+    match agree {
+        Answer::Yes => writeln!(out, "agree yes {count}"),
+        Answer::Short(short) => {
+            let (player, length) = (short.player.number, short.length);
+            writeln!(out, "agree short {player} {length}")
+        }
+        Answer::No(fault) => {
             let (frame, one, other) = (fault.frame, fault.one.number, fault.other.number);
             writeln!(out, "agree no {frame} {one} {other}")
         }
-        None => writeln!(out, "agree yes {count}"),
     }
+}
+
+/// Writes the sentence at the end: the first no, else why a verdict is short, else that all are yes.
+fn write_sentence<W: Write>(verdicts: &Verdicts, out: &mut W) -> io::Result<()>
+    ensures { OnOk result (Appends (W.contents out.old) (W.contents out.new)
+        (sentence_of verdicts.now)) }
+{
+    match verdicts.entered {
+        Answer::No(fault) => write_accused(fault, out),
+        Answer::Short(short) => write_rest(Some(short), verdicts.untrue, verdicts.agree, out),
+        Answer::Yes => write_rest(None, verdicts.untrue, verdicts.agree, out),
+    }
+}
+
+/// Writes the sentence if nobody is accused of an input. `short` is the journal that is short of inputs, if one is.
+fn write_rest<W: Write>(
+    short: Option<Short>,
+    untrue: Option<Player>,
+    agree: Answer,
+    out: &mut W,
+) -> io::Result<()>
+    ensures { OnOk result (Appends (W.contents out.old) (W.contents out.new)
+        (rest_text short untrue agree)) }
+{
+    if let Some(player) = untrue {
+        return write_untrue(player, out);
+    }
+    match agree {
+        Answer::No(fault) => write_opposed(fault, out),
+        Answer::Short(other) => write_short(short.unwrap_or(other), out),
+        Answer::Yes => match short {
+            Some(short) => write_short(short, out),
+            None => writeln!(out, "the journals agree"),
+        },
+    }
+}
+
+fn write_accused<W: Write>(fault: Fault, out: &mut W) -> io::Result<()>
+    ensures { OnOk result (Appends (W.contents out.old) (W.contents out.new) (accused_text fault)) }
+{
+    let (one, frame, other) = (fault.one.number, fault.frame, fault.other.number);
+    writeln!(
+        out,
+        "player {one}'s own journal has another input in frame {frame} than player {other}'s"
+    )
+}
+
+fn write_untrue<W: Write>(player: Player, out: &mut W) -> io::Result<()>
+    ensures { OnOk result (Appends (W.contents out.old) (W.contents out.new) (untrue_text player)) }
+{
+    let number = player.number;
+    writeln!(
+        out,
+        "player {number}'s last checkpoint is not that of its inputs"
+    )
+}
+
+fn write_opposed<W: Write>(fault: Fault, out: &mut W) -> io::Result<()>
+    ensures { OnOk result (Appends (W.contents out.old) (W.contents out.new) (opposed_text fault)) }
+{
+    let (frame, one, other) = (fault.frame, fault.one.number, fault.other.number);
+    writeln!(
+        out,
+        "players {one} and {other} have different inputs in frame {frame}"
+    )
+}
+
+fn write_short<W: Write>(short: Short, out: &mut W) -> io::Result<()>
+    ensures { OnOk result (Appends (W.contents out.old) (W.contents out.new) (short_text short)) }
+{
+    let number = short.player.number;
+    writeln!(
+        out,
+        "player {number}'s journal ends before what others hold of it"
+    )
 }
 
 /// The number of the record that ends a player's last checkpoint.
@@ -177,16 +279,35 @@ fn check_of(journals: &[Option<Journal>], player: Player) -> usize {
     }
 }
 
-/// The first verdict that is no.
+/// The first verdict that is no; if none is, whether one is short.
 fn fault_of(verdicts: &Verdicts) -> Option<AuditFault>
     ensures { result ≡ fault_in verdicts.now }
 {
-    match (verdicts.unentered, verdicts.untrue, verdicts.difference) {
-        (Some(_), _, _) => Some(AuditFault::Entered),
-        (None, Some(_), _) => Some(AuditFault::Checks),
-        (None, None, Some(_)) => Some(AuditFault::Disagree),
-        (None, None, None) => None,
+    match (verdicts.entered, verdicts.untrue, verdicts.agree) {
+        (Answer::No(_), _, _) => Some(AuditFault::Entered),
+        (_, Some(_), _) => Some(AuditFault::Checks),
+        (_, None, Answer::No(_)) => Some(AuditFault::Disagree),
+        (Answer::Yes, None, Answer::Yes) => None,
+        _ => Some(AuditFault::Short),
     }
+}
+
+/// Writes the line of the result, if all verdicts are yes.
+fn write_end<W: Write>(
+    game: &Game,
+    journals: &[Option<Journal>],
+    count: u32,
+    is_yes: bool,
+    out: &mut W,
+) -> io::Result<()>
+    requires one { (one : Seen) × Stays (all_seen journals.now) 1 one }
+    requires count { IsLeastCount (all_seen journals.now) count }
+    ensures { OnOk result (Grows (W.contents out.old) (W.contents out.new)) }
+{
+    if !is_yes {
+        return Ok(());
+    }
+    write_result(game, journals, count, out)
 }
 
 /// Writes the line that two audits of one match have in common.

@@ -6,8 +6,8 @@ ghost use Rattle.c8_audit.specs.Journals.{AreOfGame};
 ghost use Rattle.c8_audit.specs.Read.{all_seen};
 ghost use Rattle.c8_audit.specs.Search.{IsFirstOf, IsLeastOf, IsLeast, earlier_of};
 
-use crate::agreed::first_difference;
-use crate::entered::first_unentered;
+use crate::agreed::{first_difference, first_opposed};
+use crate::entered::{first_accused, first_unentered};
 use crate::fault::{Fault, Question};
 use crate::journal::Journal;
 use c8_game::Player;
@@ -55,6 +55,8 @@ fn first_fault(
     let frame = match question {
         Question::Entered => first_unentered(journals, one, other)?,
         Question::Agreed => first_difference(journals, one, other)?,
+        Question::Accused => first_accused(journals, one, other)?,
+        Question::Opposed => first_opposed(journals, one, other)?,
     };
     Some(Fault { frame, one, other })
 }

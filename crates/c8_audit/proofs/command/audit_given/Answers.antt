@@ -1,6 +1,7 @@
 -- Missing files, a refused game or refused readings are never done, and files whose audit is done tell one story.
 use Rattle.std.proofs.Common.{inl}
-use Rattle.c8_audit.proofs.OutcomeLemmas.{never_done, told_unjudged, told_judged, told_no_game, unjudged_by}
+use Rattle.c8_program.specs.Errors.{game_fault}
+use Rattle.c8_audit.proofs.OutcomeLemmas.{never_done, told_unjudged, told_judged, told_no_game, told_no_program, unjudged_by}
 use Rattle.c8_audit.specs.declared.error.AuditFault.TheVariants.{Game}
 use Rattle.c8_audit.proofs.command.audit_given.Goals as goal
 
@@ -14,6 +15,10 @@ returns-in-Err-read_files-clause-audited g c =
 pub returns-in-Err-read-clause-audited : goal.returns-in-Err-read-clause-audited
 returns-in-Err-read-clause-audited g c = told_no_game c.refuse_game.result c.deref.result.now c.in-Err-read.error
     c.in-Err-read.ensures.refused c.refuse_game.ensures
+
+pub returns-in-Err-text_of-clause-audited : goal.returns-in-Err-text_of-clause-audited
+returns-in-Err-text_of-clause-audited g c =
+    told_no_program c.refuse_program.result c.in-Ok.bytes.items c.in-Err-text_of.why c.in-Err-text_of.ensures.refused c.refuse_program.ensures
 
 pub returns-in-Ok-gather_files-clause-audited : goal.returns-in-Ok-gather_files-clause-audited
 returns-in-Ok-gather_files-clause-audited g c =
@@ -36,6 +41,10 @@ returns-in-Err-read_files-clause-printed g c = never_done _ c.refuse.result c.in
 
 pub returns-in-Err-read-clause-printed : goal.returns-in-Err-read-clause-printed
 returns-in-Err-read-clause-printed g c = never_done _ c.refuse_game.result (Game c.in-Err-read.error) c.refuse_game.ensures
+
+pub returns-in-Err-text_of-clause-printed : goal.returns-in-Err-text_of-clause-printed
+returns-in-Err-text_of-clause-printed g c =
+    never_done _ c.refuse_program.result (Game (game_fault c.in-Err-text_of.why)) c.refuse_program.ensures
 
 pub returns-clause-printed : goal.returns-clause-printed
 returns-clause-printed g c = never_done _ c.refuse-in-Err-gather_files.result c.in-Err-gather_files.unjudged.fault

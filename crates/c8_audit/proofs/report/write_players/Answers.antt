@@ -1,4 +1,4 @@
--- The line of one more journal is added behind the others.
+-- The line of one more player is added behind the others.
 use Rattle.c8_keys.specs.checked.Grows.{grows_then}
 use Rattle.c8_audit.proofs.report.write_players.Goals as goal
 
