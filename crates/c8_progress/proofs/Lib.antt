@@ -1,0 +1,29 @@
+-- Links open and stay open, drop rounds end, rounds end a match; begin at `match_can_always_end` (OpeningLemmas).
+
+pub mod LawLemmas
+pub mod MeetingLemmas
+pub mod BringingLemmas
+pub mod TellingLemmas
+pub mod MovingLemmas
+pub mod LinkedLemmas
+pub mod SteppingLemmas
+pub mod ReachedLemmas
+pub mod MemoryLemmas
+pub mod AckedLemmas
+pub mod ReportLemmas
+pub mod RememberedLemmas
+pub mod SayingLemmas
+pub mod GreetingLemmas
+pub mod ExchangeLemmas
+pub mod DroppingLemmas
+pub mod FittingLemmas
+pub mod MissingLemmas
+pub mod OrderLemmas
+pub mod DroppedLemmas
+pub mod GoingLemmas
+pub mod CuttingLemmas
+pub mod SettlingLemmas
+pub mod BroughtLemmas
+pub mod EnteringLemmas
+pub mod EndingLemmas
+pub mod OpeningLemmas

@@ -1,0 +1,66 @@
+//! Laws of progress. Each is the contract of a function that only calls laws of c8_world, or does nothing.
+ghost use Rattle.std.specs.Prelude.{◌≡◌, ◌≢◌, ◌≤◌, ◌<◌, ◌^◌, ℕ, None};
+ghost use Rattle.c8_game.specs.Rules.{Rules, AreInRange};
+ghost use Rattle.c8_wire.specs.Packet.{HeadValue};
+ghost use Rattle.c8_hand.specs.Links.{LinksValue, refusal, heard};
+ghost use Rattle.c8_known.specs.Journal.{epoch};
+ghost use Rattle.c8_peer.specs.Opening.{last_epoch};
+ghost use Rattle.c8_peer.specs.State.{Open};
+ghost use Rattle.c8_world.specs.World.{World, IsReached, peer_of, journal_of};
+ghost use Rattle.c8_world.specs.Agreement.{IsPlayer, IsUndropped};
+ghost use Rattle.c8_progress.specs.Ending.{CanAlwaysEnd};
+ghost use Rattle.c8_progress.specs.Exchange.{links_of, got_on, GetOn, Greets};
+ghost use Rattle.c8_progress.specs.Meeting.{AreMatched, IsFresh, Meets, met, met_in_turns};
+
+use c8_world::laws::{any_two_moments_agree, openings_find_journals};
+
+/// Whatever has happened, a match can go on to its end, and nobody else has to be dropped or stopped for it.
+///
+/// From every reached world some events lead to one in which every player that was not dropped has confirmed all frames.
+/// Peers may be open, down or away, with pending records; datagrams may be lost, late or old; drop rounds may be under
+/// way. Only the epochs of who was not dropped must not be spent.
+pub fn a_match_can_always_end()
+    ensures { (rules : Rules) (room : ℕ) (w : World)
+        → AreInRange rules → room < 2 ^ 64 → IsReached rules room w
+        → ((p : ℕ) → IsPlayer rules p → IsUndropped w p → epoch (journal_of w p) < last_epoch)
+        → CanAlwaysEnd rules room w }
+{
+    any_two_moments_agree();
+    openings_find_journals();
+}
+
+/// Two open players that player 1 has not dropped get on, whatever happened before.
+///
+/// - `on`: after a HELLO of p, a WELCOME back, a WELCOME and a DATA, each delivered once, both links are open with the
+///   present epochs, and q holds all that p had entered.
+/// - `greets`: unless both links are open with the present epochs, one of the two has no open link, so it says HELLO. So
+///   two players never wait for each other's HELLO.
+pub fn two_players_get_on()
+    ensures on { (rules : Rules) (room : ℕ) (w : World) (p q : ℕ)
+        → AreInRange rules → room < 2 ^ 64 → IsReached rules room w
+        → IsPlayer rules p → IsPlayer rules q → p ≢ q
+        → (peer_of w p).mode ≡ Open → (peer_of w q).mode ≡ Open
+        → IsUndropped w p → IsUndropped w q
+        → GetOn rules w (got_on rules room w p q) p q }
+    ensures greets { (rules : Rules) (room : ℕ) (w : World) (p q : ℕ)
+        → AreInRange rules → room < 2 ^ 64 → IsReached rules room w
+        → IsPlayer rules p → IsPlayer rules q → p ≢ q
+        → (peer_of w p).mode ≡ Open → (peer_of w q).mode ≡ Open
+        → Greets (links_of w p) (links_of w q) p q }
+{
+    any_two_moments_agree();
+    openings_find_journals();
+}
+
+/// How the links of two players open.
+///
+/// - `always`: a HELLO, a WELCOME back and a WELCOME open both, whatever the two players knew.
+/// - `turns`: the same, if the other player says HELLO only if its link is not open after the first WELCOME.
+/// - `stays`: nothing closes such a link, unless the other player begins a later epoch.
+pub fn two_players_meet()
+    ensures always { (l m : LinksValue) → AreMatched l m → Meets (met l m) }
+    ensures turns { (l m : LinksValue) → AreMatched l m → Meets (met_in_turns l m) }
+    ensures stays { (l m : LinksValue) (head : HeadValue) → IsFresh l m → 1 ≤ m.me → m.me ≤ 4
+        → refusal l head ≡ None → (head.from ≡ m.me → head.sender_epoch ≤ m.epoch)
+        → IsFresh (heard l head) m }
+{}
