@@ -16,6 +16,7 @@ mod rules;
 mod saying;
 mod sealing;
 mod stepping;
+mod version;
 
 pub use calls::{
     c8_check, c8_checkpoint, c8_decide, c8_deliver, c8_leave, c8_tick, c8_turn, c8_watched,
@@ -31,3 +32,4 @@ pub use rules::c8_rules;
 pub use saying::{c8_next, c8_say};
 pub use sealing::{c8_secrets, c8_sender};
 pub use stepping::c8_step;
+pub use version::c8_version;

@@ -2,8 +2,11 @@
 use c8_disk::Disk;
 use c8_game::{MOST_PLAYERS, Player};
 use c8_session::Session;
-use c8_transport::Losses;
+use c8_transport::{Losses, Relaying};
 use std::sync::atomic::{AtomicBool, AtomicU64, Ordering};
+
+/// The number of a relay that has been silent for less than a second.
+const SILENT: u64 = 4;
 
 /// How far a peer is, except for its confirmed frames, which its board shows.
 #[derive(Clone, Copy, Debug, PartialEq, Eq)]
@@ -26,6 +29,8 @@ pub struct Standing {
     pub unsealed: u64,
     /// How many sealed packets had come before.
     pub repeated: u64,
+    /// What its wire hears of a relay.
+    pub relaying: Relaying,
 }
 
 /// Counters that the threads of a peer share. A reading during a turn may mix values of that turn and of the one
@@ -44,6 +49,8 @@ pub struct Counters {
     foreign: AtomicU64,
     unsealed: AtomicU64,
     repeated: AtomicU64,
+    /// What the wire hears of a relay, as [`code_of`] has it.
+    relaying: AtomicU64,
 }
 
 impl Counters {
@@ -66,6 +73,7 @@ impl Counters {
             foreign: AtomicU64::new(0),
             unsealed: AtomicU64::new(0),
             repeated: AtomicU64::new(0),
+            relaying: AtomicU64::new(code_of(Relaying::Direct)),
         }
     }
 
@@ -104,6 +112,11 @@ impl Counters {
         self.repeated.store(losses.repeated, Ordering::SeqCst);
     }
 
+    /// Notes what the wire hears of a relay.
+    pub fn note_relay(&self, relaying: Relaying) {
+        self.relaying.store(code_of(relaying), Ordering::SeqCst);
+    }
+
     /// Returns how far the peer is, and resets the longest rollback to 0.
     pub fn take(&self) -> Standing {
         let [one, two, three, four] = &self.heard;
@@ -126,7 +139,30 @@ impl Counters {
             foreign: self.foreign.load(Ordering::SeqCst),
             unsealed: self.unsealed.load(Ordering::SeqCst),
             repeated: self.repeated.load(Ordering::SeqCst),
+            relaying: relaying_of(self.relaying.load(Ordering::SeqCst)),
         }
+    }
+}
+
+/// What a wire hears of a relay as one number: seconds of silence come after the other four.
+fn code_of(relaying: Relaying) -> u64 {
+    match relaying {
+        Relaying::Direct => 0,
+        Relaying::Joined => 1,
+        Relaying::Taken => 2,
+        Relaying::Full => 3,
+        Relaying::Silent(seconds) => seconds.saturating_add(SILENT),
+    }
+}
+
+/// What [`code_of`] makes this number of.
+fn relaying_of(code: u64) -> Relaying {
+    match code {
+        0 => Relaying::Direct,
+        1 => Relaying::Joined,
+        2 => Relaying::Taken,
+        3 => Relaying::Full,
+        _ => Relaying::Silent(code.saturating_sub(SILENT)),
     }
 }
 

@@ -46,6 +46,6 @@ pub use gauge::{Gauge, Reading};
 pub use look::Look;
 pub use net::{PLACES, net_worker};
 pub use packet::Packet;
-pub use progress::{Progress, tell_end};
+pub use progress::{Progress, tell_end, write_relaying};
 pub use relay::Relay;
 pub use turn::{listen, make_turn};

@@ -47,6 +47,7 @@ pub fn net_worker<R: Wait, W: Wire, G: Gate>(
         counters.lose(taken.lost);
         send_out(wire, outbox)?;
         counters.note_wire(wire.losses());
+        counters.note_relay(wire.relaying());
         rest(wire, taken.is_all);
         gate.after(Worker::Net, turn);
         turn = turn.saturating_add(1);

@@ -5,6 +5,7 @@ use crate::gauge::{Gauge, Reading};
 use c8_disk::Disk;
 use c8_game::{MOST_PLAYERS, Player};
 use c8_session::Session;
+use c8_transport::Relaying;
 use std::io;
 use std::io::Write;
 use std::time::Duration;
@@ -31,7 +32,7 @@ impl Progress {
     /// line is like `ticked 96, confirmed 88, rollbacks 3, longest 5, player 2 silent for 16 ms`. The first two are
     /// numbers of frames. The rollbacks are those since the last line, and the longest one's frames. For each other
     /// player follows the time since its last sign of life. Then follow the counts of [`write_losses`] since the start,
-    /// and `the machines differ` while the alarm stands.
+    /// what [`write_relaying`] says, and `the machines differ` while the alarm stands.
     pub fn tell<E: Write>(
         &mut self,
         out: &mut E,
@@ -72,6 +73,7 @@ impl Progress {
         )?;
         self.write_silence(out, reading)?;
         write_losses(out, standing)?;
+        write_relaying(out, ", ", standing.relaying, self.me)?;
         if standing.is_alarmed {
             write!(out, ", the machines differ")?;
         }
@@ -114,6 +116,22 @@ fn write_losses<E: Write>(out: &mut E, standing: &Standing) -> io::Result<()> {
         write!(out, ", {repeated} packets seen before")?;
     }
     Ok(())
+}
+
+/// Writes `relay: no answer for 4 s`, `seat 2 is taken` or `relay is full` behind a separator; nothing if the wire goes
+/// through no relay, or if the relay has given player `me` its seat.
+pub fn write_relaying<E: Write>(
+    out: &mut E,
+    before: &str,
+    relaying: Relaying,
+    me: Player,
+) -> io::Result<()> {
+    match relaying {
+        Relaying::Direct | Relaying::Joined => Ok(()),
+        Relaying::Silent(seconds) => write!(out, "{before}relay: no answer for {seconds} s"),
+        Relaying::Taken => write!(out, "{before}seat {} is taken", me.number),
+        Relaying::Full => write!(out, "{before}relay is full"),
+    }
 }
 
 /// Writes the last line of a session that made `turns` turns: `dropped by player 1`, `all 200 frames are confirmed`, or

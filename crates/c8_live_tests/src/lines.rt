@@ -1,6 +1,7 @@
 //! The progress line.
 use c8_game::Player;
 use c8_live::{Progress, Standing};
+use c8_transport::Relaying;
 use std::alloc::Global;
 use std::time::Duration;
 
@@ -8,7 +9,7 @@ use std::time::Duration;
 const LINE: &[u8] = b"\
     ticked 21, confirmed 19, rollbacks 4, longest 5, player 1 silent for 200 ms, \
     player 2 silent for 1000 ms, player 4 silent for 0 ms, 7 packets lost, 3 packets from elsewhere, \
-    2 packets not sealed, 6 packets seen before, the machines differ\n";
+    2 packets not sealed, 6 packets seen before, relay: no answer for 8 s, the machines differ\n";
 
 /// Whether two calls print that line.
 fn is_printed(alloc: Global) -> bool {
@@ -22,6 +23,7 @@ fn is_printed(alloc: Global) -> bool {
         foreign: 3,
         unsealed: 2,
         repeated: 6,
+        relaying: Relaying::Silent(8),
     };
     let mut told = Vec::new(alloc);
     let mut progress = Progress::new(Duration::from_millis(100), Player { number: 3 }, 4);

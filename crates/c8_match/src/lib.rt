@@ -5,8 +5,9 @@
 use c8_command::Status;
 use c8_files::{SECRET, secret_given};
 use c8_front::{Outline, Terminals, Threaded};
+use c8_host::{HOST, JOIN, host_given, join_given};
 use c8_net::{PEER, peer_given};
-use c8_play::{HOST, JOIN, PLAY, host_given, join_given, play_given};
+use c8_play::{PLAY, play_given};
 use c8_program::{GAME, game_given};
 use c8_watch::{WATCH, watch_given};
 use clap::ArgMatches;

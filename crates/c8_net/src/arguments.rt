@@ -2,8 +2,10 @@
 
 use crate::help::PEER_ENDING;
 use crate::options::{
-    CHECKPOINT, GAME, PATIENCE, REMOTES, ROOM, SECRET, STOP, WATCH_SECRET, WATCH5, WATCH6,
+    CHECKPOINT, GAME, LOCAL, PATIENCE, RELAY, REMOTES, ROOM, SECRET, STOP, WATCH_SECRET, WATCH5,
+    WATCH6,
 };
+use crate::reached::Named;
 use c8_front::{Argument, Outline, is_explained, word_of};
 use c8_game::Player;
 use c8_udp::MOST_WATCHERS;
@@ -18,9 +20,12 @@ pub struct Asked<'m, 'a> {
     pub player: Player,
     /// The path of the journal, or `-` for one in memory.
     pub journal: &'a str,
+    /// The own address; with a relay it may be empty.
     pub local: &'a str,
-    /// The other players' addresses, in order of number, if any.
+    /// The other players' addresses or names, in order of number, if any.
     pub remotes: Option<&'m [&'a str]>,
+    /// The address or name of the relay, if the match goes through one: it stands for each other player's.
+    pub relay: Option<&'a str>,
     /// The addresses of the watchers in seats 5 and 6, if any; for player 1 only.
     pub watchers: [Option<&'a str>; MOST_WATCHERS],
     /// The path of the players' secret, if the match has one.
@@ -51,10 +56,21 @@ pub struct Asked<'m, 'a> {
 /// The word for no journal file: the journal is kept in memory.
 const NO_JOURNAL: &str = "-";
 
-impl Asked<'_, '_> {
+impl<'m, 'a> Asked<'m, 'a> {
     /// Returns whether the journal is kept in memory, and lost at the end.
     pub fn has_no_journal(&self) -> bool {
         self.journal == NO_JOURNAL
+    }
+
+    /// The words for addresses.
+    pub(crate) fn named(&self) -> Named<'m, 'a> {
+        Named {
+            local: self.local,
+            remotes: self.remotes,
+            relay: self.relay,
+            watchers: self.watchers,
+            may_learn: self.secret.is_some(),
+        }
     }
 
     /// After how many confirmed frames the peer makes the next checkpoint; 0 for never, as without a journal.
@@ -85,12 +101,9 @@ pub static PEER: Outline = Outline {
             help: "The path of the own journal, created if it is missing; - for none",
             ..Argument::NEEDED
         },
-        Argument {
-            name: "LOCAL",
-            help: "The own address, as 127.0.0.1:4001",
-            ..Argument::NEEDED
-        },
+        LOCAL,
         REMOTES,
+        RELAY,
         ROOM,
         Argument {
             name: "turns",
@@ -128,6 +141,7 @@ pub fn asked_for<'m, 'a>(given: &'m ArgMatches<'a>, player: Player) -> Asked<'m,
         journal: word_of(given, "JOURNAL"),
         local: word_of(given, "LOCAL"),
         remotes: given.get_strs("REMOTE"),
+        relay: given.get_str("relay"),
         watchers: [given.get_str("watch5"), given.get_str("watch6")],
         secret: given.get_str("secret"),
         watch_secret: given.get_str("watch-secret"),

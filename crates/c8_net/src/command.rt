@@ -15,7 +15,8 @@ use crate::error::PeerError;
 use crate::fault::{Fault, INPUT, Why, game_at};
 use crate::performance::Performance;
 use crate::play::{Prepared, Unprepared, perform_on, play_on, prepare};
-use crate::seals::{seal_at, warn_of_secrets};
+use crate::reached::Reached;
+use crate::seals::{sealing_at, warn_of_secrets};
 use c8_command::{Refusal, Status, TextError};
 use c8_disk::FileError;
 use c8_files::{JournalDisk, Trouble, warn_of_a_slow_disk};
@@ -23,7 +24,7 @@ use c8_front::{System, Terminals, Threaded};
 use c8_game::Game;
 use c8_keys::{Played, write_report};
 use c8_peer::OpenError;
-use c8_udp::{SocketError, refused_address};
+use c8_udp::SocketError;
 use clap::ArgMatches;
 use std::alloc::Global;
 use std::fs::File;
@@ -108,6 +109,15 @@ fn mistake_in(asked: &Asked<'_, '_>) -> Option<&'static str> {
     if asked.watch_secret.is_some() && (asked.secret.is_none() || !asked.player.is_chair()) {
         return Some("--watch-secret is for player 1 alone, beside --secret");
     }
+    if asked.relay.is_some() && asked.secret.is_none() {
+        return Some("--relay needs --secret: a relay may read and keep what it carries");
+    }
+    if asked.relay.is_some() && asked.remotes.is_some() {
+        return Some("--relay stands for the other players' addresses: give no REMOTE beside it");
+    }
+    if asked.relay.is_none() && asked.local.is_empty() && asked.remotes.is_none() {
+        return Some("give LOCAL and each REMOTE, or --relay");
+    }
     // A journal in memory is empty at each start. In a used room the others would take its epochs for old ones.
     if asked.has_no_journal() && !asked.has_room {
         return Some("without a journal ('-') --room has to be given, a new one for each match");
@@ -137,10 +147,10 @@ where
     let trouble = Trouble::none();
     let (it, journal) = match begun(rt, asked, input, &trouble) {
         Ok(it) => it,
-        Err(fault) => return tell_fault(rt.alloc(), asked, fault, refused),
+        Err(fault) => return tell_fault(rt, asked, fault, refused),
     };
     let played = play_in(rt, asked, it, journal, refused);
-    tell_outcome(rt.alloc(), asked, played, &trouble, out, refused)
+    tell_outcome(rt, asked, played, &trouble, out, refused)
 }
 
 /// Plays a game with others by a performance, in the caller's thread; the performance has its own key sets.
@@ -163,13 +173,13 @@ where
     let trouble = Trouble::none();
     let (it, journal) = match begun(rt, asked, io::empty(), &trouble) {
         Ok(it) => it,
-        Err(fault) => return tell_fault(rt.alloc(), asked, fault, refused),
+        Err(fault) => return tell_fault(rt, asked, fault, refused),
     };
     if !asked.has_no_journal() {
         warn_of_a_slow_disk(rt, asked.journal, refused)?;
     }
     let played = perform_in(rt, asked, it, journal, performance, refused);
-    tell_outcome(rt.alloc(), asked, played, &trouble, out, refused)
+    tell_outcome(rt, asked, played, &trouble, out, refused)
 }
 
 /// Plays a match in threads, on the disk of a journal.
@@ -213,8 +223,8 @@ where
 }
 
 /// Writes the report of what was played, or the line of a refusal.
-fn tell_outcome<W: Write, E: Write>(
-    alloc: Global,
+fn tell_outcome<R: Net + AllocGlobal, W: Write, E: Write>(
+    rt: &R,
     asked: &Asked<'_, '_>,
     played: Result<Played, PeerError>,
     trouble: &Trouble,
@@ -230,26 +240,27 @@ fn tell_outcome<W: Write, E: Write>(
             Ok(Status::Done)
         }
         Err(error) => {
-            let fault = Fault::of_journal(alloc, error, asked.journal, trouble);
-            tell_fault(alloc, asked, fault, refused)
+            let fault = Fault::of_journal(rt.alloc(), error, asked.journal, trouble);
+            tell_fault(rt, asked, fault, refused)
         }
     }
 }
 
 /// Writes the line of a refusal.
-fn tell_fault<E: Write>(
-    alloc: Global,
+fn tell_fault<R: Net + AllocGlobal, E: Write>(
+    rt: &R,
     asked: &Asked<'_, '_>,
     fault: Fault<'_>,
     refused: &mut E,
 ) -> io::Result<Status>
     ensures { IfOk result (λ status. status ≡ status_of (peer_part fault.entry.error)) }
 {
-    let remotes = asked.remotes.unwrap_or(&[]);
-    let may_learn = asked.secret.is_some();
-    let word = refused_address(asked.local, remotes, asked.watchers, may_learn);
+    let word = match fault.error {
+        PeerError::Socket(SocketError::Address) => asked.named().refused(rt),
+        _ => None,
+    };
     let fault = fault.because_of_word(word);
-    refuse(alloc, asked.explain, word, &fault, refused)
+    refuse(rt.alloc(), asked.explain, word, &fault, refused)
 }
 
 /// Writes the line of a refusal, and its explanation if asked for; `no_address` is the first word that is refused as an
@@ -285,22 +296,27 @@ fn begun<'a, 't, R, I>(
     trouble: &'t Trouble,
 ) -> Result<(Prepared, JournalDisk<'t>), Fault<'a>>
 where
-    R: Files<File = File> + AllocGlobal,
+    R: Files<File = File> + Net + AllocGlobal,
     I: Read + Drop,
     ensures { IfErr result (λ fault. IsUnbegun fault.error) }
 {
     let game = game_at(rt, asked.game)?;
-    let seal = seal_at(rt, asked, &game)?;
-    let remotes = asked.remotes.unwrap_or(&[]);
     let players = game.players();
+    let Ok(reached) = Reached::of(rt, &asked.named(), players - 1) else {
+        return Err(out_of_memory(rt.alloc(), asked.game));
+    };
+    let Ok(remotes) = reached.remotes(rt.alloc()) else {
+        return Err(out_of_memory(rt.alloc(), asked.game));
+    };
+    let sealing = sealing_at(rt, asked, &game, reached.relay())?;
     let it = match prepare(
         rt.alloc(),
         game,
         asked.player,
-        asked.local,
-        remotes,
+        reached.local(),
+        &remotes,
         asked.watchers,
-        seal,
+        sealing,
         input,
     ) {
         Ok(it) => it,
@@ -313,6 +329,13 @@ where
     }
     let journal = journal_at(rt, asked, &it.game, trouble)?;
     Ok((it, journal))
+}
+
+/// Memory ran out before the journal was opened.
+fn out_of_memory(alloc: Global, file: &str) -> Fault<'_>
+    ensures { IsUnbegun result.error }
+{
+    Fault::new(alloc, PeerError::Open(OpenError::Memory), file)
 }
 
 /// Opens the journal of the command line: a file, or with `-` memory.

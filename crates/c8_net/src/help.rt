@@ -22,7 +22,8 @@ sealed, each counts once, and what does not open or came before is dropped and c
   umask 077; ./c8play secret > match.secret
 FILE has 64 hexadecimal digits. Then - may stand for a REMOTE or a watcher's ADDR: the address is learnt from
 the newest packet of that player. Of each two players one has to name the other. A secret and room serve one
-set of journals: new journals, new --room.
+set of journals: new journals, new --room. With --relay all meet at a relay, and no REMOTE is given; player 1
+gives --watch5 - for a watcher. The lines of --progress say if the relay does not answer.
 
 Player 1 shows the match to its watchers: each gets the confirmed key sets, and reports how many it
 has. A watcher is no player, and nothing that it does or fails to do changes the match. In a match with a
@@ -43,8 +44,9 @@ Refusals, each one line on standard error, as 'refused: game 5 Hex':
   disk 2 Full         the journal is at its greatest length, 1073741824 bytes
   socket 1 Failed     the socket cannot be opened, or was closed, or 4294967295 packets were sealed
   socket 2 Remotes    not one REMOTE for each other player; watchers and --secret without --watch-secret
-  socket 3 Address    an address that is not written as 127.0.0.1:4001; another player's or a
-                      watcher's with port 0, or of another IP version than LOCAL; - without --secret
+  socket 3 Address    an address that is not written as 127.0.0.1:4001, or a name that the system does not
+                      find; another player's or a watcher's with port 0, or of another IP version than
+                      LOCAL; - without --secret
   socket 4 Thread     the system starts no more threads
 
 Exit status: 0 done, 1 refused, 2 a mistake in the command line, 3 a disk or a socket failed";

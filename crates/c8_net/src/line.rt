@@ -4,33 +4,43 @@ use crate::error::Unopened;
 use c8_disk::Disk;
 use c8_session::Session;
 use c8_transport::{Counters, Seal, Sealer};
-use c8_udp::{Addresses, Bell, PolledUdp, SocketFault, Udp};
+use c8_udp::{Addresses, Bell, Membership, PolledUdp, Route, SocketFault, SystemSocket, Udp};
 use std::io::ErrorKind;
 use std::net::Net;
+use std::time::Clock;
+
+/// What a match with a secret has: the seal of its packets, and the seats at its relay, if it goes through one.
+#[derive(Drop)]
+pub struct Sealing {
+    pub seal: Seal,
+    pub member: Option<Membership>,
+}
 
 /// The addresses of the other players and the watchers, and the seal of a match with a secret.
 #[derive(Drop)]
 pub struct Line {
     pub addresses: Addresses,
-    pub seal: Option<Seal>,
+    pub sealing: Option<Sealing>,
 }
 
 impl Line {
     /// Opens the socket. In a match with a secret it returns packets from any address, because the seal shows who
     /// sent them.
-    pub fn open<R: Net>(&self, rt: &R) -> Result<Udp, SocketFault> {
-        let udp = Udp::open(rt, &self.addresses)?;
-        if self.seal.is_some() {
-            Ok(udp.hearing_all())
-        } else {
-            Ok(udp)
+    pub fn open<'r, R: Net + Clock>(&self, rt: &'r R) -> Result<Udp<Route<'r, R>>, SocketFault> {
+        let socket = SystemSocket::bind(rt, self.addresses.local)?;
+        match &self.sealing {
+            Some(sealing) => {
+                let route = Route::new(rt, socket, sealing.member);
+                Ok(Udp::over(route, &self.addresses).hearing_all())
+            }
+            None => Ok(Udp::over(Route::new(rt, socket, None), &self.addresses)),
         }
     }
 
     /// Opens the socket as a wire that can wait, with its bell.
     pub(crate) fn open_polled<'r, R>(&self, rt: &'r R) -> Result<(PolledUdp<'r, R>, Bell), Unopened>
     where
-        R: Net + AllocGlobal,
+        R: Net + Clock + AllocGlobal,
     {
         let udp = match self.open(rt) {
             Ok(udp) => udp,

@@ -12,8 +12,24 @@ pub const GAME: Argument = Argument {
 /// The addresses of the other players.
 pub const REMOTES: Argument = Argument {
     name: "REMOTE",
-    help: "The other players' addresses, in order of their numbers",
+    help: "The other players' addresses or names, in order of their numbers; none with --relay",
     form: Form::Words(0, usize::MAX),
+    ..Argument::NEEDED
+};
+
+/// The own address. A match through a relay needs none.
+pub const LOCAL: Argument = Argument {
+    name: "LOCAL",
+    help: "The own address, as 127.0.0.1:4001; with --relay it may be left out",
+    form: Form::Optional,
+    ..Argument::NEEDED
+};
+
+/// The option `--relay`.
+pub const RELAY: Argument = Argument {
+    name: "relay",
+    help: "Goes through the relay at this address or name, as relay.example.org:4001 (needs --secret)",
+    form: Form::Option("HOST:PORT"),
     ..Argument::NEEDED
 };
 

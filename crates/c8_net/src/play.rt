@@ -11,7 +11,7 @@ ghost use Rattle.c8_net.specs.Match.{IsNoKeys, IsNoMatch, HasEnded, HasPlayed, H
 use crate::arguments::Asked;
 use crate::error::{PeerError, Unopened};
 use crate::key_list::KeyList;
-use crate::line::{Line, sealer_of};
+use crate::line::{Line, Sealing, sealer_of};
 use crate::performance::{Ended, Performance};
 use crate::stage::Stage;
 use c8_command::{TextError, text_of};
@@ -23,7 +23,7 @@ use c8_live::tell_end;
 use c8_peer::Peer;
 use c8_session::laws::peers_run_on;
 use c8_session::{Life, Session};
-use c8_transport::{Seal, Sealed};
+use c8_transport::Sealed;
 use c8_udp::{Addresses, Bell, MOST_WATCHERS, PolledUdp};
 use c8_wire::Watcher;
 use std::alloc::Global;
@@ -70,7 +70,7 @@ pub fn prepare<I: Read + Drop>(
     local: &str,
     remotes: &[&str],
     watchers: [Option<&str>; MOST_WATCHERS],
-    seal: Option<Seal>,
+    sealing: Option<Sealing>,
     input: I,
 ) -> Result<Prepared, Unprepared>
     ensures game { IfOk result (λ it. it.game ≡ game) }
@@ -80,7 +80,7 @@ pub fn prepare<I: Read + Drop>(
     ensures refused { IfErr result (λ it.
         IsNoMatch game.players (I.remaining input) (length remotes.now) it.error) }
 {
-    let may_learn = seal.is_some();
+    let may_learn = sealing.is_some();
     let addresses = match Addresses::read(game.players(), me, local, remotes, watchers, may_learn) {
         Ok(addresses) => addresses,
         Err(error) => return Err(Unprepared::new(alloc, PeerError::Socket(error))),
@@ -88,7 +88,7 @@ pub fn prepare<I: Read + Drop>(
     match keys_in(alloc, input) {
         Ok(keys) => Ok(Prepared {
             game,
-            line: Line { addresses, seal },
+            line: Line { addresses, sealing },
             keys,
         }),
         Err(error) => Err(error),
@@ -150,13 +150,22 @@ where
     let mut session = session_of(peer, &game, asked);
     session.counts(Life::Admitted);
     let keys = KeyList::new(keys);
-    match play_over(rt, asked, stage, session, keys, wire, line.seal, progress) {
+    match play_over(
+        rt,
+        asked,
+        stage,
+        session,
+        keys,
+        wire,
+        line.sealing,
+        progress,
+    ) {
         Ok(ended) => outcome_of(asked, ended, progress),
         Err(error) => Err(PeerError::from(error)),
     }
 }
 
-/// Plays a session in threads over a socket, by sealed packets if there is a seal.
+/// Plays a session in threads over a socket, by sealed packets if the match has a secret.
 fn play_over<'g, R, D, E>(
     rt: &R,
     asked: &Asked<'_, '_>,
@@ -164,7 +173,7 @@ fn play_over<'g, R, D, E>(
     session: Session<'g, D>,
     keys: KeyList,
     wire: (PolledUdp<'_, R>, Bell),
-    seal: Option<Seal>,
+    sealing: Option<Sealing>,
     progress: &mut E,
 ) -> Result<Ended<'g, D>, Unopened>
 where
@@ -176,10 +185,10 @@ where
         HasEnded D.Disk session.entry.peer ended.session.peer ended.turns) }
 {
     let (udp, bell) = wire;
-    match seal {
+    match sealing {
         None => stage.play(rt, asked, session, keys, (udp, bell), progress),
-        Some(seal) => {
-            let sealed = Sealed::over(udp, sealer_of(seal, &session));
+        Some(sealing) => {
+            let sealed = Sealed::over(udp, sealer_of(sealing.seal, &session));
             stage.play(rt, asked, session, keys, (sealed, bell), progress)
         }
     }

@@ -6,18 +6,21 @@ ghost use Rattle.c8_net.specs.Answers.{IsUnbegun};
 use crate::arguments::Asked;
 use crate::error::PeerError;
 use crate::fault::{Fault, Why};
+use crate::line::Sealing;
 use c8_command::TextError;
 use c8_disk::DiskError;
 use c8_files::{SecretFault, secret_in, warn_of_readers};
 use c8_game::Game;
 use c8_peer::OpenError;
+use c8_relay::{Lane, Place};
 use c8_transport::{Seal, SealKeys, Secret, Secrets};
-use c8_udp::SocketError;
+use c8_udp::{Membership, SocketError};
 use c8_wire::Seat;
 use std::alloc::Global;
 use std::fs::File;
 use std::io;
 use std::io::Write;
+use std::net::SocketAddr;
 use std::rt::Files;
 
 /// Writes a line for each secret file that other users may read.
@@ -39,13 +42,14 @@ where
     Ok(())
 }
 
-/// Returns the seal of a player, if the match has a secret. Faults are found in this order: the players' secret, that
-/// of the watchers, watchers without a secret of their own (`Remotes`).
-pub(crate) fn seal_at<'a, R>(
+/// Returns the seal of a player and its seats at a relay, if the match has a secret. Faults are found in this order: the
+/// players' secret, that of the watchers, watchers without a secret of their own (`Remotes`).
+pub(crate) fn sealing_at<'a, R>(
     rt: &R,
     asked: &Asked<'_, 'a>,
     game: &Game,
-) -> Result<Option<Seal>, Fault<'a>>
+    relay: Option<SocketAddr>,
+) -> Result<Option<Sealing>, Fault<'a>>
 where
     R: Files<File = File> + AllocGlobal,
     ensures { IfErr result (λ fault. IsUnbegun fault.error) }
@@ -72,16 +76,18 @@ where
         let error = PeerError::Socket(SocketError::Remotes);
         return Err(Fault::new(rt.alloc(), error, asked.game).because(Some(Why::Watchers)));
     }
-    Ok(Some(seal_of(&secrets, Seat::from(asked.player), game.session(asked.room))))
+    let session = game.session(asked.room);
+    Ok(Some(sealing_of(&secrets, Seat::from(asked.player), session, relay)))
 }
 
-/// Returns the seal of a watcher, if the match has a secret for watchers.
-pub fn watch_seal_at<'a, R>(
+/// Returns the seal of a watcher and its seat at a relay, if the match has a secret for watchers.
+pub fn watch_sealing_at<'a, R>(
     rt: &R,
     path: Option<&'a str>,
     seat: Seat,
     session: u64,
-) -> Result<Option<Seal>, Fault<'a>>
+    relay: Option<SocketAddr>,
+) -> Result<Option<Sealing>, Fault<'a>>
 where
     R: Files<File = File> + AllocGlobal,
     ensures { IfErr result (λ fault. IsUnbegun fault.error) }
@@ -93,19 +99,42 @@ where
         players: None,
         watchers: Some(secret_at(rt, path)?),
     };
-    Ok(Some(seal_of(&secrets, seat, session)))
+    Ok(Some(sealing_of(&secrets, seat, session, relay)))
 }
 
-fn seal_of(secrets: &Secrets, seat: Seat, session: u64) -> Seal {
-    Seal {
-        keys: SealKeys::of(secrets, session),
-        seat,
-        session,
+/// The seal of a seat, and the seats at the relay, if there is one: the own one in the lane of each secret.
+fn sealing_of(secrets: &Secrets, seat: Seat, session: u64, relay: Option<SocketAddr>) -> Sealing {
+    let players = place_of(&secrets.players, Lane::Players, seat, session);
+    let watchers = place_of(&secrets.watchers, Lane::Watchers, seat, session);
+    let member = match (relay, players, watchers) {
+        (Some(address), Some(own), second) => Some(Membership::new(address, own, second)),
+        (Some(address), None, Some(own)) => Some(Membership::new(address, own, None)),
+        _ => None,
+    };
+    Sealing {
+        seal: Seal {
+            keys: SealKeys::of(secrets, session),
+            seat,
+            session,
+        },
+        member,
     }
 }
 
+/// A seat in the room that has its name from a secret.
+fn place_of(secret: &Option<Secret>, lane: Lane, seat: Seat, session: u64) -> Option<Place> {
+    let Some(secret) = secret else {
+        return None;
+    };
+    Some(Place {
+        name: u128::from_be_bytes(secret.room_name(session)),
+        lane,
+        seat: seat.number,
+    })
+}
+
 /// Returns the secret in a file.
-fn secret_at<'a, R>(rt: &R, path: &'a str) -> Result<Secret, Fault<'a>>
+pub fn secret_at<'a, R>(rt: &R, path: &'a str) -> Result<Secret, Fault<'a>>
 where
     R: Files<File = File> + AllocGlobal,
     ensures { IfErr result (λ fault. IsUnbegun fault.error) }

@@ -5,7 +5,8 @@ use crate::help::PLAY_ENDING;
 use c8_front::{Argument, Form, Outline, word_of};
 use c8_game::Player;
 use c8_net::options::{
-    CHECKPOINT, GAME, PATIENCE, REMOTES, ROOM, SECRET, STOP, WATCH_SECRET, WATCH5, WATCH6,
+    CHECKPOINT, GAME, LOCAL, PATIENCE, RELAY, REMOTES, ROOM, SECRET, STOP, WATCH_SECRET, WATCH5,
+    WATCH6,
 };
 use clap::ArgMatches;
 use clap::builder::ValueParser;
@@ -53,13 +54,9 @@ pub static PLAY: Outline = Outline {
             form: Form::Optional,
             ..Argument::NEEDED
         },
-        Argument {
-            name: "LOCAL",
-            help: "The own address, as 127.0.0.1:4001",
-            form: Form::Optional,
-            ..Argument::NEEDED
-        },
+        LOCAL,
         REMOTES,
+        RELAY,
         ROOM,
         Argument {
             name: "turns",
@@ -91,10 +88,11 @@ pub static PLAY: Outline = Outline {
     ],
 };
 
-/// Who plays, or `None` if the arguments do not fit: with `alone` there is no journal, and a player has a journal and
-/// an address.
+/// Who plays, or `None` if the arguments do not fit: with `alone` there is no journal, and a player has a journal, and
+/// an address or a relay.
 pub(crate) fn who_of(given: &ArgMatches<'_>) -> Option<Who> {
-    let has_match = given.get_str("JOURNAL").is_some() && given.get_str("LOCAL").is_some();
+    let has_way = given.get_str("LOCAL").is_some() || given.get_str("relay").is_some();
+    let has_match = given.get_str("JOURNAL").is_some() && has_way;
     let has_none = given.get_str("JOURNAL").is_none();
     match word_of(given, "PLAYER") {
         "alone" if has_none => Some(Who::Alone),

@@ -21,10 +21,11 @@ ago. In the last second the peer rolled back 3 times, over 5 frames at most. Onc
 for three seconds, player 1 may drop it: control-D, and control-D again. When the game ends, the machine
 after the confirmed frames is printed.
 
-Alone, and two players, each in a terminal of their own:
+Alone, two players, each in a terminal of their own, and player 2 through a relay:
   ./c8play play games/rally.game alone
   ./c8play play games/rally.game 1 one.journal 127.0.0.1:4001 127.0.0.1:4002
   ./c8play play games/rally.game 2 two.journal 127.0.0.1:4002 127.0.0.1:4001
+  ./c8play play games/rally.game 2 two.journal --relay relay.example.org:4001 --room 7 --secret match.secret
 
 In each frame the journal takes at most two records for each player, and each record waits for the disk
 twice; a line before the match says if this disk is too slow for that. With - in the place of JOURNAL and a

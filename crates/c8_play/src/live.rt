@@ -58,10 +58,10 @@ impl<C: Console + Drop> Performance for Live<C> {
         let Live { console, pace } = self;
         let mut desk = Desk::new(console, pace);
         desk.wake_at(&mut udp);
-        match line.seal {
+        match line.sealing {
             None => Ok(play_over(udp, desk, session, game, pace.rate, asked, progress)),
-            Some(seal) => {
-                let sealed = Sealed::over(udp, sealer_of(seal, &session));
+            Some(sealing) => {
+                let sealed = Sealed::over(udp, sealer_of(sealing.seal, &session));
                 Ok(play_over(sealed, desk, session, game, pace.rate, asked, progress))
             }
         }
@@ -226,6 +226,7 @@ fn play_frame<D: Disk, W: Wire, C: Console>(
     let entry = enter(session, wire, desk, lead)?;
     status.note(session);
     status.turn_away(wire.losses());
+    status.relay(wire.relaying());
     show(session, desk, status, entry);
     Ok(())
 }

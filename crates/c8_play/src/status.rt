@@ -4,9 +4,9 @@ use crate::chime::Chime;
 use arrayvec::ArrayVec;
 use c8_disk::Disk;
 use c8_game::{MOST_PLAYERS, Player};
-use c8_live::{Counters, Gauge, Reading, Standing};
+use c8_live::{Counters, Gauge, Reading, Standing, write_relaying};
 use c8_session::Session;
-use c8_transport::Losses;
+use c8_transport::{Losses, Relaying};
 use std::io;
 use std::io::Write;
 use std::time::Duration;
@@ -57,6 +57,7 @@ pub struct StatusRow {
     gauge: Gauge,
     /// How many packets were not sealed with the key of the match.
     unsealed: u64,
+    relaying: Relaying,
     /// Whether the journal lacks inputs that the others hold.
     is_lost: bool,
     numbers: Numbers,
@@ -80,6 +81,7 @@ impl StatusRow {
             counters: Counters::new(),
             gauge: Gauge::new(now, now),
             unsealed: 0,
+            relaying: Relaying::Direct,
             is_lost: false,
             numbers: Numbers::default(),
             asked: None,
@@ -103,6 +105,11 @@ impl StatusRow {
     /// Notes what the wire has turned away so far.
     pub fn turn_away(&mut self, losses: Losses) {
         self.unsealed = losses.unsealed;
+    }
+
+    /// Notes what the wire hears of a relay.
+    pub fn relay(&mut self, relaying: Relaying) {
+        self.relaying = relaying;
     }
 
     /// Says from now on that the journal lacks inputs that the others hold.
@@ -144,6 +151,7 @@ impl StatusRow {
     ///
     /// - how many frames are ticked and confirmed;
     /// - `your journal lacks inputs that the others hold`, and then nothing else, if that is so;
+    /// - `relay: no answer for 4 s`, `seat 2 is taken` or `relay is full`, while that is so;
     /// - `the machines differ`, while the alarm stands;
     /// - the player for whom the match waits, with whole seconds of its silence, as `waits for 2: 12 s`; this part
     ///   changes at once, and tells player 1 how to drop the player. If no datagram of that player ever came, it says
@@ -207,6 +215,7 @@ impl StatusRow {
         if self.is_lost {
             return write!(out, "  your journal lacks inputs that the others hold");
         }
+        write_relaying(out, "  ", self.relaying, self.me)?;
         if is_alarmed {
             write!(out, "  the machines differ")?;
         }

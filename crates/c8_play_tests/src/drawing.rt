@@ -114,6 +114,7 @@ pub(crate) fn asked_for(turns: u64, stop: Option<u64>, screen: bool) -> WatchAsk
         seat: Watcher { number: 5 },
         local: "",
         remote: "",
+        has_relay: false,
         secret: None,
         room: 3,
         turns,

@@ -52,6 +52,7 @@ where
         journal,
         local,
         remotes: Some(&[remote]),
+        relay: None,
         watchers: [None, None],
         secret: None,
         watch_secret: None,

@@ -3,7 +3,7 @@
 use c8_game::Player;
 use c8_live::Standing;
 use c8_play::{Chime, StatusRow};
-use c8_transport::Losses;
+use c8_transport::{Losses, Relaying};
 use std::time::Duration;
 
 /// The time, the player for whom the match waits, and the text that is then written.
@@ -97,6 +97,7 @@ fn tells(status: &mut StatusRow, look: &Look, wanted: &[u8]) -> bool {
         foreign: 0,
         unsealed: 0,
         repeated: 0,
+        relaying: Relaying::Direct,
     };
     let now = Duration::from_millis(look.millis);
     let waits = look.waits.and_then(Player::new);
@@ -199,6 +200,7 @@ fn are_first_words() -> bool {
             foreign: 0,
             unsealed: 0,
             repeated: 0,
+            relaying: Relaying::Direct,
         };
         let row = status.row_of(Duration::from_millis(*millis), 0, &standing, Player::new(2));
         if row != if *wanted == last { &[] } else { *wanted } {

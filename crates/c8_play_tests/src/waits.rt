@@ -105,6 +105,7 @@ pub fn asked_for(turns: u64, stop: Option<u64>, patience: Option<u64>) -> Asked<
         journal: "",
         local: "",
         remotes: None,
+        relay: None,
         watchers: [None, None],
         secret: None,
         watch_secret: None,

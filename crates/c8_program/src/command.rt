@@ -9,10 +9,11 @@ ghost use Rattle.c8_program.specs.declared.error.ProgramError.{ProgramError};
 
 use crate::arguments::settings_of;
 use crate::error::ProgramError;
+use crate::file::{IS_TEXT, is_text};
 use crate::listing::write_listing;
 use crate::settings::Settings;
 use crate::text::game_text;
-use c8_command::{Refusal, Site, Status, Text, TextError, read_file};
+use c8_command::{Part, Refusal, Site, Status, Text, TextError, read_file};
 use c8_front::{is_explained, word_of};
 use c8_game::MOST_PROGRAM;
 use clap::ArgMatches;
@@ -20,6 +21,13 @@ use std::alloc::Global;
 use std::io;
 use std::io::Write;
 use std::rt::Files;
+
+/// The refusal of a game's text.
+const ALREADY_TEXT: Refusal = Refusal {
+    part: Part::Game,
+    number: 7,
+    name: "Text",
+};
 
 /// Runs `game` as the command line asks: writes the game text of the program, or the list of its instructions, to
 /// `out`. The line of a refusal goes to `refused`. The error is a writer's.
@@ -39,6 +47,9 @@ where
     };
     let (file, explain) = (word_of(given, "FILE"), is_explained(given));
     match read_file(rt, file) {
+        Ok(bytes) if is_text(rt.alloc(), &bytes) => {
+            ALREADY_TEXT.tell_at(explain.then_some(Site::File(file)), &IS_TEXT, refused)
+        }
         Ok(bytes) => {
             let program = Text {
                 file,

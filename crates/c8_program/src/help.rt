@@ -13,6 +13,7 @@ Refusals, each one line on standard error, as 'refused: game 4 Twice':
   game 3 Missing  no byte
   game 4 Twice    a key that two players have
   game 6 Memory   out of memory for the text
+  game 7 Text     a game's text already
   open 5 Memory   out of memory at the start
   disk 1 Failed   a file that cannot be read or is above 16777216 bytes;
                   output that cannot be written

@@ -1,6 +1,6 @@
 -- What a relay reads of a packet, and how its answers are spelled.
-use Rattle.std.specs.Prelude.{◌≡◌, ◌≤◌, ℕ, List, ◌∷◌, length, slice_index, slice_range, Option, Some, option_map}
-use Rattle.std.specs.Int.{w128, from_be_bytes}
+use Rattle.std.specs.Prelude.{◌≡◌, ◌≤◌, ℕ, List, ◌∷◌, ◌++◌, length, slice_index, slice_range, Option, Some, option_map}
+use Rattle.std.specs.Int.{w128, from_be_bytes, to_be_bytes}
 use Rattle.c8_wire.specs.declared.kinds.KeyOf.{KeyOf}
 use Rattle.c8_wire.specs.declared.kinds.KeyOf.TheVariants as keys
 use Rattle.c8_wire.specs.Kinds.{kind_of_code, shape_of}
@@ -56,6 +56,10 @@ pub record IsJoin (packet : List ℕ) (join : Join) : Type 0 where
   pub lane : lane_code join.place.lane ≡ slice_index packet 5
   pub room : join.place.name ≡ from_be_bytes w128 (slice_range packet 8 24)
   pub cookie : join.cookie ≡ slice_range packet 24 40
+
+-- the 40 bytes of a JOIN
+abbrev pub asked : Join → List ℕ
+asked join = 0x43 ∷ 0x52 ∷ 1 ∷ 1 ∷ join.place.seat ∷ lane_code join.place.lane ∷ 0 ∷ 0 ∷ to_be_bytes w128 join.place.name ++ join.cookie
 
 -- a packet is read as what it is
 abbrev pub IsRead : List ℕ → Spoken → Type 0

@@ -1,6 +1,6 @@
 //! What a relay reads of a packet, and the bytes of its answers.
-ghost use Rattle.std.specs.Prelude.{◌≡◌, ◌≤◌, ◌<◌, ◌+◌, ◌∷◌, [], ℕ, length, slice_index, MatchOption};
-ghost use Rattle.c8_relay.specs.Reading.{IsDatagram, IsJoin, IsRead, lane_code, lane_of_key, lane_of_kind, spelled, status_code};
+ghost use Rattle.std.specs.Prelude.{◌≡◌, ◌≤◌, ◌<◌, ◌+◌, ◌∷◌, [], ℕ, length, slice_index, IfSome, MatchOption};
+ghost use Rattle.c8_relay.specs.Reading.{IsDatagram, IsJoin, IsRead, asked, lane_code, lane_of_key, lane_of_kind, spelled, status_code};
 
 use crate::address::{Lane, Place};
 use c8_transport::{LONGEST_SEALED, SEAL_LENGTH};
@@ -53,7 +53,7 @@ pub enum Spoken {
 }
 
 /// What a relay says to a JOIN.
-#[derive(Clone, Copy)]
+#[derive(Clone, Copy, PartialEq, Eq)]
 pub enum Status {
     /// Say it again, with this cookie.
     Prove,
@@ -63,6 +63,13 @@ pub enum Status {
     Busy,
     /// The relay, or the share of the host, is full.
     Full,
+}
+
+/// What a relay answered.
+#[derive(Clone, Copy)]
+pub struct Answer {
+    pub status: Status,
+    pub cookie: [u8; COOKIE_LENGTH],
 }
 
 /// Reads a packet.
@@ -151,7 +158,65 @@ fn seat_of(number: u8) -> Option<u8>
     Some(number)
 }
 
+impl Join {
+    /// Its bytes, which [`read`] reads.
+    pub fn bytes(&self) -> [u8; JOIN_LENGTH]
+        ensures { result ≡ asked self.now }
+    {
+        let (seat, lane) = (self.place.seat, self.place.lane.code());
+        let [a, b, c, d, e, f, g, h, i, j, k, l, m, n, o, p] = self.place.name.to_be_bytes();
+        let mut bytes = [
+            0x43, 0x52, VERSION, KIND_JOIN, seat, lane, 0, 0, a, b, c, d, e, f, g, h, i, j, k, l,
+            m, n, o, p, 0, 0, 0, 0, 0, 0, 0, 0, 0, 0, 0, 0, 0, 0, 0, 0,
+        ];
+        bytes[JOIN_LENGTH - COOKIE_LENGTH..].copy_from_slice(&self.cookie);
+        bytes
+    }
+}
+
+impl Lane {
+    fn code(self) -> u8
+        ensures { result ≡ lane_code self }
+    {
+        match self {
+            Lane::Players => 0,
+            Lane::Watchers => 1,
+        }
+    }
+}
+
+/// Reads an answer of a relay; `None` if the packet is none.
+pub fn read_answer(packet: &[u8]) -> Option<Answer>
+    ensures { IfSome result (λ answer. packet.now ≡ spelled answer.status answer.cookie) }
+{
+    if packet.len() != ANSWER_LENGTH {
+        return None;
+    }
+    let status = Status::of(packet[3])?;
+    let mut cookie = [0; COOKIE_LENGTH];
+    cookie.copy_from_slice(&packet[HEAD_LENGTH..]);
+    let answer = status.answer(&cookie);
+    if packet == answer.as_slice() {
+        Some(Answer { status, cookie })
+    } else {
+        None
+    }
+}
+
 impl Status {
+    /// The status with a code, if there is one.
+    fn of(code: u8) -> Option<Status>
+        ensures { MatchOption result ((status : Status) → status_code status ≡ code → ⊥) (λ status. status_code status ≡ code) }
+    {
+        match code {
+            2 => Some(Status::Prove),
+            3 => Some(Status::Joined),
+            4 => Some(Status::Busy),
+            5 => Some(Status::Full),
+            _ => None,
+        }
+    }
+
     fn code(self) -> u8
         ensures { result ≡ status_code self }
     {

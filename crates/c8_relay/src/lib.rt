@@ -24,7 +24,8 @@ mod turning;
 pub use address::{Address, Lane, Place, Sender};
 pub use bucket::{BURST, Bucket, COST, passes_no_more};
 pub use control::{
-    ANSWER_LENGTH, COOKIE_LENGTH, JOIN_LENGTH, Join, MOST_SEATS, Route, Spoken, Status, read,
+    ANSWER_LENGTH, Answer, COOKIE_LENGTH, JOIN_LENGTH, Join, MOST_SEATS, Route, Spoken, Status,
+    read, read_answer,
 };
 pub use cookie::KEY_LENGTH;
 pub use ether::{Ether, LONGEST_READ};

@@ -47,9 +47,21 @@ Refusals: open 5 Memory      there is no memory for so many rooms, or for the fi
 
 Exit status: 1 open 5 Memory, 2 a mistake in the command line, 3 a socket failed, or disk 1 Failed";
 
-/// What the program takes: `LOCAL`, `--pages`, `--rooms`, `--origin` and `--progress`.
+/// The program c8relay.
 pub static RELAY: Outline = Outline {
     name: "c8relay",
+    ..TAKEN
+};
+
+/// The same as a command of c8play.
+pub static RELAY_COMMAND: Outline = Outline {
+    name: "relay",
+    ..TAKEN
+};
+
+/// What both take: `LOCAL`, `--pages`, `--rooms`, `--origin` and `--progress`.
+const TAKEN: Outline = Outline {
+    name: "",
     about: "Carries the datagrams of matches between players who cannot reach each other",
     ending: ENDING,
     takes: &[

@@ -25,7 +25,7 @@ mod site;
 mod turns;
 mod web;
 
-pub use command::{RELAY, relay_given};
+pub use command::{RELAY, RELAY_COMMAND, relay_given};
 pub use folder::MOST_BYTES;
 pub use hub::Hub;
 pub use page::{Page, Pages};

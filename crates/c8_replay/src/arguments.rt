@@ -29,7 +29,7 @@ pub enum Form {
 /// What the command line of `replay` asks for.
 #[derive(Clone, Copy)]
 pub struct Asked<'a> {
-    /// The path of the game's text.
+    /// The path of the game's text or of a program.
     pub game: &'a str,
     /// The path of the journal.
     pub journal: &'a str,
@@ -50,7 +50,7 @@ pub static REPLAY: Outline = Outline {
     takes: &[
         Argument {
             name: "GAME",
-            help: "The path of the game's text",
+            help: "The path of the game's text or of a CHIP-8 program (.ch8)",
             ..Argument::NEEDED
         },
         Argument {

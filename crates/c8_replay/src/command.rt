@@ -15,6 +15,7 @@ use c8_front::{System, is_same_file};
 use c8_game::GameError;
 use c8_keys::{Played, game_site, write_report};
 use c8_play::Terminal;
+use c8_program::{NO_TEXT, ProgramError, is_binary, is_program, text_of};
 use clap::ArgMatches;
 use std::alloc::Global;
 use std::fs::File;
@@ -36,9 +37,13 @@ where
     ensures { IfOk result (EndsReplay (W.contents out.old) (W.contents out.new)) }
 {
     let asked = asked_of(given);
-    match both(read_file(rt, asked.game), read_image(rt, asked.journal)) {
-        Ok((text, image)) => replay_files(rt, &asked, &text, &image, out, refused),
-        Err(error) => refuse_files(&asked, error, refused),
+    let (bytes, image) = match both(read_file(rt, asked.game), read_image(rt, asked.journal)) {
+        Ok(files) => files,
+        Err(error) => return refuse_files(&asked, error, refused),
+    };
+    match text_of(rt.alloc(), is_program(asked.game), bytes) {
+        Ok(text) => replay_files(rt, &asked, &text, &image, out, refused),
+        Err(why) => refuse_program(&asked, why, refused),
     }
 }
 
@@ -172,8 +177,24 @@ fn refuse<E: Write>(
 ) -> io::Result<Status>
     ensures { IfOk result (λ status. status ≡ statuses.Refused) }
 {
+    if is_binary(game) && matches!(&fault, ReplayFault::Game(_)) {
+        let site = asked.explain.then_some(Site::File(asked.game));
+        return fault.tell_why(site, &NO_TEXT, refused);
+    }
     let site = asked.explain.then_some(site_of(alloc, asked, game, fault));
     fault.tell_at(site, refused)
+}
+
+/// Writes why a program makes no game.
+fn refuse_program<E: Write>(
+    asked: &Asked<'_>,
+    why: ProgramError,
+    refused: &mut E,
+) -> io::Result<Status>
+    ensures { IfOk result (λ status. status ≡ statuses.Refused) }
+{
+    let site = asked.explain.then_some(Site::File(asked.game));
+    ReplayFault::Game(GameError::from(why)).tell_why(site, &why, refused)
 }
 
 /// Writes the key lines, or the report of the machine. Of a page it writes the report too.

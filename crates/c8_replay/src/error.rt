@@ -6,6 +6,7 @@ ghost use Rattle.c8_command.specs.declared.status.Status.TheVariants as statuses
 use c8_audit::JournalError;
 use c8_command::{Part, Refusal, Site, Status};
 use c8_game::GameError;
+use std::fmt::Display;
 use std::io;
 use std::io::Write;
 use thiserror::Error;
@@ -30,19 +31,23 @@ impl ReplayFault {
     pub(crate) fn tell_at<W: Write>(self, site: Option<Site<'_>>, out: &mut W) -> io::Result<Status>
         ensures { IfOk result (λ status. status ≡ statuses.Refused) }
     {
-        match self {
-            ReplayFault::Game(error) => {
-                let (part, number, name) = (Part::Game, error.number(), error.name());
-                Refusal { part, number, name }.tell_at(site, &self, out)
-            }
-            ReplayFault::Journal(error) => {
-                let (part, number, name) = (Part::Open, error.number(), error.name());
-                Refusal { part, number, name }.tell_at(site, &self, out)
-            }
-            ReplayFault::Beyond(_) => {
-                let (part, number, name) = (Part::Replay, 1, "Beyond");
-                Refusal { part, number, name }.tell_at(site, &self, out)
-            }
-        }
+        self.tell_why(site, &self, out)
+    }
+
+    /// The same with another sentence.
+    pub(crate) fn tell_why<W: Write, D: Display>(
+        self,
+        site: Option<Site<'_>>,
+        why: &D,
+        out: &mut W,
+    ) -> io::Result<Status>
+        ensures { IfOk result (λ status. status ≡ statuses.Refused) }
+    {
+        let (part, number, name) = match self {
+            ReplayFault::Game(error) => (Part::Game, error.number(), error.name()),
+            ReplayFault::Journal(error) => (Part::Open, error.number(), error.name()),
+            ReplayFault::Beyond(_) => (Part::Replay, 1, "Beyond"),
+        };
+        Refusal { part, number, name }.tell_at(site, why, out)
     }
 }

@@ -1,33 +1,48 @@
-//! The fixed parts of the page that shows a match. Its data stand between them, in elements that a browser does not
-//! run.
+//! The fixed parts of the page that shows a match, as `tools/page --replay` makes them of `web/replay.html`. Its data stand
+//! between them, in elements that a browser does not run.
 
 /// From the beginning to the number of players.
-pub(crate) const BEFORE_PLAYERS: &str = r#"<!DOCTYPE html>
+pub(crate) const BEFORE_PLAYERS: &str = r##"<!doctype html>
 <html lang="en">
 <head>
 <meta charset="utf-8">
 <meta name="viewport" content="width=device-width, initial-scale=1">
+<meta name="color-scheme" content="light dark">
 <title>c8play replay</title>
 <style>
-body { margin: 1rem auto; max-width: 44rem; padding: 0 1rem; font: 16px sans-serif; background: #111; color: #ddd; }
-canvas { width: 100%; background: #000; image-rendering: pixelated; display: block; }
-input[type=range] { width: 100%; margin: 0.5rem 0 0; }
-#marks { position: relative; height: 1.5rem; font-size: 12px; }
-#marks span { position: absolute; white-space: nowrap; color: #f96; }
-#controls { display: flex; gap: 1rem; align-items: center; margin: 0.5rem 0; }
+:root { color-scheme: light dark; --paper: #f6f4ee; --raised: #ffffff; --ink: #22201c; --soft: #605b52; --line: #d8d3c7; --main: #1f5f4a; --on-main: #ffffff; --warn: #8a3b12; --dark: #fbfaf6; --lit: #24221e; --focus: #1a66c9; font: 17px/1.5 system-ui, sans-serif; }
+@media (prefers-color-scheme: dark) { :root { --paper: #171614; --raised: #24221f; --ink: #ece8df; --soft: #aaa498; --line: #3a3732; --main: #8fd3b6; --on-main: #10231b; --warn: #f0a878; --dark: #0f0e0d; --lit: #f1ead9; --focus: #86b7ff; } }
+* { box-sizing: border-box; }
+html { background: var(--paper); color: var(--ink); }
+body { margin: 0 auto; padding: 1rem; max-width: 66rem; }
+main { display: grid; gap: .75rem; max-width: max(24rem, 115vh); margin: 0 auto; }
+h1 { margin: 0; font-size: 1.25rem; }
+p { margin: 0; color: var(--soft); font-size: .9rem; }
+:focus-visible { outline: 3px solid var(--focus); outline-offset: 2px; }
+canvas { width: 100%; aspect-ratio: 2; display: block; image-rendering: pixelated; background: var(--dark); border-radius: 4px; box-shadow: 0 0 0 1px var(--line); }
+#seek { width: 100%; height: 44px; margin: 0; accent-color: var(--main); }
+#marks { position: relative; height: 1.25rem; margin-top: -1rem; font-size: .8rem; }
+#marks:empty { display: none; }
+#marks span { position: absolute; white-space: nowrap; color: var(--warn); }
+#controls { display: flex; flex-wrap: wrap; gap: .75rem; align-items: center; }
+button, select { min-height: 44px; min-width: 5.5rem; padding: 0 1rem; border: 1px solid var(--line); border-radius: 8px; background: var(--raised); color: var(--ink); font: inherit; }
+button { background: var(--main); border-color: var(--main); color: var(--on-main); font-weight: 600; cursor: pointer; }
+#where { font-variant-numeric: tabular-nums; }
 #pads { display: flex; flex-wrap: wrap; gap: 1.5rem; }
-.pad { display: grid; grid-template-columns: repeat(4, 1.6rem); gap: 2px; margin-top: 0.3rem; }
-.pad span { text-align: center; line-height: 1.6rem; background: #222; color: #777; }
-.pad .held { background: #6c6; color: #000; }
-.dropped { color: #f96; }
+.pad { display: grid; grid-template-columns: repeat(4, 2rem); gap: 4px; margin-top: .4rem; }
+.pad span { text-align: center; line-height: 2rem; border-radius: 5px; background: var(--raised); color: var(--soft); border: 1px solid var(--line); }
+.pad .held { background: var(--main); border-color: var(--main); color: var(--on-main); font-weight: 600; }
+.dropped { color: var(--warn); }
 </style>
 </head>
 <body>
-<canvas id="screen" width="64" height="32"></canvas>
-<input id="seek" type="range" min="0" value="0" aria-label="frame">
+<main>
+<h1>A match, as it was played</h1>
+<canvas id="screen" width="64" height="32" role="img" aria-label="The picture of the game"></canvas>
+<input id="seek" type="range" min="0" value="0" aria-label="Frame">
 <div id="marks"></div>
 <div id="controls">
-<button id="play">Play</button>
+<button type="button" id="play">Play</button>
 <label>Speed <select id="speed">
 <option value="0.25">1/4</option><option value="0.5">1/2</option><option value="1" selected>1</option>
 <option value="2">2</option><option value="4">4</option><option value="8">8</option>
@@ -35,139 +50,144 @@ input[type=range] { width: 100%; margin: 0.5rem 0 0; }
 <span id="where"></span>
 </div>
 <div id="pads"></div>
-<p>Space plays and pauses, . steps a frame, the arrows go back and forth by a second, digits by tenths of the match.</p>
-<script type="text/plain" id="players">"#;
+<p>Space plays and pauses, . steps a frame, the arrows go back and forth by a second, digits by tenths of the match, Home and End to its ends.</p>
+</main>
+<script type="text/plain" id="players">"##;
 
 /// Between the number of players and the drops. A drop is a line with a player and a frame.
-pub(crate) const BEFORE_DROPS: &str = "</script>\n<script type=\"text/plain\" id=\"drops\">";
+pub(crate) const BEFORE_DROPS: &str = r##"</script>
+<script type="text/plain" id="drops">"##;
 
 /// Between the drops and the key sets, which have four digits for each player of each frame.
-pub(crate) const BEFORE_KEYS: &str = "</script>\n<script type=\"text/plain\" id=\"keys\">";
+pub(crate) const BEFORE_KEYS: &str = r##"</script>
+<script type="text/plain" id="keys">"##;
 
 /// Between the key sets and the changes of the pictures. A comma ends the changes of a frame. A change is four digits:
 /// two for the place of a byte of the screen, and two for its bits that change.
-pub(crate) const BEFORE_PICTURES: &str = "</script>\n<script type=\"text/plain\" id=\"pictures\">";
+pub(crate) const BEFORE_PICTURES: &str = r##"</script>
+<script type="text/plain" id="pictures">"##;
 
 /// From the changes of the pictures to the end.
 pub(crate) const AFTER_PICTURES: &str = r##"</script>
 <script>
 "use strict";
-const part = id => document.getElementById(id);
-const text = id => part(id).textContent.trim();
-const RATE = 60;
-const players = Number(text("players"));
-const keys = text("keys");
-const pictures = text("pictures").split(",").slice(0, -1);
-const drops = text("drops").split("\n").filter(line => line).map(line => line.split(" ").map(Number));
-const frames = pictures.length;
-const screen = new Uint8Array(256);
-let shown = 0, playing = false, last = 0, owed = 0;
-
-// Takes a picture to the next one, or back: a change is undone by itself.
-function change(frame) {
-    const changes = pictures[frame];
-    for (let i = 0; i < changes.length; i += 4) {
-        screen[parseInt(changes.slice(i, i + 2), 16)] ^= parseInt(changes.slice(i + 2, i + 4), 16);
-    }
+const COLUMNS = 64, ROWS = 32;
+class Picture {
+  constructor(canvas) {
+    this.context = (canvas.getContext('2d'));
+    this.image = this.context.createImageData(COLUMNS, ROWS);
+    this.points = new Uint32Array(this.image.data.buffer);
+    this.colors = { dark: 0, lit: 0 };
+    this.screen = new Uint8Array(COLUMNS * ROWS / 8);
+    this.painted = null;
+  }
+  become(colors) {
+    this.colors = colors;
+    this.painted = null;
+    this.paint();
+  }
+  paint() {
+    const { screen, colors: { dark, lit } } = this;
+    if (screen === this.painted) return;
+    this.painted = screen;
+    for (let it = 0; it < COLUMNS * ROWS; it++) this.points[it] = screen[it >> 3] >> (7 - (it & 7)) & 1 ? lit : dark;
+    this.context.putImageData(this.image, 0, 0);
+  }
 }
-
-function draw() {
-    const context = part("screen").getContext("2d");
-    const image = context.createImageData(64, 32);
-    for (let i = 0; i < 2048; i++) {
-        const lit = (screen[i >> 3] >> (7 - (i & 7))) & 1;
-        image.data.set(lit ? [230, 240, 230, 255] : [0, 0, 0, 255], 4 * i);
-    }
-    context.putImageData(image, 0, 0);
+function followColors(tell) {
+  const look = () => {
+    const colors = getComputedStyle(document.documentElement), [dark, lit] = ['--dark', '--lit'].map(it => pointOf(colors.getPropertyValue(it)));
+    tell({ dark, lit });
+  };
+  look();
+  matchMedia('(prefers-color-scheme: dark)').addEventListener('change', look);
 }
-
-// The keys that a player holds in the last frame shown.
-function held(player) {
-    if (shown === 0) return 0;
-    const start = 4 * (players * (shown - 1) + player - 1);
-    return parseInt(keys.slice(start, start + 4), 16);
+function pointOf(color) {
+  const [red, green, blue] = (color.match(/[0-9a-f]{2}/gi) ?? []).map(it => parseInt(it, 16));
+  return (0xff000000 | blue << 16 | green << 8 | red) >>> 0;
 }
-
-function drawPads() {
-    for (let player = 1; player <= players; player++) {
-        const set = held(player);
-        for (const key of part("pad" + player).children) {
-            key.className = (set >> parseInt(key.textContent, 16)) & 1 ? "held" : "";
-        }
-        const drop = drops.find(([who]) => who === player);
-        part("name" + player).className = drop && drop[1] <= shown ? "dropped" : "";
-    }
+const part = id => (document.getElementById(id));
+const textOf = id => (part(id).textContent ?? '').trim();
+const RATE = 60, SECOND = 1000, LONGEST_PAUSE = 250, TENTHS = 10, DIGITS = 4, PAD = '123c456d789ea0bf';
+const players = Number(textOf('players')), keys = textOf('keys'), pictures = textOf('pictures').split(',').slice(0, -1), frames = pictures.length;
+const drops = textOf('drops').split('\n').filter(line => line).map(line => line.split(' ').map(Number));
+const picture = new Picture(part('screen'));
+followColors(it => picture.become(it));
+const numbers = Array.from({ length: players }, (_, place) => place + 1);
+let shown = 0, isPlaying = false, last = 0, owed = 0;
+function change(screen, frame) {
+  const changes = pictures[frame];
+  const byte = (at) => parseInt(changes.slice(at, at + 2), 16);
+  for (let at = 0; at < changes.length; at += DIGITS) screen[byte(at)] ^= byte(at + 2);
 }
-
+function heldBy(player) {
+  const at = DIGITS * (players * (shown - 1) + player - 1);
+  return shown ? parseInt(keys.slice(at, at + DIGITS), 16) : 0;
+}
+function showKeys(player) {
+  const held = heldBy(player), drop = drops.find(([who]) => who === player);
+  for (const key of part(`pad${player}`).children) key.className = held >> parseInt(key.textContent ?? '', 16) & 1 ? 'held' : '';
+  part(`name${player}`).className = drop && drop[1] <= shown ? 'dropped' : '';
+}
 function show(frame) {
-    const wanted = Math.max(0, Math.min(frames, frame));
-    while (shown < wanted) change(shown++);
-    while (shown > wanted) change(--shown);
-    draw();
-    drawPads();
-    part("seek").value = shown;
-    part("where").textContent = `${shown}/${frames}`;
-    if (shown === frames) pause();
+  const wanted = Math.max(0, Math.min(frames, frame)), screen = picture.screen.slice();
+  while (shown < wanted) change(screen, shown++);
+  while (shown > wanted) change(screen, --shown);
+  picture.screen = screen;
+  picture.paint();
+  numbers.forEach(showKeys);
+  (part('seek')).value = String(shown);
+  part('where').textContent = `${shown}/${frames}`;
+  if (shown === frames) play(false);
 }
-
-function pause() {
-    playing = false;
-    part("play").textContent = "Play";
+function play(wanted) {
+  isPlaying = wanted && frames > 0;
+  owed = 0;
+  part('play').textContent = isPlaying ? 'Pause' : 'Play';
 }
-
 function toggle() {
-    if (playing) return pause();
-    if (shown === frames) show(0);
-    playing = frames > 0;
-    part("play").textContent = playing ? "Pause" : "Play";
-    owed = 0;
+  if (!isPlaying && shown === frames) show(0);
+  play(!isPlaying);
 }
-
 function turn(now) {
-    if (playing) {
-        owed += Math.min(now - last, 250) * RATE * Number(part("speed").value) / 1000;
-        const due = Math.floor(owed);
-        owed -= due;
-        if (due > 0) show(shown + due);
-    }
-    last = now;
-    requestAnimationFrame(turn);
+  owed += isPlaying ? Math.min(now - last, LONGEST_PAUSE) * RATE * Number((part('speed')).value) / SECOND : 0;
+  const due = Math.floor(owed);
+  owed -= due;
+  last = now;
+  if (due) show(shown + due);
+  requestAnimationFrame(turn);
 }
-
-function build() {
-    part("seek").max = frames;
-    for (let player = 1; player <= players; player++) {
-        const box = document.createElement("div");
-        const pad = [..."123c456d789ea0bf"].map(key => `<span>${key}</span>`).join("");
-        const drop = drops.find(([who]) => who === player);
-        const note = drop ? `, dropped at frame ${drop[1]}` : "";
-        box.innerHTML = `<span id="name${player}">player ${player}${note}</span><div class="pad" id="pad${player}">${pad}</div>`;
-        part("pads").append(box);
-    }
-    for (const [player, frame] of drops) {
-        if (frame > frames) continue;
-        const mark = document.createElement("span");
-        mark.textContent = `\u25b2 ${player}`;
-        mark.style.left = `${frames ? 98 * frame / frames : 0}%`;
-        part("marks").append(mark);
-    }
+function addPad(player) {
+  const box = document.createElement('div'), drop = drops.find(([who]) => who === player), note = drop ? `, dropped at frame ${drop[1]}` : '';
+  const pad = [...PAD].map(key => `<span>${key}</span>`).join('');
+  box.innerHTML = `<span id="name${player}">player ${player}${note}</span><div class="pad" id="pad${player}" aria-hidden="true">${pad}</div>`;
+  part('pads').append(box);
 }
-
-part("play").addEventListener("click", toggle);
-part("seek").addEventListener("input", () => show(Number(part("seek").value)));
-document.addEventListener("keydown", event => {
-    if (event.ctrlKey || event.altKey || event.metaKey) return;
-    const key = event.key;
-    if (key === " ") toggle();
-    else if (key === ".") { pause(); show(shown + 1); }
-    else if (key === "ArrowLeft") show(shown - RATE);
-    else if (key === "ArrowRight") show(shown + RATE);
-    else if (key >= "0" && key <= "9" && key.length === 1) show(Math.floor(frames * Number(key) / 10));
-    else return;
-    event.preventDefault();
+function addMark([player, frame]) {
+  if (frame > frames) return;
+  const mark = document.createElement('span');
+  mark.textContent = `\u25b2 ${player}`;
+  mark.style.left = `${frames ? 98 * frame / frames : 0}%`;
+  part('marks').append(mark);
+}
+const BY_KEY = {
+  ' ': toggle, '.': () => { play(false); show(shown + 1); }, ArrowLeft: () => show(shown - RATE), ArrowRight: () => show(shown + RATE),
+  Home: () => show(0), End: () => show(frames),
+};
+for (let it = 0; it < TENTHS; it++) BY_KEY[it] = () => show(Math.floor(frames * it / TENTHS));
+part('play').onclick = toggle;
+part('seek').oninput = () => show(Number((part('seek')).value));
+addEventListener('keydown', event => {
+  const act = BY_KEY[event.key];
+  const isTaken = event.target === part('speed') || (event.target === part('play') && event.key === ' ');
+  if (!act || isTaken || event.ctrlKey || event.altKey || event.metaKey) return;
+  act();
+  event.preventDefault();
 });
-build();
-show(0);
+numbers.forEach(addPad);
+drops.forEach(addMark);
+(part('seek')).max = String(frames);
+show(frames);
 requestAnimationFrame(turn);
 </script>
 </body>

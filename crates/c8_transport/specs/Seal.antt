@@ -11,6 +11,15 @@ match_key secret session = hmac secret (codes "c8play sealed 2" ++ to_be_bytes w
 abbrev pub watch_key : List ℕ → ℕ → List ℕ
 watch_key secret session = hmac secret (codes "c8play watched 2" ++ to_be_bytes w64 session)
 
+-- The name of a match's room at a relay, 16 bytes: who lacks the secret cannot tell it. The rooms of players and of watchers have
+-- the names of their own secrets.
+abbrev pub room_name : List ℕ → ℕ → List ℕ
+room_name secret session = take 16 (hmac secret (codes "c8play relay 1" ++ to_be_bytes w64 session))
+
+-- the watchers' secret of a match to which a link invites, from the players' secret
+abbrev pub secret_of_watchers : List ℕ → List ℕ
+secret_of_watchers secret = hmac secret (codes "c8play watchers 1")
+
 -- the bytes that are tagged: the datagram, and the counter of its packet
 abbrev pub counted : ℕ → List ℕ → List ℕ
 counted counter datagram = datagram ++ to_be_bytes w64 counter

@@ -39,10 +39,10 @@ pub use key::{Key, LONGEST_OPEN, LONGEST_SEALED, Opened, SEAL_LENGTH, SECRET_LEN
 pub use keys::{Seal, SealKeys, Secrets};
 pub use sealed::Sealed;
 pub use sealer::{Sealer, Taken};
-pub use secret::Secret;
+pub use secret::{NAME_LENGTH, Secret};
 pub use seen::Seen;
 pub use tagging::hmac;
 pub use traffic::Traffic;
 pub use wire::{
-    LONGEST_PACKET, LONGEST_READ, LONGEST_SENT, Losses, MOST_ADDED, MOST_PACKETS, Wire,
+    LONGEST_PACKET, LONGEST_READ, LONGEST_SENT, Losses, MOST_ADDED, MOST_PACKETS, Relaying, Wire,
 };

@@ -7,7 +7,7 @@ ghost use Rattle.c8_transport.specs.Wires.{HasOpened, HasPassed};
 use crate::error::{NotTaken, Unsealable, WireFailed};
 use crate::key::LONGEST_SEALED;
 use crate::sealer::Sealer;
-use crate::wire::{LONGEST_PACKET, LONGEST_READ, LONGEST_SENT, Losses, Wire};
+use crate::wire::{LONGEST_PACKET, LONGEST_READ, LONGEST_SENT, Losses, Relaying, Wire};
 use c8_wire::Seat;
 use std::time::Duration;
 
@@ -125,5 +125,9 @@ impl<W: Wire> Wire for Sealed<W> {
             repeated: below.repeated.saturating_add(self.repeated),
             ..below
         }
+    }
+
+    fn relaying(&self) -> Relaying {
+        self.below.relaying()
     }
 }

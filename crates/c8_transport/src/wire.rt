@@ -35,6 +35,21 @@ pub struct Losses {
     pub repeated: u64,
 }
 
+/// What a wire hears of the relay that it goes through.
+#[derive(Clone, Copy, Debug, PartialEq, Eq)]
+pub enum Relaying {
+    /// It goes through no relay.
+    Direct,
+    /// The relay has given the seat, or has had too little time to answer.
+    Joined,
+    /// The relay has not answered for this many seconds.
+    Silent(u64),
+    /// Somebody else has the seat.
+    Taken,
+    /// The relay has no room for another seat.
+    Full,
+}
+
 /// The way to the other players and to the watchers. It may lose, repeat or delay a datagram. No call but `wait` waits.
 pub trait Wire {
     /// The datagrams that it took to send and did not lose at once, oldest first.
@@ -73,5 +88,10 @@ pub trait Wire {
     /// What it has lost and turned away so far.
     fn losses(&self) -> Losses {
         Losses::default()
+    }
+
+    /// What it hears of the relay that it goes through.
+    fn relaying(&self) -> Relaying {
+        Relaying::Direct
     }
 }

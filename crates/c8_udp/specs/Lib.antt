@@ -1,4 +1,5 @@
 pub mod Contacts
 pub mod Errors
 pub mod Letters
+pub mod Members
 pub mod Words

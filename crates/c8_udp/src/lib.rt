@@ -4,7 +4,8 @@
 //! ([`Addresses`]), and returns only packets that come from these addresses. Below a wire that opens sealed packets it
 //! returns all packets, and learns addresses that are not named: that of the packet with the greatest counter (`contacts`,
 //! [`laws`]). A [`PolledUdp`] can also wait for a packet, until a [`Bell`] rings. A [`Socket`] is what a [`Udp`] needs of
-//! the system; a test can supply its own.
+//! the system; a test can supply its own. That of a match is a [`Route`]: straight to the others, or through a relay, as a
+//! [`Membership`] asks. [`address_at`] finds the addresses of hosts by their names.
 #![tactic(auto)]
 
 mod addresses;
@@ -12,13 +13,19 @@ mod contacts;
 mod error;
 pub mod laws;
 mod letter;
+mod membership;
+mod names;
 mod polled;
+mod route;
 mod socket;
 mod udp;
 
 pub use addresses::{Addresses, MOST_WATCHERS, Remote, refused_address};
 pub use error::{SocketError, SocketFault};
 pub use letter::Letter;
+pub use membership::Membership;
+pub use names::address_at;
 pub use polled::{Bell, PolledUdp};
+pub use route::Route;
 pub use socket::{Socket, SystemSocket};
 pub use udp::Udp;

@@ -1,7 +1,8 @@
 //! A wire that can wait for packets.
 
+use crate::route::Route;
 use crate::udp::Udp;
-use c8_transport::{Losses, Wire, WireFailed};
+use c8_transport::{Losses, Relaying, Wire, WireFailed};
 use c8_wire::Seat;
 use mio::event::Source;
 use mio::{Events, Interest, Poll, Token, Waker};
@@ -21,7 +22,7 @@ const MOST_EVENTS: usize = 2;
 #[derive(Drop)]
 pub struct PolledUdp<'r, R> {
     rt: &'r R,
-    udp: Udp,
+    udp: Udp<Route<'r, R>>,
     poll: Poll,
     events: Events,
 }
@@ -40,10 +41,10 @@ impl Bell {
     }
 }
 
-impl<'r, R: Net + AllocGlobal> PolledUdp<'r, R> {
+impl<'r, R: Net + Clock + AllocGlobal> PolledUdp<'r, R> {
     /// Makes a wire that can wait, and its bell. Fails if the system cannot poll, or if memory runs out
     /// (`OutOfMemory`).
-    pub fn over(rt: &'r R, udp: Udp) -> io::Result<(PolledUdp<'r, R>, Bell)> {
+    pub fn over(rt: &'r R, udp: Udp<Route<'r, R>>) -> io::Result<(PolledUdp<'r, R>, Bell)> {
         let mut udp = udp;
         let poll = Poll::new(rt)?;
         let events = Events::with_capacity(rt.alloc(), MOST_EVENTS)?;
@@ -85,5 +86,9 @@ impl<'r, R: Clock> Wire for PolledUdp<'r, R> {
 
     fn losses(&self) -> Losses {
         self.udp.losses()
+    }
+
+    fn relaying(&self) -> Relaying {
+        self.udp.relaying()
     }
 }

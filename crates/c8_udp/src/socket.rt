@@ -7,7 +7,7 @@ ghost use Rattle.c8_udp.specs.Letters.{LetterValue, letter};
 use crate::error::SocketFault;
 use crate::letter::Letter;
 use c8_disk::GhostList;
-use c8_transport::LONGEST_READ;
+use c8_transport::{LONGEST_READ, Relaying};
 use mio::event::Source;
 use mio::net::UdpSocket;
 use mio::{Interest, Registry, Token};
@@ -41,6 +41,11 @@ pub trait Socket {
             (λ r. gave self.new ≡ gave self.old ++ letter r.1 (take r.0 packet.new) ∷ [])
             (λ _. gave self.new ≡ gave self.old) }
         ensures took { took self.new ≡ took self.old };
+
+    /// What it hears of the relay that it goes through.
+    fn relaying(&self) -> Relaying {
+        Relaying::Direct
+    }
 }
 
 /// A socket of the system. Its two calls pass on those of `mio`, and note what they answer: that these notes are true of

@@ -10,7 +10,9 @@ use crate::addresses::{Addresses, MOST_SEATS};
 use crate::contacts::{Contact, Place};
 use crate::error::SocketFault;
 use crate::socket::{Socket, SystemSocket};
-use c8_transport::{LONGEST_PACKET, LONGEST_READ, LONGEST_SENT, Losses, Traffic, Wire, WireFailed};
+use c8_transport::{
+    LONGEST_PACKET, LONGEST_READ, LONGEST_SENT, Losses, Relaying, Traffic, Wire, WireFailed,
+};
 use c8_wire::Seat;
 use mio::event::Source;
 use mio::{Interest, Registry, Token};
@@ -218,6 +220,10 @@ impl<S: Socket> Wire for Udp<S> {
 
     fn losses(&self) -> Losses {
         self.losses
+    }
+
+    fn relaying(&self) -> Relaying {
+        self.socket.relaying()
     }
 }
 

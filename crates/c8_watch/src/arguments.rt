@@ -1,8 +1,9 @@
 //! The options of the command `watch`, and what they ask for.
 
 use crate::help::WATCH_ENDING;
-use c8_front::{Argument, Outline, is_explained, word_of};
+use c8_front::{Argument, Form, Outline, is_explained, word_of};
 use c8_net::number_of;
+use c8_net::options::{LOCAL, RELAY};
 use c8_wire::Watcher;
 use clap::ArgMatches;
 use clap::builder::ValueParser;
@@ -13,9 +14,11 @@ pub struct WatchAsked<'a> {
     /// The path of the game's text.
     pub game: &'a str,
     pub seat: Watcher,
+    /// The own address; with a relay it may be empty.
     pub local: &'a str,
-    /// Player 1's address.
+    /// Player 1's address or name; the relay's if the match goes through one.
     pub remote: &'a str,
+    pub has_relay: bool,
     /// The path of the watchers' secret, if the match has one.
     pub secret: Option<&'a str>,
     pub room: u64,
@@ -46,16 +49,14 @@ pub static WATCH: Outline = Outline {
             value: Some(ValueParser::Signed(5, 6)),
             ..Argument::NEEDED
         },
-        Argument {
-            name: "LOCAL",
-            help: "The own address, as 127.0.0.1:4005",
-            ..Argument::NEEDED
-        },
+        LOCAL,
         Argument {
             name: "REMOTE",
-            help: "Player 1's address",
+            help: "Player 1's address or name; with --relay it is left out",
+            form: Form::Optional,
             ..Argument::NEEDED
         },
+        RELAY,
         Argument {
             name: "room",
             help: "The number of the match, the same as its players'",
@@ -90,11 +91,13 @@ pub static WATCH: Outline = Outline {
 /// Returns what a parsed command line asks for. The parser has checked that each argument is present and in range.
 pub(crate) fn asked_of<'a>(given: &ArgMatches<'a>) -> Option<WatchAsked<'a>> {
     let seat = Watcher::new(given.get_one::<u8>("SEAT")?)?;
+    let relay = given.get_str("relay");
     Some(WatchAsked {
         game: word_of(given, "GAME"),
         seat,
         local: word_of(given, "LOCAL"),
-        remote: word_of(given, "REMOTE"),
+        remote: relay.unwrap_or(word_of(given, "REMOTE")),
+        has_relay: relay.is_some(),
         secret: given.get_str("secret"),
         room: number_of(given, "room").unwrap_or(0),
         turns: number_of(given, "turns").unwrap_or(0),

@@ -12,11 +12,11 @@ use c8_files::warn_of_readers;
 use c8_front::{Terminals, Threaded};
 use c8_game::Game;
 use c8_keys::{Played, write_report};
-use c8_net::{Fault, Line, PeerError, game_at, refuse, watch_seal_at};
+use c8_net::{Fault, Line, Named, PeerError, Reached, Sealing, game_at, refuse, watch_sealing_at};
 use c8_peer::OpenError;
 use c8_spectator::Spectator;
-use c8_transport::{Counters, Seal, Sealed, Sealer, Wire};
-use c8_udp::{Addresses, SocketError, SocketFault, refused_address};
+use c8_transport::{Counters, Sealed, Sealer, Wire};
+use c8_udp::{Addresses, SocketError, SocketFault};
 use c8_wire::Seat;
 use clap::ArgMatches;
 use std::io;
@@ -42,13 +42,36 @@ where
     ensures { IfOk result (λ status. status ≡ statuses.Done → HasWatchedThen status) }
 {
     match asked_of(given) {
-        Some(asked) if asked.screen && !terminals.output => {
-            writeln!(refused, "error: --screen wants a terminal to draw on")?;
-            Ok(Status::CommandLine)
-        }
-        Some(asked) => watch(rt, &asked, out, refused),
+        Some(asked) => match mistake_in(given, &asked, terminals) {
+            Some(mistake) => {
+                writeln!(refused, "error: {mistake}")?;
+                Ok(Status::CommandLine)
+            }
+            None => watch(rt, &asked, out, refused),
+        },
         None => Ok(Status::CommandLine),
     }
+}
+
+/// Returns why the options do not fit together; `None` if they do.
+fn mistake_in(
+    given: &ArgMatches<'_>,
+    asked: &WatchAsked<'_>,
+    terminals: Terminals,
+) -> Option<&'static str> {
+    if asked.screen && !terminals.output {
+        return Some("--screen wants a terminal to draw on");
+    }
+    if asked.has_relay && asked.secret.is_none() {
+        return Some("--relay needs --secret: a relay may read and keep what it carries");
+    }
+    if asked.has_relay && given.get_str("REMOTE").is_some() {
+        return Some("--relay stands for player 1's address: give no REMOTE beside it");
+    }
+    if !asked.has_relay && given.get_str("REMOTE").is_none() {
+        return Some("give LOCAL and REMOTE, or --relay");
+    }
+    None
 }
 
 /// Watches a match. The report of the machine after the frames that player 1 has shown goes to `out`, and before it the
@@ -75,7 +98,8 @@ where
             Ok(Status::Done)
         }
         Err(fault) => {
-            let word = refused_address(asked.local, &[asked.remote], [None, None], false);
+            let remotes = [asked.remote];
+            let word = named(asked, &remotes).refused(rt);
             refuse(rt.alloc(), asked.explain, word, &fault, refused)
         }
     }
@@ -90,20 +114,36 @@ where
     ensures { IfOk result (λ played. IsWatched (Ok played)) }
 {
     let game = game_at(rt, asked.game)?;
-    let session = game.session(asked.room);
-    let seal = watch_seal_at(rt, asked.secret, Seat::from(asked.seat), session)?;
-    match watched_at(rt, asked, &game, seal, out) {
+    let remotes = [asked.remote];
+    let Ok(reached) = Reached::of(rt, &named(asked, &remotes), 1) else {
+        return Err(Fault::new(rt.alloc(), PeerError::Open(OpenError::Memory), asked.game));
+    };
+    let (session, seat) = (game.session(asked.room), Seat::from(asked.seat));
+    let sealing = watch_sealing_at(rt, asked.secret, seat, session, reached.relay())?;
+    match watched_at(rt, asked, &game, &reached, sealing, out) {
         Ok(played) => Ok(played),
         Err(error) => Err(Fault::new(rt.alloc(), error, asked.game)),
     }
 }
 
-/// Watches a match of a game, by sealed packets if there is a seal.
+/// The words for addresses.
+fn named<'m, 'a>(asked: &WatchAsked<'a>, remotes: &'m [&'a str]) -> Named<'m, 'a> {
+    Named {
+        local: asked.local,
+        remotes: Some(remotes),
+        relay: asked.has_relay.then_some(asked.remote),
+        watchers: [None, None],
+        may_learn: false,
+    }
+}
+
+/// Watches a match of a game, by sealed packets if the match has a secret.
 fn watched_at<R, W>(
     rt: &R,
     asked: &WatchAsked<'_>,
     game: &Game,
-    seal: Option<Seal>,
+    reached: &Reached,
+    sealing: Option<Sealing>,
     out: &mut W,
 ) -> Result<Played, PeerError>
 where
@@ -111,16 +151,16 @@ where
     W: Write,
     ensures { IfOk result (λ played. IsWatched (Ok played)) }
 {
-    let addresses = match Addresses::of_player_one(asked.local, asked.remote) {
+    let addresses = match Addresses::of_player_one(reached.local(), reached.remote()) {
         Ok(addresses) => addresses,
         Err(error) => return Err(PeerError::Socket(error)),
     };
-    let line = Line { addresses, seal };
+    let line = Line { addresses, sealing };
     match line.open(rt) {
-        Ok(wire) => match line.seal {
+        Ok(wire) => match line.sealing {
             None => watch_on(rt, asked, game, wire, out),
-            Some(seal) => {
-                let sealer = Sealer::new(seal, Counters::of_time(millis(rt)));
+            Some(sealing) => {
+                let sealer = Sealer::new(sealing.seal, Counters::of_time(millis(rt)));
                 watch_on(rt, asked, game, Sealed::over(wire, sealer), out)
             }
         },

@@ -17,14 +17,16 @@ Two players and a watcher, each in a terminal of their own:
   ./c8play peer games/duel.game 2 two.journal 127.0.0.1:4002 127.0.0.1:4001 < games/duel.2.keys
   ./c8play watch games/duel.game 5 127.0.0.1:4005 127.0.0.1:4001 --screen
 
+With --relay neither LOCAL nor REMOTE is needed. It needs --secret, and player 1 gives --watch5 -.
+
 Refusals, each one line on standard error, as 'refused: game 5 Hex':
   game 1 Line to 6 Memory: those of the command run
   secret 1 Bad        a secret that is not 64 hexadecimal digits and at most one line feed
   open 5 Memory       out of memory at the start
   disk 1 Failed       a file that cannot be read, or a text above 16777216 bytes
   socket 1 Failed     the socket cannot be opened, or was closed, or 4294967295 packets were sealed
-  socket 3 Address    an address that is not written as 127.0.0.1:4001; or a REMOTE with port 0, or
-                      of another IP version than LOCAL
+  socket 3 Address    an address that is not written as 127.0.0.1:4001, or a name that the system does not
+                      find; or a REMOTE with port 0, or of another IP version than LOCAL
   socket 4 Thread     the system starts no more threads
 
 Exit status: 0 done, 1 refused, 2 a mistake in the command line, 3 a disk or a socket failed";

@@ -6,8 +6,10 @@ use c8_command::Status;
 use c8_front::{
     RUN, SHOW, Terminals, Threaded, is_explained, status_at, tell, with_commands, word_of, words_in,
 };
+use c8_journals::{JOURNAL, journal_given};
 use c8_keys::run_files;
 use c8_match::{match_commands, match_given};
+use c8_relay_web::{RELAY_COMMAND, relay_given};
 use c8_replay::{REPLAY, replay_given};
 use c8_script::{RIG, SIM, rig_given, sim_given};
 use c8_show::show;
@@ -16,6 +18,7 @@ use std::alloc::{AllocError, Global};
 use std::env::Args;
 use std::io;
 use std::io::{Read, Write};
+use std::random::RandomSource;
 
 /// Runs the program with these arguments, and returns its exit status. `input` is standard input. Output goes to `out`,
 /// and refusals to `refused`.
@@ -28,7 +31,7 @@ pub fn answer<R, I, W: Write, E: Write + Send>(
     refused: &mut E,
 ) -> Status
 where
-    R: Threaded,
+    R: Threaded + RandomSource + Clone + Drop,
     I: Read + Drop,
 {
     let ended = obey(rt, args, input, out, terminals, refused);
@@ -45,7 +48,7 @@ fn obey<R, I, W: Write, E: Write + Send>(
     refused: &mut E,
 ) -> io::Result<Status>
 where
-    R: Threaded,
+    R: Threaded + RandomSource + Clone + Drop,
     I: Read + Drop,
 {
     let Some(words) = words_in(rt.alloc(), args, refused)? else {
@@ -68,7 +71,21 @@ fn command<'a>(alloc: Global) -> Result<Command<'a>, AllocError> {
         .arg_required_else_help(true);
     let [peer, play, host, join, watch, secret, game] = match_commands();
     let commands = [
-        &RUN, peer, play, host, join, watch, &REPLAY, &AUDIT, &SIM, &RIG, &SHOW, secret, game,
+        &RUN,
+        peer,
+        play,
+        host,
+        join,
+        watch,
+        &RELAY_COMMAND,
+        &REPLAY,
+        &AUDIT,
+        &JOURNAL,
+        &SIM,
+        &RIG,
+        &SHOW,
+        secret,
+        game,
     ];
     with_commands(alloc, line, &commands)
 }
@@ -83,7 +100,7 @@ fn carry_out<R, I, W: Write, E: Write + Send>(
     refused: &mut E,
 ) -> io::Result<Status>
 where
-    R: Threaded,
+    R: Threaded + RandomSource + Clone + Drop,
     I: Read + Drop,
 {
     let Some((name, given)) = matches.subcommand() else {
@@ -104,15 +121,17 @@ fn carry_out_alone<R, W: Write, E: Write + Send>(
     refused: &mut E,
 ) -> io::Result<Status>
 where
-    R: Threaded,
+    R: Threaded + RandomSource + Clone + Drop,
 {
     match name {
         "run" => {
             let (game, keys) = (word_of(given, "GAME"), word_of(given, "KEYS"));
             run_files(rt, game, keys, is_explained(given), out, refused)
         }
+        "relay" => relay_given(rt, given, out, refused),
         "replay" => replay_given(rt, given, out, refused),
         "audit" => audit_given(rt, given, out, refused),
+        "journal" => journal_given(rt, given, out, refused),
         "sim" => sim_given(rt, given, out, refused),
         "rig" => rig_given(rt, given, out, refused),
         "show" => {

@@ -32,6 +32,19 @@ impl Notes {
         self.took = self.took.and(&Letter::of(to, datagram));
     }
 
+    /// Gives a packet of these bytes, as many as have a place, and returns its length.
+    pub(crate) fn give(&mut self, from: SocketAddr, bytes: &[u8], packet: &mut [u8]) -> usize
+        requires { length packet.old ≤ LONGEST_READ }
+        ensures within { IsPrefixLen result packet.new }
+        ensures gave { self.new.gave.items ≡ self.old.gave.items ++ letter from (take result packet.new) ∷ [] }
+        ensures took { self.new.took.items ≡ self.old.took.items }
+    {
+        let size = packet.len().min(bytes.len());
+        packet[..size].copy_from_slice(&bytes[..size]);
+        self.gave = self.gave.and(&Letter::of(from, &packet[..size]));
+        size
+    }
+
     /// Gives a packet of one byte, 7, or of none if there is no place, and returns its length.
     pub(crate) fn give_seven(&mut self, from: SocketAddr, packet: &mut [u8]) -> usize
         requires { length packet.old ≤ LONGEST_READ }

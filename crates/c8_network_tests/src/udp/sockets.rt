@@ -1,7 +1,7 @@
 //! The way to the other players, over the loopback, with sockets of the system.
 use c8_game::Player;
 use c8_transport::{LONGEST_PACKET, Wire};
-use c8_udp::{Addresses, PolledUdp, Remote, SocketFault, Udp};
+use c8_udp::{Addresses, PolledUdp, Remote, Route, SocketFault, SystemSocket, Udp};
 use c8_wire::Seat;
 use std::net::{Ipv4Addr, SocketAddr, UdpSocket};
 use std::test::Fail;
@@ -17,14 +17,27 @@ pub(crate) fn any() -> SocketAddr {
     SocketAddr::from((Ipv4Addr::LOCALHOST, 0))
 }
 
-/// A wire of player 1 at any free port, to the address of player 2.
-fn wire_to(rt: &HostRuntime, other: SocketAddr) -> Result<Udp, SocketFault> {
-    let addresses = Addresses {
+/// The addresses of player 1 at any free port, and of player 2.
+fn addresses_to(other: SocketAddr) -> Addresses {
+    Addresses {
         local: any(),
         others: [None, Some(Remote::At(other)), None, None],
         watchers: [None, None],
-    };
-    Udp::open(rt, &addresses)
+    }
+}
+
+/// A wire of player 1 to the address of player 2.
+fn wire_to(rt: &HostRuntime, other: SocketAddr) -> Result<Udp, SocketFault> {
+    Udp::open(rt, &addresses_to(other))
+}
+
+/// The same wire over a route without a relay.
+fn route_to(
+    rt: &HostRuntime,
+    other: SocketAddr,
+) -> Result<Udp<Route<'_, HostRuntime>>, SocketFault> {
+    let socket = SystemSocket::bind(rt, any())?;
+    Ok(Udp::over(Route::new(rt, socket, None), &addresses_to(other)))
 }
 
 /// A socket of another player.
@@ -100,7 +113,7 @@ fn waited(
 #[test]
 fn a_packet_or_the_bell_ends_a_wait(rt: HostRuntime) -> Result<(), Fail> {
     let other = other_socket(&rt)?;
-    let (mut wire, bell) = PolledUdp::over(&rt, wire_to(&rt, other.local_addr()?)?)?;
+    let (mut wire, bell) = PolledUdp::over(&rt, route_to(&rt, other.local_addr()?)?)?;
     let short = Duration::from_millis(30);
     assert!(rt; waited(&rt, &mut wire, short)? >= short);
     assert!(rt; wire.send(Seat::from(TWO), b"datagram").is_ok() && answer_twice(&other)?);

@@ -1,6 +1,6 @@
 //! The journal of a match of two friends.
 
-use crate::host_command::{Match, NONE};
+use crate::friends::{Match, NONE};
 use c8_files::slow_record;
 use clap::ArgMatches;
 use std::alloc::{AllocError, Global};

@@ -1,8 +1,9 @@
 //! The options of the commands `host` and `join`.
 
-use crate::arguments::{HOLD, MUTE};
-use crate::host_help::{HOST_ENDING, JOIN_ENDING};
-use c8_front::{Argument, Outline};
+use crate::help::{HOST_ENDING, JOIN_ENDING};
+use c8_front::{Argument, Form, Outline};
+use c8_net::options::RELAY;
+use c8_play::{HOLD, MUTE};
 use clap::builder::ValueParser;
 
 const GAME: Argument = Argument {
@@ -38,9 +39,12 @@ pub static HOST: Outline = Outline {
     takes: &[
         GAME,
         Argument {
-            help: "The UDP port to open, on all addresses of this machine",
-            default: Some("4001"),
+            help: "The UDP port to open, on all addresses of this machine [default: 4001, with --relay any]",
             ..PORT
+        },
+        Argument {
+            help: "Meets the others at the relay with this address or name, as relay.example.org:4001; draws one of a list with commas",
+            ..RELAY
         },
         Argument {
             name: "room",
@@ -69,14 +73,25 @@ pub static JOIN: Outline = Outline {
         GAME,
         Argument {
             name: "ADDRESS",
-            help: "The friend's address and port, as 192.0.2.7:4001",
+            help: "The friend's address or name with its port, as 192.0.2.7:4001; with --relay left out",
             ..Argument::NEEDED
         },
         Argument {
             name: "ROOM",
             help: "The number of the match, which the friend's terminal shows",
-            value: Some(ValueParser::Unsigned(0, u64::MAX)),
+            form: Form::Optional,
             ..Argument::NEEDED
+        },
+        Argument {
+            help: "Meets the others at the relay with this address or name, as the friend's terminal shows",
+            ..RELAY
+        },
+        Argument {
+            name: "player",
+            help: "The number of the own player, 2 to 4 (with --relay)",
+            value: Some(ValueParser::Signed(2, 4)),
+            default: Some("2"),
+            ..Argument::NUMBER
         },
         PORT,
         Argument {

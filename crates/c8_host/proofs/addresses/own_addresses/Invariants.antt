@@ -1,7 +1,7 @@
 -- What follows the last address found is text, so it can be split there.
 use denote.Text.{Utf8}
 use denote.Shadow.{shadow}
-use Rattle.c8_play.proofs.addresses.own_addresses.Given as goal
+use Rattle.c8_host.proofs.addresses.own_addresses.Given as goal
 
 -- the last address is text
 abbrev pub invariant-loop-line : goal.invariant-loop-line

@@ -7,10 +7,15 @@ of the secret: send it by a way that nobody else reads. GAME.secret is made once
 matches of this game. The room is new each time.
 
   ./c8play host games/rally.game
+  ./c8play host games/rally.game --relay relay.example.org:4001
+
+With --relay nobody opens a port, and a game may have up to four players: all meet at a relay, a server on
+which `c8play relay` runs. If that serves the page, the terminal also shows a link for each other player: who
+opens it in a browser plays. A link holds the secret, so send it by a way that nobody else reads.
 
 The match begins once the friend is there; until then the row below the picture says for whom it waits.
-A friend in another network needs your router's address, and the router forwards the UDP port to this
-machine. Keys, screen and the rest are as in the command play; both players have 60 frames a second.
+Without a relay a friend in another network needs your router's address, and the router forwards the UDP
+port to this machine. Keys, screen and the rest are as in the command play; both players have 60 frames a second.
 
 Each player keeps a journal beside the secret, as rally.game.3735928559.1.journal: a player whose program ends
 comes back with the same line, the one who hosts with --room ROOM. If the disk is too slow for that, the
@@ -25,6 +30,7 @@ digits from standard input, unseen, and keeps them in that file:
 
   ./c8play join games/rally.game 192.0.2.7:4001 3735928559 --secret rally.game.secret
   ./c8play join games/rally.game 192.0.2.7:4001 3735928559
+  ./c8play join games/rally.game 3735928559 --relay relay.example.org:4001 --secret rally.game.secret
 
 Keys, screen and the rest are as in the command play; both players have 60 frames a second. After a crash the
 same line goes on where the match was: a journal stands beside the secret, unless --no-journal.

@@ -5,6 +5,12 @@ use std::alloc::{AllocError, Global};
 /// The first row of the terminal below the picture and its row of text, with a row between.
 const FIRST_ROW: usize = 19;
 
+/// The columns of the narrowest terminal.
+const COLUMNS: usize = 64;
+
+/// How a link begins.
+const LINK: &str = "http://";
+
 /// The lines for the person who hosts: what a friend has to have and to type. `game` and `secret` are paths, `addresses`
 /// those of this machine.
 pub fn invitation(
@@ -37,19 +43,34 @@ fn shown(alloc: Global, addresses: &[&str]) -> Result<String, AllocError> {
     Ok(shown)
 }
 
-/// The bytes that write lines below the picture of a terminal.
+/// The bytes that write lines below the picture of a terminal. The terminal wraps a link where it is narrower, so that the
+/// link can be selected as one; each link gets the rows that it needs on 64 columns.
 pub fn note(alloc: Global, lines: &str) -> Result<String, AllocError> {
     let mut note = String::new(alloc);
-    for (place, line) in lines.lines().enumerate() {
-        let row = place.saturating_add(FIRST_ROW);
-        let written = format!(in alloc; "\x1b[{row};1H\x1b[K{line}")?;
+    let mut row: usize = FIRST_ROW;
+    for line in lines.lines() {
+        let written = if line.starts_with(LINK) {
+            format!(in alloc; "\x1b[{row};1H\x1b[K\x1b[?7h{line}\x1b[?7l")?
+        } else {
+            format!(in alloc; "\x1b[{row};1H\x1b[K{line}")?
+        };
         note.push_str(written.as_str())?;
+        row = row.saturating_add(rows_of(line));
     }
     Ok(note)
 }
 
+/// How many rows a line gets.
+fn rows_of(line: &str) -> usize {
+    if line.starts_with(LINK) {
+        line.len().div_ceil(COLUMNS).max(1)
+    } else {
+        1
+    }
+}
+
 /// The path at which a friend has the game: the same in the folder of the program, if it is in there.
-fn friends_path(path: &str) -> &str {
+pub(crate) fn friends_path(path: &str) -> &str {
     if path.starts_with('/') {
         last_part(path)
     } else {
@@ -58,7 +79,7 @@ fn friends_path(path: &str) -> &str {
 }
 
 /// The name of a file, without its folders.
-fn last_part(path: &str) -> &str {
+pub(crate) fn last_part(path: &str) -> &str {
     match path.rsplit_once('/') {
         Some((_, name)) => name,
         None => path,

@@ -1,0 +1,239 @@
+//! What `host` and `join` have in common: the match, its game, and how it is played.
+
+ghost use Rattle.std.specs.Prelude.{◌≡◌, ◌≢◌, IfOk, IfSome, Ok};
+ghost use Rattle.c8_command.specs.declared.status.Status.TheVariants as statuses;
+ghost use Rattle.c8_command.specs.declared.status.Status.{Status};
+ghost use Rattle.c8_host.specs.declared.friends.Found.TheVariants as found;
+ghost use Rattle.c8_net.specs.Answers.{EndsMatch};
+
+use crate::journals::journal_for;
+use c8_command::Status;
+use c8_front::{System, is_explained, word_of};
+use c8_game::{Game, Player};
+use c8_net::{Asked, Fault, PeerError, game_at, perform_given, refuse};
+use c8_play::{Live, Tempo, Terminal};
+use c8_udp::{SocketError, address_at};
+use clap::ArgMatches;
+use std::alloc::{AllocError, Global};
+use std::fs::File;
+use std::io;
+use std::io::Write;
+use std::net::Net;
+use std::rt::Files;
+
+/// How many frames a second a match of two friends has.
+const RATE: u8 = 60;
+
+/// The word for no journal, and for an address that is learnt.
+pub(crate) const NONE: &str = "-";
+
+/// What a match takes beside what both commands ask for.
+#[derive(Drop)]
+pub(crate) struct Match {
+    /// The path of the game.
+    pub(crate) game: String,
+    pub(crate) player: Player,
+    pub(crate) local: String,
+    /// The friend's address; empty with a relay.
+    pub(crate) remote: String,
+    /// The relay's address or name, if the match goes through one.
+    pub(crate) relay: Option<String>,
+    pub(crate) room: u64,
+    /// The path of the secret.
+    pub(crate) secret: String,
+}
+
+impl Match {
+    /// What `play` is asked for. Nothing is said of the tone and of refusals.
+    fn asked<'m, 'a>(&'a self, journal: &'a str, remotes: &'m [&'a str]) -> Asked<'m, 'a> {
+        Asked {
+            game: self.game.as_str(),
+            player: self.player,
+            journal,
+            local: self.local.as_str(),
+            remotes: self.relay.is_none().then_some(remotes),
+            relay: self.relay.as_deref(),
+            watchers: [None, None],
+            secret: Some(self.secret.as_str()),
+            watch_secret: None,
+            room: self.room,
+            has_room: true,
+            turns: u64::MAX,
+            patience: None,
+            stop: None,
+            checkpoint: 0,
+            progress: false,
+            says_end: true,
+            is_muted: false,
+            explain: false,
+        }
+    }
+}
+
+/// The game of a match, if it can be played.
+#[derive(Drop)]
+pub(crate) enum Found {
+    Game(Game),
+    /// What is wrong with it was written.
+    Refused(Status),
+}
+
+/// Whether a match can begin.
+#[derive(Drop)]
+pub(crate) enum Begun {
+    /// The note stands on the screen, below the picture. `waits`: first a key has to be pressed.
+    Match {
+        wanted: Match,
+        note: String,
+        waits: bool,
+    },
+    /// What is missing was written.
+    Refused(Status),
+}
+
+/// A match through a relay.
+pub(crate) fn met_at(
+    alloc: Global,
+    given: &ArgMatches<'_>,
+    relay: &str,
+    player: Player,
+    room: u64,
+    secret: String,
+) -> Result<Match, AllocError> {
+    let port = given.get_one::<u16>("port").unwrap_or(0);
+    let local = if port == 0 {
+        String::new(alloc)
+    } else {
+        format!(in alloc; "0.0.0.0:{port}")?
+    };
+    Ok(Match {
+        game: format!(in alloc; "{}", word_of(given, "GAME"))?,
+        player,
+        local,
+        remote: String::new(alloc),
+        relay: Some(format!(in alloc; "{relay}")?),
+        room,
+        secret,
+    })
+}
+
+/// Refuses a relay that has no address; `None` if it has one, or if none is asked for.
+pub(crate) fn refuse_relay<R, E>(
+    rt: &R,
+    given: &ArgMatches<'_>,
+    relay: Option<&str>,
+    refused: &mut E,
+) -> io::Result<Option<Status>>
+where
+    R: Net + AllocGlobal,
+    E: Write,
+    ensures { IfOk result (λ told. IfSome told (λ status. status ≢ statuses.Done)) }
+{
+    let Some(relay) = relay else {
+        return Ok(None);
+    };
+    if address_at(rt, relay, None).is_some() {
+        return Ok(None);
+    }
+    let error = PeerError::Socket(SocketError::Address);
+    let fault = Fault::new(rt.alloc(), error, relay);
+    let status = refuse(
+        rt.alloc(),
+        is_explained(given),
+        Some(relay),
+        &fault,
+        refused,
+    )?;
+    Ok(Some(status))
+}
+
+/// Plays the match with the journal that the command line asks for.
+pub(crate) fn play<R, W, E>(
+    rt: &R,
+    given: &ArgMatches<'_>,
+    wanted: Match,
+    console: Terminal<'_, R>,
+    out: &mut W,
+    refused: &mut E,
+) -> io::Result<Status>
+where
+    R: System,
+    W: Write,
+    E: Write,
+    ensures { IfOk result (EndsMatch (W.contents out.old) (W.contents out.new)) }
+{
+    let journal = journal_for(rt, given, &wanted, refused)?;
+    let remotes = [wanted.remote.as_str()];
+    let asked = Asked {
+        is_muted: given.get_flag("mute"),
+        explain: is_explained(given),
+        ..wanted.asked(journal.as_str(), &remotes)
+    };
+    let hold = given.get_one::<u8>("hold").unwrap_or(9).max(1);
+    let pace = Tempo { rate: RATE, hold };
+    play_asked(rt, &asked, Live { console, pace }, out, refused)
+}
+
+/// Plays as `play` does, and says how a match with a journal is seen again.
+fn play_asked<R, W, E>(
+    rt: &R,
+    asked: &Asked<'_, '_>,
+    live: Live<Terminal<'_, R>>,
+    out: &mut W,
+    refused: &mut E,
+) -> io::Result<Status>
+where
+    R: System,
+    W: Write,
+    E: Write,
+    ensures { IfOk result (EndsMatch (W.contents out.old) (W.contents out.new)) }
+{
+    let status = perform_given(rt, asked, live, out, refused)?;
+    if status == Status::Done && !asked.has_no_journal() {
+        let (game, journal) = (asked.game, asked.journal);
+        writeln!(
+            refused,
+            "to see it again: ./c8play replay {game} {journal} --screen"
+        )?;
+    }
+    Ok(status)
+}
+
+/// The path of the secret: the one that is given, or that of the game with `.secret` behind it.
+pub(crate) fn secret_path(alloc: Global, given: &ArgMatches<'_>) -> Result<String, AllocError> {
+    match given.get_str("secret") {
+        Some(path) => format!(in alloc; "{path}"),
+        None => format!(in alloc; "{}.secret", word_of(given, "GAME")),
+    }
+}
+
+/// Reads the game. It is refused if it cannot be read, or if it is not for two players and there is no relay.
+pub(crate) fn game_for<R, E>(
+    rt: &R,
+    given: &ArgMatches<'_>,
+    command: &str,
+    refused: &mut E,
+) -> io::Result<Found>
+where
+    R: Files<File = File> + AllocGlobal,
+    E: Write,
+    ensures { (status : Status) → result ≡ Ok (found.Refused status) → status ≢ statuses.Done }
+{
+    match game_at(rt, word_of(given, "GAME")) {
+        Ok(game) if game.players() == 2 || given.get_str("relay").is_some() => {
+            Ok(Found::Game(game))
+        }
+        Ok(game) => {
+            let players = game.players();
+            writeln!(
+                refused,
+                "error: without --relay {command} is for games of two players; this one has {players}: use play"
+            )?;
+            Ok(Found::Refused(Status::CommandLine))
+        }
+        Err(fault) => {
+            let status = refuse(rt.alloc(), is_explained(given), None, &fault, refused)?;
+            Ok(Found::Refused(status))
+        }
+    }
+}

@@ -1,0 +1,217 @@
+//! Runs `host`.
+
+ghost use Rattle.std.specs.Prelude.{◌≡◌, ◌≢◌, IfOk, Ok};
+ghost use Rattle.c8_command.specs.declared.status.Status.TheVariants as statuses;
+ghost use Rattle.c8_command.specs.declared.status.Status.{Status};
+ghost use Rattle.c8_host.specs.declared.friends.Begun.TheVariants as begun;
+ghost use Rattle.c8_net.specs.Answers.{EndsMatch};
+
+use crate::addresses::{LIST, own_addresses};
+use crate::friends::{
+    Begun, Found, Match, NONE, game_for, met_at, play, refuse_relay, secret_path,
+};
+use crate::inviting::{invitation, note};
+use crate::meeting::{Invitation, Meeting, invitation_over};
+use c8_command::{Refusal, Site, Status};
+use c8_files::{make_secret, random_bytes};
+use c8_front::{System, is_explained, word_of};
+use c8_game::{Game, Player};
+use c8_net::number_of;
+use c8_play::{Console, KEY_BYTES, Terminal};
+use clap::ArgMatches;
+use std::alloc::{AllocError, Global};
+use std::fs::File;
+use std::io::Write;
+use std::net::Net;
+use std::rt::Files;
+use std::time::Duration;
+use std::{fs, io};
+
+/// The UDP port of a host without a relay.
+const PORT: u16 = 4001;
+
+/// For how many milliseconds it rests between two looks for a key, and how often it looks: for an hour.
+const LOOK: u64 = 50;
+
+const MOST_LOOKS: u32 = 72_000;
+
+/// Runs `host` as the command line asks: makes the secret if it is missing, shows the invitation, and plays as player 1.
+/// The error is a writer's, or that memory ran out.
+pub fn host_given<R, W, E>(
+    rt: &R,
+    given: &ArgMatches<'_>,
+    out: &mut W,
+    refused: &mut E,
+) -> io::Result<Status>
+where
+    R: System,
+    W: Write,
+    E: Write,
+    ensures { IfOk result (EndsMatch (W.contents out.old) (W.contents out.new)) }
+{
+    let game = match game_for(rt, given, "host", refused)? {
+        Found::Game(game) => game,
+        Found::Refused(status) => return Ok(status),
+    };
+    let Ok(mut console) = Terminal::open(rt) else {
+        writeln!(refused, "error: host wants a terminal")?;
+        return Ok(Status::CommandLine);
+    };
+    match invited(rt, given, &game, refused)? {
+        Begun::Match {
+            wanted,
+            note,
+            waits,
+        } => {
+            if waits {
+                writeln!(refused, "Press a key to begin.")?;
+                wait_for_key(&mut console);
+            }
+            let console = console.with_note(note.as_bytes());
+            play(rt, given, wanted, console, out, refused)
+        }
+        Begun::Refused(status) => Ok(status),
+    }
+}
+
+/// Waits until a key is pressed, for an hour at most.
+fn wait_for_key<C: Console>(console: &mut C) {
+    let mut bytes = [0; KEY_BYTES];
+    for _ in 0..MOST_LOOKS {
+        match console.keys(&mut bytes) {
+            Ok(0) => console.sleep(Duration::from_millis(LOOK)),
+            _ => break,
+        }
+    }
+}
+
+/// The match that a host invites to; the invitation is written. It is refused if the relay has no address, or if the
+/// secret's file fails.
+fn invited<R, E>(rt: &R, given: &ArgMatches<'_>, game: &Game, refused: &mut E) -> io::Result<Begun>
+where
+    R: Files<File = File> + Net + AllocGlobal,
+    E: Write,
+    ensures { (status : Status) → result ≡ Ok (begun.Refused status) → status ≢ statuses.Done }
+{
+    let relay = match given.get_str("relay") {
+        Some(list) => Some(one_of(rt, list)?),
+        None => None,
+    };
+    if let Some(status) = refuse_relay(rt, given, relay, refused)? {
+        return Ok(Begun::Refused(status));
+    }
+    let secret = secret_path(rt.alloc(), given)?;
+    let room = match made(rt, secret.as_str()) {
+        Ok(drawn) => number_of(given, "room").unwrap_or(drawn),
+        Err(error) => {
+            let site = is_explained(given).then_some(Site::File(secret.as_str()));
+            let status = Refusal::DISK.tell_at(site, &error, refused)?;
+            return Ok(Begun::Refused(status));
+        }
+    };
+    if let Some(relay) = relay {
+        let meeting = Meeting {
+            path: word_of(given, "GAME"),
+            game,
+            relay,
+            secret: secret.as_str(),
+            room,
+        };
+        let Invitation { lines, fits } = invitation_over(rt, meeting)?;
+        refused.write_all(lines.as_bytes())?;
+        let below = if fits { lines.as_str() } else { "" };
+        let note = note(rt.alloc(), below)?;
+        let wanted = met_at(rt.alloc(), given, relay, Player::CHAIR, room, secret)?;
+        let waits = !fits;
+        return Ok(Begun::Match {
+            wanted,
+            note,
+            waits,
+        });
+    }
+    let port = given.get_one::<u16>("port").unwrap_or(PORT);
+    let note = invite(rt, given, secret.as_str(), port, room, refused)?;
+    let wanted = hosted(rt.alloc(), given, secret, port, room)?;
+    let waits = false;
+    Ok(Begun::Match {
+        wanted,
+        note,
+        waits,
+    })
+}
+
+/// Draws one of the relays of a list with commas.
+fn one_of<'a, R>(rt: &R, list: &'a str) -> io::Result<&'a str>
+where
+    R: Files<File = File> + AllocGlobal,
+{
+    let count = list.split(',').count();
+    let [drawn, ..] = random_bytes(rt)?;
+    let place = usize::from(drawn).checked_rem(count).unwrap_or(0);
+    Ok(list.split(',').nth(place).unwrap_or(list))
+}
+
+/// Writes the invitation, and returns the note on the screen.
+fn invite<R, E>(
+    rt: &R,
+    given: &ArgMatches<'_>,
+    secret: &str,
+    port: u16,
+    room: u64,
+    refused: &mut E,
+) -> io::Result<String>
+where
+    R: Files<File = File> + AllocGlobal,
+    E: Write,
+{
+    let lines = lines_of(rt, given, secret, port, room)?;
+    refused.write_all(lines.as_bytes())?;
+    Ok(note(rt.alloc(), lines.as_str())?)
+}
+
+/// The match of a host.
+fn hosted(
+    alloc: Global,
+    given: &ArgMatches<'_>,
+    secret: String,
+    port: u16,
+    room: u64,
+) -> Result<Match, AllocError> {
+    Ok(Match {
+        game: format!(in alloc; "{}", word_of(given, "GAME"))?,
+        player: Player::CHAIR,
+        local: format!(in alloc; "0.0.0.0:{port}")?,
+        remote: format!(in alloc; "{NONE}")?,
+        relay: None,
+        room,
+        secret,
+    })
+}
+
+/// Makes the secret's file if it is missing, and draws a room of 32 bits.
+fn made<R: Files<File = File> + AllocGlobal>(rt: &R, secret: &str) -> io::Result<u64> {
+    make_secret(rt, secret)?;
+    let [one, two, three, four, ..] = random_bytes(rt)?;
+    Ok(u64::from(u32::from_be_bytes([one, two, three, four])))
+}
+
+/// The lines of the invitation, with the addresses of this machine.
+fn lines_of<R>(
+    rt: &R,
+    given: &ArgMatches<'_>,
+    secret: &str,
+    port: u16,
+    room: u64,
+) -> io::Result<String>
+where
+    R: Files<File = File> + AllocGlobal,
+{
+    let list = match fs::read_to_string(rt, LIST) {
+        Ok(list) => list,
+        Err(error) if error.kind() == io::ErrorKind::OutOfMemory => return Err(error),
+        Err(_) => String::new(rt.alloc()),
+    };
+    let addresses = own_addresses(rt.alloc(), list.as_str())?;
+    let game = word_of(given, "GAME");
+    Ok(invitation(rt.alloc(), game, secret, &addresses, port, room)?)
+}

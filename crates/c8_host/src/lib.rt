@@ -1,0 +1,29 @@
+//! The commands `host` and `join`: `play` for friends, with a secret and a journal each.
+//!
+//! `host` is player 1: it makes the secret, writes the invitation, and plays. Without a relay it names its own addresses
+//! ([`invitation`], [`own_addresses`]), and learns where the friend is. Through a relay it shows a link for each other player
+//! (`meeting`, [`short_link`], [`long_link`]), if the relay serves the page (`served`). `join` is another player, and asks for
+//! the digits of the secret if its file is missing ([`digits_in`]). `journals` decides where the journal is, and `friends`
+//! hands the match to c8_play.
+#![tactic(auto)]
+
+mod addresses;
+mod arguments;
+mod digits;
+mod friends;
+mod help;
+mod host;
+mod inviting;
+mod join;
+mod journals;
+mod link;
+mod meeting;
+mod served;
+
+pub use addresses::own_addresses;
+pub use arguments::{HOST, JOIN};
+pub use digits::digits_in;
+pub use host::host_given;
+pub use inviting::{invitation, note};
+pub use join::join_given;
+pub use link::{Ticket, link_name, long_link, short_link};
