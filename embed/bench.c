@@ -1,4 +1,9 @@
-/* Prints the cost of a session's calls in nanoseconds: the smallest of several measurements. */
+/* Prints the cost of a session's calls in nanoseconds: the smallest of several measurements.
+ *
+ *     bench [GAME]
+ *
+ * GAME is the file of a game text for two players, without a delay and with a window of twelve frames: a rollback is also measured with its
+ * CHIP-8 machine, in place of one that jumps once a frame. */
 #define _POSIX_C_SOURCE 200809L
 #include "c8.h"
 
@@ -48,11 +53,24 @@ static void say(c8_session *from, c8_session *to, uint8_t number, uint8_t kind) 
     if (c8_deliver(to, bytes, length) > 2) must(1, "deliver");
 }
 
+/* The text of the match. */
+static uint8_t text[16384];
+static size_t length;
+
+static void make_rules(void) {
+    static const uint8_t id[32] = "bench 1";
+    length = c8_rules(2, FRAMES + WINDOW, 0, WINDOW, id, text, sizeof text);
+}
+
+static void read_game(const char *path) {
+    FILE *file = fopen(path, "rb");
+    must(!file, path);
+    length = fread(text, 1, sizeof text, file);
+    fclose(file);
+}
+
 /* Two players whose links are open. */
 static void meet(c8_session players[3]) {
-    static const uint8_t id[32] = "bench 1";
-    uint8_t text[C8_RULES];
-    uint32_t length = c8_rules(2, FRAMES + WINDOW, 0, WINDOW, id, text, sizeof text);
     for (uint8_t me = 1; me <= 2; me++) must(c8_open(text, length, me, 1, 0, &players[me]), "open");
     for (uint8_t kind = HELLO; kind <= WELCOME; kind++) {
         say(&players[1], &players[2], 2, kind);
@@ -122,8 +140,9 @@ static double readings(void) {
     return cost;
 }
 
-int main(void) {
-    double least[4] = {1e9, 1e9, 1e9, 1e9};
+int main(int count, char **words) {
+    double least[4] = {1e9, 1e9, 1e9, 1e9}, of_game = 1e9;
+    make_rules();
     record();
     for (int round = 0; round < ROUNDS; round++) {
         double costs[4] = {readings(), steps(), rollbacks(false), rollbacks(true)};
@@ -134,5 +153,13 @@ int main(void) {
     printf("%8.1f ns  c8_step, nothing changed\n", least[1]);
     printf("%8.1f ns  c8_deliver and c8_tick, %d frames rolled back\n", least[2], WINDOW);
     printf("%8.1f ns  the same and c8_step\n", least[3]);
+    if (count < 2) return 0;
+    read_game(words[1]);
+    record();
+    for (int round = 0; round < ROUNDS; round++) {
+        double cost = rollbacks(false);
+        if (cost < of_game) of_game = cost;
+    }
+    printf("%8.1f ns  c8_deliver and c8_tick, %d frames of the game rolled back\n", of_game, WINDOW);
     return 0;
 }

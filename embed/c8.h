@@ -32,8 +32,10 @@
 #include <stddef.h>
 #include <stdint.h>
 
-/* The version of the library that this header is for. docs/EMBEDDING.md says what may change between versions. */
+/* The version of the library that this header is for; as a number, a byte for each part. docs/EMBEDDING.md says what may
+ * change between versions. */
 #define C8_VERSION "0.2.0"
+#define C8_VERSION_NUMBER 0x000200
 
 #ifdef __cplusplus
 extern "C" {
@@ -221,6 +223,12 @@ static inline c8_answer c8_secret(c8_session *session, const uint8_t secret[32],
  * Else it writes to `newest` whether no later packet of that sender came before. If so, the sender is where this packet
  * came from: send there. */
 uint8_t c8_sender(c8_session *, bool *newest);
+
+/* ---- numbers and texts */
+
+/* The version of the library that runs, as C8_VERSION_NUMBER. This header is for the libraries with the same first two
+ * parts and no smaller third: c8_version() >> 8 == C8_VERSION_NUMBER >> 8 && c8_version() >= C8_VERSION_NUMBER. */
+uint32_t c8_version(void);
 
 /* Writes the name and the sentence of a refusal, as far as they fit (160 bytes do), without a 0 after them. Returns how
  * many bytes it wrote; 0 for a number that is no refusal. */

@@ -24,6 +24,13 @@ using Bytes = std::span<const std::uint8_t>;
 using Secret = std::span<const std::uint8_t, 32>;
 using Row = std::array<std::uint16_t, C8_ROW>;
 
+// The version of the library that runs, as C8_VERSION.
+inline std::string version() {
+    const std::uint32_t number = c8_version();
+    const auto part = [number](int shift) { return std::to_string(number >> shift & 0xff); };
+    return part(16) + "." + part(8) + "." + part(0);
+}
+
 // The name and the sentence of a refusal; empty if the number is none.
 inline std::string explain(std::uint32_t number) {
     std::array<std::uint8_t, 160> text;

@@ -420,6 +420,8 @@ static void play_watched(bool has_secret, const uint8_t *of_watchers) {
 
 int main(int count, char **words) {
     uint64_t most = count > 1 ? strtoull(words[1], NULL, 10) : 1000000;
+    what = "c8_version";
+    if (c8_version() != C8_VERSION_NUMBER) fail("another version", c8_version());
     dice = (count > 2 ? strtoull(words[2], NULL, 10) : 1) * 0x9e3779b97f4a7c15 | 1;
     c8_memory(take, again, give);
     journal = count > 3 ? words[3] : "random.journal";

@@ -28,7 +28,8 @@ class Player:
 
 
 def main() -> None:
-    players, queue, sent = [Player(1), Player(2)], [], 0
+    players, sent = [Player(1), Player(2)], 0
+    queue: list[tuple[int, bytes]] = []
     while not all(it.session.is_over() for it in players):
         for to, packet in queue:
             players[to - 1].session.deliver(packet)
@@ -37,10 +38,10 @@ def main() -> None:
             session = player.session
             session.tick((session.ticked() * 7919 * player.me >> 3) & 0xFFFF)
             session.turn()
-            for packet in session.packets():
+            for due in session.packets():
                 sent += 1
                 if sent % 3:
-                    queue.append(packet)
+                    queue.append(due)
             player.run()
     for it in players:
         print(f"player {it.me} ticked {it.session.ticked()} confirmed {it.session.confirmed()} state {it.states[FRAMES]:016x} "

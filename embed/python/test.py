@@ -6,7 +6,7 @@ import tempfile
 import unittest
 
 import example
-from c8play import (Closed, DiskLocked, Kind, NotSealed, Refusal, SealedAlready, SeenBefore, Session, Threshold, calls, explain, rules)
+from c8play import (Closed, DiskLocked, Kind, NotSealed, Refusal, SealedAlready, SeenBefore, Session, Threshold, calls, explain, rules, version)
 
 HERE = os.path.dirname(os.path.realpath(__file__))
 TEXT = rules(2, 100, 1, 8, b"test 1")
@@ -98,6 +98,10 @@ class Tests(unittest.TestCase):
             with Session(TEXT, 1, 7, journal=path) as session:
                 self.assertEqual((session.ticked(), session.epoch(), [row[0] for _, row in session.rows()]), (2, 2, [0, 3]))
             self.assertRaises(OSError, Session, TEXT, 1, 7, journal=f"{folder}/none/journal")
+
+    def test_version(self) -> None:
+        self.assertEqual(version(), calls.VERSION)
+        self.assertEqual([it for it in ("0.1.9", "0.2.0", "0.2.7", "0.3.0", "1.2.0") if calls.fits(it)], ["0.2.0", "0.2.7"])
 
     def test_hand(self) -> None:
         with Session(TEXT, 1, 7) as session:

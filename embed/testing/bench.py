@@ -34,8 +34,10 @@ class System:
 
 LINUX = System("linux", ("cc",), "linux-x86_64/libc8.a")
 LINUX_SHARED = System("linux-shared", ("cc",), "linux-x86_64/libc8.so")
-ARM = System("arm", ("aarch64-linux-gnu-gcc", "-static"), "linux-aarch64/libc8.a", ("qemu-aarch64-static",))
-ARM_SHARED = System("arm-shared", ("aarch64-linux-gnu-gcc",), "linux-aarch64/libc8.so", ("qemu-aarch64-static", "-L", "/usr/aarch64-linux-gnu"))
+# of Debian's qemu-user-static, or of qemu-user
+QEMU = "qemu-aarch64-static" if shutil.which("qemu-aarch64-static") else "qemu-aarch64"
+ARM = System("arm", ("aarch64-linux-gnu-gcc", "-static"), "linux-aarch64/libc8.a", (QEMU,))
+ARM_SHARED = System("arm-shared", ("aarch64-linux-gnu-gcc",), "linux-aarch64/libc8.so", (QEMU, "-L", "/usr/aarch64-linux-gnu"))
 MINGW, SOCKETS = ("x86_64-w64-mingw32-gcc",), ("-lws2_32", "-lwinmm")
 WINDOWS = System("windows", MINGW, "windows-x86_64/libc8.a", ("wine",), ".exe", SOCKETS)
 WINDOWS_SHARED = System("windows-dll", MINGW, "windows-x86_64/libc8.dll.a", ("wine",), ".exe", SOCKETS)

@@ -1,5 +1,4 @@
-"""The bindings: C++, Rust, Python, C# and the page, each over a library of this system."""
-import glob
+"""The bindings: C++, Rust, Python and C#, each over a library of this system."""
 import os
 import re
 import shutil
@@ -10,6 +9,8 @@ from bench import EMBED, LIBRARIES, LINUX, TIMEOUT, TOP, Failed, free_ports, lac
 
 # A journal of that many bytes is in the midst of a match.
 SOME = 30000
+# The oldest Python that the package is for.
+OLDEST = "3.9"
 SHARED, STATIC = f"{LIBRARIES}/linux-x86_64/libc8.so", f"{LIBRARIES}/linux-x86_64/libc8.a"
 
 
@@ -73,6 +74,9 @@ def python(bench):
     environment = {**bench.environment, "C8_LIBRARY": SHARED, "PYTHONPATH": f"{EMBED}/python", "PYTHONDONTWRITEBYTECODE": "1"}
     bench.run(sys.executable, f"{EMBED}/python/test.py", env=environment)
     duel(bench, environment)
+    if not shutil.which("mypy"):
+        return "in part: no mypy"
+    bench.run("mypy", "--strict", "--python-version", OLDEST, f"--cache-dir={bench.folder}/mypy", ".", cwd=f"{EMBED}/python")
     return ""
 
 
@@ -109,29 +113,4 @@ def csharp(bench):
     said = bench.run("mono", "example-cs.exe", env={**bench.environment, "LD_LIBRARY_PATH": bench.folder})
     state = re.search(r"state (\w+)", example_out())[1]
     same("C#", said, f"state {state}, the same\n")
-    return ""
-
-
-def page(bench):
-    """The module of a page, in node and in Chromium: the example, and ten games of 4,000 turns, whose sums are those of the library for C."""
-    if not shutil.which("node"):
-        return "no node"
-    if why := lacking(LINUX):
-        return why
-    module = f"{TOP}/out/pages/c8-32.wasm"
-    if not os.path.exists(module):
-        bench.run(f"{TOP}/tools/page")
-    if not os.path.exists(module):
-        return "no wasm-ld or no wasm-opt"
-    games = sorted(glob.glob(f"{TOP}/games/*.game"))
-    bench.run("cc", "-std=c99", "-O1", "-Wall", "-Wextra", "-Werror", f"-I{EMBED}", f"{TOP}/web/testing/agree.c", STATIC, "-o", "agree")
-    for name in ("web/c8.mjs", "web/testing/agree.mjs"):
-        shutil.copyfile(f"{TOP}/{name}", f"{bench.folder}/{os.path.basename(name)}")
-    wanted = bench.run(f"{bench.folder}/agree", *games)
-    shutil.copyfile(f"{EMBED}/example.mjs", f"{bench.folder}/example.mjs")
-    same("the example in JavaScript", bench.run("node", f"{bench.folder}/example.mjs", module), example_out())
-    same("the page's module", bench.run("node", f"{bench.folder}/agree.mjs", module, *games), wanted)
-    if not shutil.which("chromium"):
-        return "no chromium"
-    bench.run(f"{TOP}/web/test", "--only", "agree", env=dict(os.environ))
     return ""

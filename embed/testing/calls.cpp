@@ -33,6 +33,7 @@ void greet(c8::Session &one, c8::Session &two) {
 }
 
 int frame() {
+    MUST(c8::version() == C8_VERSION);
     c8::Session one(text, 1, 7), two(text, 2, 7);
     greet(one, two);
     MUST(one.tick(5) == 0 && two.tick(6) == 0);

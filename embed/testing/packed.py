@@ -1,4 +1,5 @@
 """What a new user has: the files of a system's archive and its README, whose commands have to work as they stand there."""
+import glob
 import os
 import re
 import shutil
@@ -10,6 +11,8 @@ sys.path.insert(0, f"{TOP}/tools")
 import packs  # noqa: E402
 
 CRATE = "example_of_rust"
+# What the programs of a README print.
+EXAMPLE, MATCH = "example", "match"
 MAIN = """use c8play_session::{Rules, Session};
 
 fn main() {
@@ -33,43 +36,63 @@ def unpack(bench, system):
     return root
 
 
-def commands(root):
-    """The commands of a README."""
-    return re.findall(r"(?ms)^```sh\n(.*?)^```$", read(f"{root}/README.md").decode())
+def commands(root, without):
+    """The commands of a README, but for blocks that call these programs."""
+    blocks = re.findall(r"(?ms)^```sh\n(.*?)^```$", read(f"{root}/README.md").decode())
+    return [it for it in blocks if not any(re.search(rf"(?m)^{re.escape(name)}(?:\s|$)", it) for name in without)]
 
 
-def follow(bench, system, examples, tools=(), starter=""):
-    """Runs the commands of a README, in a shell whose PATH has these tools first. The example plays so many times."""
+def links(root):
+    """The links of an archive's documents lead to its files."""
+    for path in glob.glob(f"{root}/**/*.md", recursive=True):
+        for target in re.findall(r"\]\((?![a-z]+:|#)([^)#\s]+)", read(path).decode()):
+            if not os.path.exists(os.path.join(os.path.dirname(path), target)):
+                raise Failed(f"{path}: no file {target}")
+
+
+def follow(bench, system, wanted, tools=(), starter="", without=()):
+    """Runs the commands of a README, in a shell whose PATH has these tools first. `wanted` has what each program says: the example, or a
+    match, whose players print the same line."""
     root, bins = unpack(bench, system), f"{bench.folder}/tools-{system}"
     os.makedirs(bins, exist_ok=True)
     for name, path in tools:
         with open(f"{bins}/{name}", "w", encoding="utf-8") as it:
             it.write(f'#!/bin/sh\nexec {path} "$@"\n')
         os.chmod(f"{bins}/{name}", 0o755)
-    script = "set -e\n" + "\n".join(f"cd '{root}'\n{it}" for it in commands(root))
+    links(root)
+    script = "set -e\n" + "\n".join(f"cd '{root}'\n{it}" for it in commands(root, without))
     if starter:
         script = re.sub(r"(?m)^\./", f"{starter} ./", script)
-    said = bench.run("sh", "-c", script, env={**bench.environment, "PATH": f"{bins}:{os.environ['PATH']}", "PYTHONDONTWRITEBYTECODE": "1"})
-    same(f"the README of {system}", said, read(f"{EMBED}/example.out").decode() * examples)
+    environment = {**bench.environment, "PATH": f"{bins}:{os.environ['PATH']}", "PYTHONDONTWRITEBYTECODE": "1",
+                   "CARGO_TARGET_DIR": f"{bench.folder}/target-packed", "CARGO_NET_OFFLINE": "true"}
+    environment.pop("C8PLAY_LIB", None)
+    said = bench.run("sh", "-c", script, env=environment)
+    said = re.sub(r"(frames \d+ (?:hash|state) \w{16}\n)\1", f"{MATCH}\n", said.replace(read(f"{EMBED}/example.out").decode(), f"{EXAMPLE}\n"))
+    same(f"the README of {system}", said, "".join(f"{it}\n" for it in wanted))
     return root
 
 
 def packed(bench):
     if why := lacking(LINUX):
         return why
-    root = follow(bench, "linux-x86_64", 3, [("python3", sys.executable)])
+    lacks = [it for it in ("c++", "cargo") if not shutil.which(it)]
+    wanted = [EXAMPLE, MATCH, EXAMPLE, *([] if "c++" in lacks else [EXAMPLE]), EXAMPLE]
+    root = follow(bench, "linux-x86_64", wanted, [("python3", sys.executable)], without=lacks)
     bench.match("the packed game", [f"{root}/game"], [f"{root}/game"])
-    crate(bench, root)
+    if "cargo" not in lacks:
+        bench.match("the packed game in Rust", [f"{bench.folder}/target-packed/debug/my-game"], [f"{root}/game"])
+        crate(bench, root)
     skipped = []
     if why := lacking(WINDOWS):
         skipped.append(why)
     else:
         bench.start_wine()
-        # Python for Windows is not here
-        root = follow(bench, "windows-x86_64", 2, [("gcc", WINDOWS.compiler[0]), ("python", "true")], "wine")
+        compilers = [(it, f"x86_64-w64-mingw32-{it}") for it in ("gcc", "g++") if shutil.which(f"x86_64-w64-mingw32-{it}")]
+        root = follow(bench, "windows-x86_64", [EXAMPLE] * (1 + len(compilers)), compilers, "wine",
+                      without=["cd python", "cargo", *([] if len(compilers) == 2 else ["g++"])])
         bench.match("the packed game of Windows", ["wine", f"{root}/game.exe"], ["wine", f"{root}/game.exe"])
     if shutil.which("node") and os.path.exists(f"{TOP}/out/pages/c8-32.wasm"):
-        follow(bench, "web", 1)
+        follow(bench, "web", [EXAMPLE])
     else:
         skipped.append("no node or no page")
     return f"in part: {', '.join(skipped)}" if skipped else ""
@@ -77,8 +100,6 @@ def packed(bench):
 
 def crate(bench, root):
     """A program that depends on the packed crate, without a variable."""
-    if not shutil.which("cargo"):
-        return
     folder = f"{bench.folder}/{CRATE}"
     os.makedirs(f"{folder}/src")
     with open(f"{folder}/Cargo.toml", "w", encoding="utf-8") as it:

@@ -4,6 +4,7 @@ it refuses, and what the session is afterwards; here stands what differs.
     from c8play import Session, rules
 
     text = rules(players=2, frames=600, delay=1, window=8, id=b"my game, version 1")
+    states = {0: first_state}
     with Session(text, player=1, room=7) as session:
         while not session.is_over():
             for packet in received():
@@ -20,9 +21,9 @@ a time; ctypes lets other threads run meanwhile.
 """
 from .calls import DATAGRAM, PACKET, PICTURE, ROW, ROWS, RULES, STATE
 from .refusals import (BadSecret, Closed, Desync, DiskFailed, DiskFull, DiskLocked, Dropped, End, NotSealed, Refusal, SealedAlready,
-                       SeenBefore, Threshold, explain)
+                       SeenBefore, Threshold, explain, version)
 from .session import Kind, PlayerState, Sender, Session, Step, rules
 
 __all__ = ["BadSecret", "Closed", "DATAGRAM", "Desync", "DiskFailed", "DiskFull", "DiskLocked", "Dropped", "End", "Kind", "NotSealed", "PACKET",
            "PICTURE", "PlayerState", "ROW", "ROWS", "RULES", "Refusal", "STATE", "SealedAlready", "SeenBefore", "Sender", "Session", "Step",
-           "Threshold", "explain", "rules"]
+           "Threshold", "explain", "rules", "version"]

@@ -4,6 +4,8 @@ import os
 import sys
 from typing import Any
 
+# The version of this package. A library has to have the same first two numbers, and no smaller third.
+VERSION = "0.2.0"
 DATAGRAM, PACKET, PICTURE, STATE, RULES, ROW, ROWS = 174, 198, 256, 4419, 256, 4, 16
 
 HERE = os.path.dirname(os.path.realpath(__file__))
@@ -54,6 +56,7 @@ CALLS: dict[str, tuple[Any, ...]] = {
     "c8_secrets": (U32, SESSION, BYTES, BYTES, SIZE),
     "c8_sender": (U8, SESSION, c.POINTER(FLAG)),
     "c8_explain": (U32, U32, BYTES, SIZE),
+    "c8_version": (U32,),
 }
 # On some systems the library does not have it.
 MAY_LACK = {"c8_journal_open"}
@@ -65,8 +68,19 @@ def library_path() -> str:
     return os.environ.get("C8_LIBRARY") or os.path.join(HERE, name)
 
 
+def shown(number: int) -> str:
+    """A version, of its number."""
+    return ".".join(map(str, number.to_bytes(4, "big")[1:]))
+
+
+def fits(version: str) -> bool:
+    """Whether this package is for a library of this version."""
+    own, other = ([int(it) for it in text.split(".")] for text in (VERSION, version))
+    return own[:2] == other[:2] and own <= other
+
+
 def load(path: str) -> Any:
-    """The library at this path, with the types of its functions. Raises OSError."""
+    """The library at this path, with the types of its functions. Raises OSError, also if the library has another version."""
     library = c.CDLL(path, use_last_error=True) if IS_WINDOWS else c.CDLL(path, use_errno=True)
     for name, (answer, *words) in CALLS.items():
         call = getattr(library, name, None)
@@ -74,6 +88,8 @@ def load(path: str) -> Any:
             call.restype, call.argtypes = answer, words
         elif name not in MAY_LACK:
             raise OSError(f"{path} has no {name}")
+    if not fits(shown(library.c8_version())):
+        raise OSError(f"{path} has version {shown(library.c8_version())}, but this package is for {VERSION}")
     return library
 
 

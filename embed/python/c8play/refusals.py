@@ -1,12 +1,17 @@
-"""Why a call was refused."""
+"""Why a call was refused, and which library it is."""
 import ctypes as c
 
-from .calls import LIBRARY
+from .calls import LIBRARY, shown
 
 # The longest name with its sentence.
 LONGEST = 160
 # Smaller answers are no refusals.
 FIRST = 101
+
+
+def version() -> str:
+    """The version of the library that runs."""
+    return shown(LIBRARY.c8_version())
 
 
 def explain(number: int) -> str:

@@ -42,6 +42,6 @@ mod sys;
 
 pub use packet::{Packet, Sender};
 pub use refusal::Refusal;
-pub use rules::Rules;
+pub use rules::{version, Rules};
 pub use session::{Heard, Journal, Kind, Packets, Session, Steps};
 pub use sys::PlayerState;

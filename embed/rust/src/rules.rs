@@ -1,10 +1,16 @@
-//! The rules of a match.
+//! The rules of a match, and the version of the library.
 
 use crate::refusal::Refusal;
 use crate::sys;
 
 /// The longest text of [`Rules`].
 const LONGEST: usize = 256;
+
+/// The version of the library that runs: the crate's own, unless `C8PLAY_LIB` named another one.
+pub fn version() -> String {
+    let [_, major, minor, patch] = sys::version().to_be_bytes();
+    format!("{major}.{minor}.{patch}")
+}
 
 /// The rules of a match for an engine with a machine of its own. All players need the same.
 #[derive(Clone, Copy, Debug, PartialEq, Eq, Hash)]

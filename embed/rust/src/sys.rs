@@ -89,6 +89,7 @@ extern "C" {
     fn c8_secrets(session: *mut Raw, secret: *const u8, watchers: *const u8, length: usize) -> u32;
     fn c8_sender(session: *mut Raw, newest: *mut bool) -> u8;
     fn c8_explain(number: u32, out: *mut u8, length: usize) -> u32;
+    fn c8_version() -> u32;
 }
 
 /// The number by which the library knows a file, which it closes.
@@ -233,4 +234,8 @@ pub fn rules(players: u8, frames: u32, delay: u8, window: u8, id: &[u8; 32], out
 
 pub fn explain(number: u32, out: &mut [u8]) -> u32 {
     unsafe { c8_explain(number, out.as_mut_ptr(), out.len()) }
+}
+
+pub fn version() -> u32 {
+    unsafe { c8_version() }
 }

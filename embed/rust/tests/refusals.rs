@@ -207,6 +207,7 @@ fn numbers_and_texts() {
     assert_eq!(Refusal::Threshold.number(), 401);
     assert_eq!(Refusal::Threshold.to_string(), "Threshold: too far ahead of what is confirmed");
     assert_eq!(Refusal::Unknown(9).to_string(), "refusal 9");
+    assert_eq!(c8play_session::version(), env!("CARGO_PKG_VERSION"));
     let players = |player| open(1).player(player).err();
     assert_eq!((players(0), players(5)), (Some(Refusal::NoPlayer), Some(Refusal::NoPlayer)));
 }

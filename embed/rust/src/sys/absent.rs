@@ -117,3 +117,7 @@ pub unsafe fn c8_sender(_: *mut Raw, _: *mut bool) -> u8 {
 pub unsafe fn c8_explain(_: u32, _: *mut u8, _: usize) -> u32 {
     absent()
 }
+
+pub unsafe fn c8_version() -> u32 {
+    absent()
+}
