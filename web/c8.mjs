@@ -16,6 +16,9 @@
  * @module
  */
 
+/** The version of this file. A module has to have the same first two numbers, and no smaller third. */
+export const VERSION = '0.2.0';
+
 /** The sizes of c8.h, in bytes; ROW is in words, ROWS in rows. */
 export const DATAGRAM = 174, PACKET = 198, PICTURE = 256, STATE = 4419, RULES = 256, ROW = 4, ROWS = 16;
 
@@ -117,14 +120,25 @@ class Files {
 }
 
 /**
- * Compiles the module.
+ * Whether this file is for a module of this version.
+ * @param {string} version
+ */
+function fits(version) {
+  const [own, other] = [VERSION, version].map(it => it.split('.').map(Number));
+  return own[0] === other[0] && own[1] === other[1] && own[2] <= other[2];
+}
+
+/**
+ * Compiles the module. Throws if it has another version.
  * @param {BufferSource} source its bytes, of c8.wasm or c8-32.wasm
  */
 export async function load(source) {
   const files = new Files();
   const { instance } = await WebAssembly.instantiate(source, files.imports());
   files.memory = /** @type {WebAssembly.Memory} */ (instance.exports.memory);
-  return new C8(/** @type {any} */ (instance.exports), files);
+  const c8 = new C8(/** @type {any} */ (instance.exports), files), version = c8.version();
+  if (!fits(version)) throw new Error(`the module has version ${version}, but c8.mjs is for ${VERSION}`);
+  return c8;
 }
 
 /** A module, which opens sessions. */
@@ -172,6 +186,12 @@ export class C8 {
   rules(players, frames, delay, window, id) {
     const at = this.output;
     return this.copy(OUTPUT, this.exports.c8_rules(players, frames, delay, window, this.put(id), at, BigInt(RULES)));
+  }
+
+  /** The version of the module, as `VERSION`. */
+  version() {
+    const number = this.exports.c8_version();
+    return [16, 8, 0].map(shift => number >> shift & 255).join('.');
   }
 
   /** The name and the sentence of a refusal; empty if the number is none.

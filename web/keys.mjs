@@ -58,6 +58,7 @@ export class Keys {
      */
     this.held = new Map();
     this.last = 0;
+    this.polls = 0;
     this.end = new AbortController();
     this.listen();
   }
@@ -68,6 +69,8 @@ export class Keys {
     addEventListener('keyup', it => this.strike(it, false), { signal });
     addEventListener('blur', () => this.release(), { signal });
     document.addEventListener('visibilitychange', () => this.release(), { signal });
+    addEventListener('gamepadconnected', () => this.poll(), { signal });
+    this.poll();
   }
 
   /** The key that a place on the keyboard stands for.
@@ -106,10 +109,12 @@ export class Keys {
     if (set !== this.last) this.changed(this.last = set);
   }
 
-  /** Reads the game pads. The first one is the first player's. */
+  /** Reads the game pads, in each frame of the screen as long as there are some. The first one is the first player's. */
   poll() {
+    cancelAnimationFrame(this.polls);
     const pads = (navigator.getGamepads?.() ?? []).filter(it => it);
     pads.forEach((pad, place) => this.readPad(/** @type {Gamepad} */ (pad), place));
+    if (pads.length) this.polls = requestAnimationFrame(() => this.poll());
   }
 
   /** @param {Gamepad} pad @param {number} place */
@@ -123,6 +128,7 @@ export class Keys {
 
   close() {
     this.end.abort();
+    cancelAnimationFrame(this.polls);
     this.release();
   }
 }

@@ -4,8 +4,10 @@
  * @module
  */
 import { Keys, capOf, keysOf, padOf } from './keys.mjs';
-import { PLAYERS, WATCHERS, drawMatch, gameId, hex, readLink, spellShort } from './link.mjs';
-import { LONG, clockOf, endOf, hereOf, numbersOf, stateOf } from './words.mjs';
+import { PLAYERS, WATCHERS, drawMatch, gameId, hex, readLink, spellShort, watchersSecret } from './link.mjs';
+import { Painter } from './painter.mjs';
+import { COLUMNS, ROWS } from './picture.mjs';
+import { LONG, clockOf, endOf, hereOf, numbersOf, stateOf, watchOf } from './words.mjs';
 
 /** @typedef {import('./link.mjs').Link} Link */
 /** @typedef {import('./link.mjs').Rules} Rules */
@@ -23,12 +25,9 @@ import { LONG, clockOf, endOf, hereOf, numbersOf, stateOf } from './words.mjs';
  * @property {Record<string, string>} [words] for its roles
  */
 
-const COLUMNS = 64, ROWS = 32, RATE = 60, ARROWS = { up: '↑', down: '↓', left: '←', right: '→', fire: 'Space' };
+const SECOND = 1000, ARROWS = { up: '↑', down: '↓', left: '←', right: '→', fire: 'Space' };
 
 const MINUTE = 60000, LEFT = 'You left the match.', COUNTS = ['', '', 'Two', 'Three', 'Four'];
-
-/** The part of the window's height that the picture has at most; on a phone on its side, what the keys and the rows need, in points. */
-const HIGHEST = 0.7, HIGHEST_FULL = 0.88, ON_ITS_SIDE = '(pointer: coarse) and (orientation: landscape)', BESIDE = 112, ABOVE_AND_BELOW = 132;
 
 /** @template {HTMLElement} T @param {string} id @returns {T} */
 const part = id => /** @type {T} */ (document.getElementById(id));
@@ -125,7 +124,6 @@ let shown;
 
 /** @param {Link} link */
 async function play(link) {
-  if (WATCHERS.includes(link.seat)) return fail('This link is for watching.', 'The page cannot do that yet: enter the command watch of c8play.');
   view('match');
   const text = link.text ?? await textOf(/** @type {string} */ (link.game));
   if (!text) return fail('This link is for a game that this server does not have.', `Ask for the game ${link.game}, or for another link.`);
@@ -156,14 +154,12 @@ class Shown {
     this.kept = true;
     this.state = '';
     this.isInviting = false;
-    this.told = 0;
+    this.told = -1;
     this.asks = 0;
     this.offered = '';
-    this.frames = 0;
     this.tone = new Tone();
     this.painter = painter;
     painter.screen = new Uint8Array(COLUMNS * ROWS / 8);
-    painter.fit();
     part('state').textContent = 'Loading …';
     part('numbers').textContent = '';
     this.worker = new Worker('worker.mjs', { type: 'module' });
@@ -171,14 +167,24 @@ class Shown {
     this.worker.onerror = ({ message }) => message ? this.end('The program failed.', message)
       : this.end('The page does not work in this browser.', 'It needs modules in workers: a browser of the year 2023 or later.');
     const { seat: player, room, secret } = link;
-    this.worker.postMessage({ is: 'begin', text, player, room, secret, relay: relayOf('relay'), begun: this.wasBegun() });
-    this.looks = requestAnimationFrame(() => this.look());
+    const canvas = painter.begin(), { colors } = painter.last;
+    const asked = { is: 'begin', text, player, room, secret, relay: relayOf('relay'), begun: this.wasBegun(), canvas, colors };
+    this.worker.postMessage(asked, canvas ? [canvas] : []);
+  }
+
+  /** Whether somebody plays here, and the others elsewhere. */
+  get isPlayer() {
+    return PLAYERS.includes(this.link.seat);
+  }
+
+  get isWatcher() {
+    return WATCHERS.includes(this.link.seat);
   }
 
   /** Whether this match was begun here without a journal. */
   wasBegun() {
     const { seat, room } = this.link;
-    return !!seat && recall(`begun ${room} ${seat}`) !== null;
+    return this.isPlayer && recall(`begun ${room} ${seat}`) !== null;
   }
 
   /** @param {import('./worker.mjs').FromWorker} message */
@@ -189,8 +195,19 @@ class Shown {
       case 'over': return this.over(message);
       case 'refused': return this.end('This match cannot begin.', message.sentence);
       case 'journal': return this.save(message.bytes);
-      case 'left': return this.end(LEFT, this.link.seat && this.kept ? 'It waits for you: go on, or open the same link again.' : '');
+      case 'left': return this.left(message.screen);
     }
+  }
+
+  /** @param {Uint8Array | null} screen */
+  left(screen) {
+    this.keep(screen);
+    this.end(LEFT, this.isPlayer && this.kept ? 'It waits for you: go on, or open the same link again.' : '');
+  }
+
+  /** @param {Uint8Array | null} screen the last one, which the worker has painted */
+  keep(screen) {
+    if (screen?.length) this.painter.screen = screen;
   }
 
   /** @param {Rules} rules @param {boolean} kept */
@@ -201,10 +218,11 @@ class Shown {
     this.rules = rules;
     if (!kept) remember(`begun ${room} ${seat}`, '');
     part('title').textContent = document.title = offer?.title ?? 'A game';
-    part('who').textContent = seat ? `You are player ${seat} of ${rules.players}.` : 'All players are here.';
+    const alone = this.isWatcher ? 'You are watching.' : 'All players are here.';
+    part('who').textContent = this.isPlayer ? `You are player ${seat} of ${rules.players}.` : alone;
     part('warning').hidden = kept;
     part('warning').textContent = 'This browser keeps no files for this page: if you leave or reload it, you cannot come back to this match.';
-    this.giveKeys(rules, offer);
+    if (!this.isWatcher) this.giveKeys(rules, offer);
     part('picture').focus({ preventScroll: true });
     if (seat === 1 && offer) this.invite(rules, offer);
   }
@@ -218,6 +236,7 @@ class Shown {
     const areSeveral = players.length > 1, titleOf = (/** @type {number} */ it) => areSeveral ? `Player ${it}` : '';
     part('pads').replaceChildren(...players.map(it => padOf(keys, masks[it - 1], offer?.keys?.[it - 1], offer?.words, titleOf(it))));
     part('pads').classList.toggle('several', areSeveral);
+    this.painter.fit();
     part('help').replaceChildren(...players.flatMap((it, place) => helpOf(it, masks[it - 1], offer, areSeveral, place === 0)));
   }
 
@@ -227,6 +246,8 @@ class Shown {
     part('inviting').textContent = seats.length > 1 ? 'Invite your friends' : 'Invite a friend';
     if (seats.length > 1) part('how').textContent = 'Send each friend one of these links, and keep them from others.';
     part('links').replaceChildren(...seats.map(it => linkField(seats.length > 1 ? `Player ${it}` : 'The link', linkTo(this.link, it, offer.name))));
+    const watched = { ...this.link, secret: watchersSecret(this.link.secret) };
+    part('watching').replaceChildren(...WATCHERS.map((it, place) => linkField(`Watcher ${place + 1}`, linkTo(watched, it, offer.name))));
     this.inviting(true);
   }
 
@@ -249,16 +270,16 @@ class Shown {
     return others.every(it => it.met) || confirmed > (this.rules?.delay ?? 0);
   }
 
-  /** @param {{ screen: Uint8Array | null, tone: number, row: Row, relay: import('./relay.mjs').Standing }} frame */
-  show({ screen, tone, row, relay }) {
-    if (screen) this.painter.screen = screen;
+  /** @param {{ screen: Uint8Array | null, sounds: boolean, row: Row, relay: import('./relay.mjs').Standing }} frame */
+  show({ screen, sounds, row, relay }) {
+    if (screen) this.painter.show(screen);
     this.row = row;
-    this.tone.sound(tone > 0);
+    this.tone.sound(sounds);
     if (this.isInviting && this.hasBegun(row)) this.inviting(false);
-    const state = this.link.seat ? stateOf(row, relay) : hereOf(row);
+    const state = this.isPlayer ? stateOf(row, relay) : this.isWatcher ? watchOf(row, relay) : hereOf(row);
     if (state !== this.state) part('state').textContent = this.state = state, this.say(state);
-    const second = Math.floor(this.frames++ / RATE);
-    if (second !== this.told) part('numbers').textContent = this.link.seat ? numbersOf(row) : clockOf(row), this.told = second;
+    const second = Math.floor(performance.now() / SECOND);
+    if (second !== this.told) part('numbers').textContent = this.isPlayer ? numbersOf(row) : clockOf(row), this.told = second;
     this.offerDrop(row);
   }
 
@@ -288,12 +309,6 @@ class Shown {
     else this.asks = waits;
   }
 
-  look() {
-    this.keys?.poll();
-    this.painter.paint();
-    this.looks = requestAnimationFrame(() => this.look());
-  }
-
   leave() {
     if (this.kept || !this.row) this.worker.postMessage({ is: 'leave' });
     else /** @type {HTMLDialogElement} */ (part('sure')).showModal();
@@ -301,7 +316,8 @@ class Shown {
 
   /** @param {import('./worker.mjs').Over} over */
   over(over) {
-    const [title, then] = endOf(over, !this.link.seat), isWhole = !over.dropped && !over.failed;
+    this.keep(over.screen);
+    const [title, then] = endOf(over, this.isPlayer), isWhole = !over.dropped && !over.failed;
     this.end(title, then, isWhole ? over.report : null);
     part('again').hidden = !isWhole || !this.offer || this.link.seat > 1;
   }
@@ -318,18 +334,16 @@ class Shown {
    * @param {string | null} report
    */
   end(title, then = '', report = null) {
-    cancelAnimationFrame(this.looks);
     this.keys?.close();
     this.tone.sound(false);
     if (document.fullscreenElement) document.exitFullscreen();
     fail(title, then);
-    this.painter.paint();
+    this.painter.end();
     part('back').hidden = !this.link.seat || !this.kept || title !== LEFT;
     part('last').hidden = !this.row;
-    this.painter.copy(part('last'));
     part('result').hidden = report === null;
     part('report').textContent = report ?? '';
-    part('save').hidden = !this.link.seat || !this.kept;
+    part('save').hidden = !this.isPlayer || !this.kept;
     if (report === null) this.worker.terminate();
   }
 
@@ -382,71 +396,7 @@ async function copyFrom(field, button) {
   speak(isCopied ? 'The link is copied.' : 'The link is selected: copy it by hand.');
 }
 
-/** Draws 64 times 32 points, each as large as whole points of the screen allow. */
-class Painter {
-  /** @param {HTMLCanvasElement} canvas */
-  constructor(canvas) {
-    this.canvas = canvas;
-    this.context = /** @type {CanvasRenderingContext2D} */ (canvas.getContext('2d'));
-    this.image = this.context.createImageData(COLUMNS, ROWS);
-    this.points = new Uint32Array(this.image.data.buffer);
-    this.dark = this.lit = 0;
-    this.screen = new Uint8Array(COLUMNS * ROWS / 8);
-    /** What the canvas shows.
-     * @type {Uint8Array | null} */
-    this.painted = null;
-    this.fit();
-    addEventListener('resize', () => this.fit());
-    document.addEventListener('fullscreenchange', () => this.fit());
-    matchMedia('(prefers-color-scheme: dark)').addEventListener('change', () => this.fit());
-  }
-
-  fit() {
-    const { width, height } = roomOf(part('match')), scale = devicePixelRatio || 1;
-    const point = Math.max(1, Math.floor(Math.min(width / COLUMNS, height / ROWS) * scale)) / scale;
-    this.canvas.style.width = `${COLUMNS * point}px`;
-    this.canvas.style.height = `${ROWS * point}px`;
-    part('match').style.setProperty('--width', `${COLUMNS * point}px`);
-    const colors = getComputedStyle(document.documentElement);
-    this.painted = null;
-    [this.dark, this.lit] = ['--dark', '--lit'].map(it => pointOf(colors.getPropertyValue(it)));
-  }
-
-  /** Shows the screen, if it is not what the canvas shows. */
-  paint() {
-    const { screen } = this;
-    if (screen === this.painted) return;
-    this.painted = screen;
-    for (let it = 0; it < COLUMNS * ROWS; it++) this.points[it] = screen[it >> 3] >> (7 - (it & 7)) & 1 ? this.lit : this.dark;
-    this.context.putImageData(this.image, 0, 0);
-  }
-
-  /** Shows the same picture elsewhere.
-   * @param {HTMLCanvasElement} canvas
-   */
-  copy(canvas) {
-    canvas.getContext('2d')?.putImageData(this.image, 0, 0);
-  }
-}
-
-const painter = new Painter(part('picture'));
-
-/** How large the picture may be. On a phone that lies on its side it has the keys on both sides.
- * @param {HTMLElement} around
- */
-function roomOf(around) {
-  const { paddingLeft, paddingRight } = getComputedStyle(around), width = around.clientWidth - parseFloat(paddingLeft) - parseFloat(paddingRight);
-  if (matchMedia(ON_ITS_SIDE).matches) return { width: width - 2 * BESIDE, height: innerHeight - ABOVE_AND_BELOW };
-  return { width, height: innerHeight * (document.fullscreenElement ? HIGHEST_FULL : HIGHEST) };
-}
-
-/** A color as #rrggbb in the bytes of a picture.
- * @param {string} color
- */
-function pointOf(color) {
-  const [red, green, blue] = (color.match(/[0-9a-f]{2}/gi) ?? []).map(it => parseInt(it, 16));
-  return (0xff000000 | blue << 16 | green << 8 | red) >>> 0;
-}
+const painter = new Painter(colors => shown?.worker.postMessage({ is: 'colors', colors }));
 
 /** The tone of the machine, once a person has asked for sound. */
 class Tone {

@@ -9,10 +9,11 @@ import { load } from './c8.mjs';
 import { rulesOf } from './link.mjs';
 import { Beat, Match, reportOf } from './match.mjs';
 import { Keys } from './keys.mjs';
+import { COLUMNS, Picture, ROWS, followColors } from './picture.mjs';
 
 /** @typedef {import('./c8.mjs').JournalFile} JournalFile */
 
-const COLUMNS = 64, ROWS = 32, SHOWN = 90, STRIP = 56;
+const SHOWN = 90, STRIP = 56;
 const ROLES = [{ up: 1, down: 4, fire: 7 }, { up: 12, down: 13, fire: 14 }];
 /** After how many milliseconds without a key some are pressed by chance, and for how many frames each. */
 const IDLE = 10000, STROKE = 20;
@@ -102,7 +103,8 @@ class Seat {
     this.box = box;
     this.button = /** @type {HTMLButtonElement} */ (box.querySelector('button'));
     this.said = /** @type {HTMLElement} */ (box.querySelector('.said'));
-    this.picture = /** @type {HTMLCanvasElement} */ (box.querySelector('.picture'));
+    this.picture = new Picture(/** @type {HTMLCanvasElement} */ (box.querySelector('.picture')));
+    followColors(it => this.picture.become(it));
     this.strip = /** @type {HTMLCanvasElement} */ (box.querySelector('.strip'));
     this.button.onclick = () => this.match ? this.kill() : this.open();
     part('players').append(box);
@@ -128,7 +130,8 @@ class Seat {
     const { match } = this;
     if (!match) return;
     const { session } = match, row = match.row();
-    paint(this.picture, session.screen());
+    this.picture.screen = session.screen();
+    this.picture.paint();
     this.drawStrip(row.ticked, row.confirmed);
     const does = row.waits ? `waits for player ${row.waits}` : 'plays';
     const back = `${row.rollbacks} rollbacks in the last second, longest ${row.longest}`;
@@ -170,16 +173,6 @@ class Watched extends Match {
     const before = this.stepped, back = super.follow();
     for (let frame = before - back; frame < before; frame++) this.seat.again.set(frame, performance.now());
     return back;
-  }
-}
-
-/** @param {HTMLCanvasElement} canvas @param {Uint8Array} screen */
-function paint(canvas, screen) {
-  const context = /** @type {CanvasRenderingContext2D} */ (canvas.getContext('2d'));
-  context.clearRect(0, 0, COLUMNS, ROWS);
-  context.fillStyle = getComputedStyle(document.documentElement).getPropertyValue('--lit');
-  for (let it = 0; it < COLUMNS * ROWS; it++) {
-    if (screen[it >> 3] >> (7 - (it & 7)) & 1) context.fillRect(it % COLUMNS, Math.floor(it / COLUMNS), 1, 1);
   }
 }
 

@@ -32,11 +32,23 @@ export function stateOf(row, relay) {
   return there.length ? `Playing with ${playersOf(there)}.` : 'Playing alone.';
 }
 
+/** What a watcher sees now.
+ * @param {Row} row
+ * @param {Standing} relay
+ */
+export function watchOf({ player, waits, confirmed, frames, others: [first] }, relay) {
+  if (relay !== 'joined') return standingOf(relay, player);
+  if (!first.met) return 'Waiting for player 1 to show the match.';
+  if (confirmed === frames) return 'The game is over.';
+  if (first.silent >= LONG) return `Waiting for player 1, silent for ${Math.floor(first.silent / SECOND)} seconds.`;
+  return waits ? 'Waiting for the players.' : 'Watching.';
+}
+
 /** @param {Standing} relay @param {number} player */
 function standingOf(relay, player) {
   switch (relay) {
     case 'calls': return 'Calling the relay …';
-    case 'busy': return `Seat ${player} is taken: another browser plays by this link. Trying again …`;
+    case 'busy': return `Seat ${player} is taken: another browser has this link open. Trying again …`;
     case 'full': return 'The relay is full. Trying again …';
     default: return 'The relay does not answer. Trying again …';
   }
@@ -78,10 +90,10 @@ export const hereOf = row => row.confirmed === row.frames ? 'The game is over.' 
 
 /** How a match ended here: a title, and more.
  * @param {{ dropped: boolean, failed: string }} over
- * @param {boolean} isHere
+ * @param {boolean} isPlayer against others
  */
-export function endOf({ dropped, failed }, isHere) {
+export function endOf({ dropped, failed }, isPlayer) {
   if (dropped) return ['Player 1 has dropped you.', 'The others play on without you.'];
   if (failed) return ['The match ended here.', failed];
-  return ['The game is over.', isHere ? '' : 'All players have the same result.'];
+  return ['The game is over.', isPlayer ? 'All players have the same result.' : ''];
 }

@@ -22,7 +22,7 @@ SECRET = bytes(range(32))
 # What a game of a test lasts, and one that is not played to its end, in frames; and the longest that a match may take, in seconds.
 FRAMES, LONG, LONGEST = 300, 36000, 90
 KEYS = {1: ["Digit1", "KeyQ", "KeyA"], 2: ["Digit4", "KeyR", "KeyF"], 3: ["KeyA", "KeyS"]}
-SIZES = {"phone": (390, 844, 2), "laptop": (1280, 720, 1), "large": (1920, 1080, 1)}
+SIZES = {"phone": (390, 844, 2), "side": (844, 390, 2), "laptop": (1280, 720, 1), "large": (1920, 1080, 1)}
 STATE = "document.getElementById('state').textContent"
 FAULTS = []
 
@@ -48,6 +48,7 @@ def maker():
     sys.path.insert(0, f"{TOP}/tools")
     loader = importlib.machinery.SourceFileLoader("page", f"{TOP}/tools/page")
     spec = importlib.util.spec_from_loader("page", loader)
+    assert spec
     module = importlib.util.module_from_spec(spec)
     loader.exec_module(module)
     return module
@@ -87,18 +88,29 @@ class Bench:
             offer["id"] = self.page.game_id(self.page.read(path))[1]
         self.page.write(f"{self.pages}/games.json", json.dumps(self.offers))
 
+    def offer(self, name, game, frames):
+        """Serves a game by another name and with this many frames. The relay reads its files at its start."""
+        text = re.sub(r"(?m)^frames \d+$", f"frames {frames}", self.page.read(f"{self.pages}/{game}.game"))
+        self.page.write(f"{self.pages}/{name}.game", text)
+        self.stop_relay()
+        self.start_relay(**self.network)
+        return frames
+
     def game_id(self, name):
         return bytes.fromhex(next(it["id"] for it in self.offers if it["name"] == name))
 
     def start_relay(self, delay=0, jitter=0, loss=0):
+        self.network = {"delay": delay, "jitter": jitter, "loss": loss}
         words = [sys.executable, f"{HERE}/relay.py"]
         more = ["--delay", str(delay), "--jitter", str(jitter), "--loss", str(loss), "--seed", "7"]
         if self.given.relay:
             words, more = [self.given.relay], []
         self.relay = subprocess.Popen([*words, f"127.0.0.1:{self.port}", "--pages", self.pages, *more], stdout=subprocess.PIPE, text=True)
+        assert self.relay.stdout
         check("the relay listens", self.relay.stdout.readline())
 
     def stop_relay(self, how=signal.SIGTERM):
+        assert self.relay
         self.relay.send_signal(how)
         said = self.relay.communicate(timeout=20)[0].strip()
         return said
@@ -125,7 +137,8 @@ class Bench:
 
     def play(self, pages, until="!document.getElementById('end').hidden", seconds=LONGEST, meanwhile=None):
         """Somebody at each page, who has a number, presses keys by chance until all pages are done."""
-        down, begun = {number: set() for number in pages}, time.monotonic()
+        down: dict[int, set[str]] = {number: set() for number in pages}
+        begun = time.monotonic()
         while time.monotonic() < begun + seconds:
             if all(it.value(until) is True for it in pages.values()):
                 return True
@@ -139,9 +152,9 @@ class Bench:
             time.sleep(0.02 + self.chance.random() * 0.1)
         return False
 
-    def equal(self, what, *pages, more=()):
+    def equal(self, what, *pages, more=(), frames=FRAMES):
         reports = [it.text("report") for it in pages] + list(more)
-        good = reports[0].startswith(f"frames {FRAMES}\n") and len(set(reports)) == 1 and "#" in reports[0]
+        good = reports[0].startswith(f"frames {frames}\n") and len(set(reports)) == 1 and "#" in reports[0]
         told = [" ".join(it.text(name) for name in ("ended", "then", "state")) for it in pages]
         check(f"{what}: the reports are equal", good, *(f"\n{it}" for it in [*reports, *told]))
 

@@ -23,9 +23,10 @@ class Chromium:
         ends = [fcntl.fcntl(it, fcntl.F_DUPFD_CLOEXEC, 20) for pair in (os.pipe(), os.pipe()) for it in pair]
         words = [program, *FLAGS, *more, f"--window-size={size}", f"--user-data-dir={self.folder}", "--remote-debugging-pipe", "about:blank"]
         wire = lambda: (os.dup2(ends[0], 3), os.dup2(ends[3], 4))
-        nowhere = dict.fromkeys(("stdin", "stdout", "stderr"), subprocess.DEVNULL)
-        self.run = subprocess.Popen(words, preexec_fn=wire, pass_fds=(3, 4), **nowhere)
-        os.close(ends[0]), os.close(ends[3])
+        nowhere = subprocess.DEVNULL
+        self.run = subprocess.Popen(words, preexec_fn=wire, pass_fds=(3, 4), stdin=nowhere, stdout=nowhere, stderr=nowhere)
+        for it in (ends[0], ends[3]):
+            os.close(it)
         self.output, self.input = ends[1], ends[2]
         self.version = self.call("Browser.getVersion")["product"]
 
@@ -71,44 +72,28 @@ class Chromium:
         except (OSError, EOFError, TimeoutError, RuntimeError, subprocess.TimeoutExpired):
             self.run.kill()
             self.run.wait()
-        os.close(self.input), os.close(self.output)
+        for it in (self.input, self.output):
+            os.close(it)
         shutil.rmtree(self.folder, ignore_errors=True)
 
 
-class Page:
-    """A window with one page."""
-
-    def __init__(self, browser, url, dark=False, size=None, touch=False):
-        self.browser = browser
-        self.target = browser.call("Target.createTarget", url="about:blank", newWindow=True)["targetId"]
-        self.session = browser.call("Target.attachToTarget", targetId=self.target, flatten=True)["sessionId"]
-        for domain in ("Runtime", "Page", "Log"):
-            self.call(f"{domain}.enable")
-        features = [{"name": "prefers-color-scheme", "value": "dark" if dark else "light"}]
-        self.call("Emulation.setEmulatedMedia", features=features)
-        if size:
-            width, height, scale = size
-            self.call("Emulation.setDeviceMetricsOverride", width=width, height=height, deviceScaleFactor=scale, mobile=touch)
-        if touch:
-            self.call("Emulation.setTouchEmulationEnabled", enabled=True, maxTouchPoints=5)
-        self.go(url)
-
-    def call(self, method, **params):
-        return self.browser.call(method, self.session, **params)
-
-    def go(self, url):
-        self.call("Page.navigate", url=url)
+class Shown:
+    """What tests ask of a page, in whichever browser it is."""
 
     def value(self, expression):
-        said = self.call("Runtime.evaluate", expression=expression, awaitPromise=True, returnByValue=True, userGesture=True)
-        return said["result"].get("value", said["result"].get("description"))
+        """Evaluates an expression there."""
+        raise NotImplementedError
 
     def until(self, expression, seconds=30):
-        """Waits until an expression is true, and says whether it became so."""
+        """Waits until an expression is true, and says whether it became so. A page that is loaded again meanwhile is asked again."""
         end = time.monotonic() + seconds
         while time.monotonic() < end:
-            if self.value(expression) is True:
-                return True
+            try:
+                if self.value(expression) is True:
+                    return True
+            except RuntimeError as error:
+                if "navigated" not in str(error):
+                    raise
             time.sleep(0.05)
         return False
 
@@ -117,6 +102,40 @@ class Page:
 
     def click(self, name):
         self.value(f"document.getElementById('{name}').click()")
+
+
+class Page(Shown):
+    """A window with one page."""
+
+    def __init__(self, browser, url, dark=False, size=None, touch=False):
+        self.browser = browser
+        self.target = browser.call("Target.createTarget", url="about:blank", newWindow=True)["targetId"]
+        self.session = browser.call("Target.attachToTarget", targetId=self.target, flatten=True)["sessionId"]
+        for domain in ("Runtime", "Page", "Log"):
+            self.call(f"{domain}.enable")
+        self.darken(dark)
+        if size:
+            self.become(size, touch)
+        self.go(url)
+
+    def call(self, method, **params):
+        return self.browser.call(method, self.session, **params)
+
+    def darken(self, is_dark):
+        self.call("Emulation.setEmulatedMedia", features=[{"name": "prefers-color-scheme", "value": "dark" if is_dark else "light"}])
+
+    def become(self, size, has_touch):
+        """Gives the window another size: width, height, and points of the screen for each; with fingers or a mouse."""
+        width, height, scale = size
+        self.call("Emulation.setDeviceMetricsOverride", width=width, height=height, deviceScaleFactor=scale, mobile=has_touch)
+        self.call("Emulation.setTouchEmulationEnabled", enabled=has_touch, **({"maxTouchPoints": 5} if has_touch else {}))
+
+    def go(self, url):
+        self.call("Page.navigate", url=url)
+
+    def value(self, expression):
+        said = self.call("Runtime.evaluate", expression=expression, awaitPromise=True, returnByValue=True, userGesture=True)
+        return said["result"].get("value", said["result"].get("description"))
 
     def key(self, code, is_down):
         text = code[-1].lower()

@@ -1,36 +1,47 @@
-"""Matches between pages, and of a page and a program. Each ends with equal reports."""
+"""Matches between pages. Each ends with equal reports."""
 import hmac
 import os
 import re
+import shutil
 import signal
 import struct
-import subprocess
-import threading
 import time
 
-from bench import FRAMES, KEYS, LONGEST, SECRET, TOP, check, free_port, is_playing, says
-from native import JOINED, Seat, Shim, room_name, session_of
+from bench import FRAMES, KEYS, LONGEST, SECRET, check, is_playing, says
+from chromium import Chromium
+from firefox import PROGRAM, Firefox
+from native import JOINED, Seat, room_name, session_of
 
-PROGRAMS = [f"{TOP}/crates/{it}/out/{it}" for it in ("c8play", "c8peer")]
 # A name that no system resolves: a page from there is not secure, so it has no files and no crypto.subtle.
 PLAIN = "page.invalid"
+# What a page may take: the seconds from a link to the first frame, and the part of a processor that plays with 200 ms of round trip.
+FIRST_FRAME, MOST_COST, RATE = 2, 10, 60
+# the picture that a page shows at the end, as reports have it
+LAST = """(() => {
+    const it = document.getElementById('last'), points = new Uint32Array(it.getContext('2d').getImageData(0, 0, 64, 32).data.buffer);
+    const lit = [...points].filter(it => it !== points[0]).length > 1024 ? points[0] : [...points].find(it => it !== points[0]);
+    return [...Array(32).keys()].map(y => [...points.slice(64 * y, 64 * y + 64)].map(it => it === lit ? '#' : '.').join('')).join('\\n'); })()"""
 
 
 def match(bench):
-    """Two pages, with delay and loss; and how soon the first frame is there."""
+    """Two pages, with delay and loss; and how soon the friend who has the link sees the first frame, and plays."""
     bench.next_room()
-    begun = time.monotonic()
     one = bench.open(1)
-    one.until("!!document.getElementById('who').textContent")
-    print(f"  from the link to the first frame: {(time.monotonic() - begun) * 1000:.0f} ms")
     says(one, "state", "Waiting for player 2 to open the link.")
     check("the link for the friend", one.value("document.querySelector('#links input').value") == bench.link(2))
+    begun = time.monotonic()
     two = bench.open(2)
+    check("it shows a frame", two.until("document.getElementById('numbers').textContent !== ''"))
+    passed = time.monotonic() - begun
+    check("the first frame comes soon", passed < FIRST_FRAME, f"{passed:.1f} s")
     check("both play", is_playing(one) and is_playing(two), one.text("state"), two.text("state"))
+    print(f"  from the link to the first frame {passed * 1000:.0f} ms, until both play {(time.monotonic() - begun) * 1000:.0f} ms")
     check("the picture is large", all(it.value("document.getElementById('picture').clientWidth") > 500 for it in (one, two)))
     check("the invitation is gone", one.value("document.getElementById('invite').hidden"))
     check("the match ends", bench.play({1: one, 2: two}))
     bench.equal("two pages", one, two)
+    for page in (one, two):
+        check("the last picture is that of the report", page.value(LAST) == "\n".join(page.text("report").splitlines()[-32:]), page.value(LAST))
     print(f"  {one.text('numbers')}")
 
 
@@ -83,23 +94,31 @@ def busy(bench):
 
 
 def hidden(bench):
-    """A hidden page plays on."""
+    """A hidden page plays on: also after five minutes, when Chromium slows the clocks of hidden pages down."""
+    seconds = bench.given.hidden
+    frames = bench.offer("hidden", "paddles", round(RATE * (seconds + 6)))
     bench.next_room()
-    one, two = bench.open(1, "paddles"), bench.open(2, "paddles")
+    one, two = bench.open(1, "hidden"), bench.open(2, "hidden")
     check("both play", is_playing(one) and is_playing(two))
     window = bench.browser.call("Browser.getWindowForTarget", targetId=two.target)["windowId"]
     bench.browser.call("Browser.setWindowBounds", windowId=window, bounds={"windowState": "minimized"})
     check("the page is hidden", two.until("document.hidden", 5), two.value("document.visibilityState"))
-
-    def left(page):
-        minutes, seconds = re.match(r"(\d+):(\d+)", page.text("numbers")).groups()
-        return 60 * int(minutes) + int(seconds)
     time.sleep(1)
     before = left(one)
-    time.sleep(bench.given.hidden)
+    time.sleep(seconds)
     passed = before - left(one)
     # a machine with other work skips frames now and then
-    check("the match went on", abs(passed - bench.given.hidden) <= 2 + bench.given.hidden / 20, f"{passed} s of {bench.given.hidden} s")
+    check("the match went on", abs(passed - seconds) <= 2 + seconds / 20, f"{passed} s of {seconds} s")
+    print(f"  {passed} s of the game in {seconds:.0f} s")
+    bench.browser.call("Browser.setWindowBounds", windowId=window, bounds={"windowState": "normal"})
+    check("the match ends", bench.play({1: one, 2: two}))
+    bench.equal("a hidden page", one, two, frames=frames)
+
+
+def left(page):
+    """The seconds that the game still lasts."""
+    minutes, seconds = page.text("numbers").partition(" ")[0].split(":")
+    return 60 * int(minutes) + int(seconds)
 
 
 def restart(bench):
@@ -150,30 +169,32 @@ def watched(bench):
     check("they have the keys of both players", "00021000" in keys, keys)
 
 
-def native(bench):
-    """A page and a program, which a shim takes to the relay."""
-    program = bench.given.program or next((it for it in PROGRAMS if os.path.exists(it)), None)
-    if not program:
-        print("  no program is built: skipped")
-        return
-    with open(f"{bench.folder}/secret", "w", encoding="ascii", opener=lambda path, flags: os.open(path, flags, 0o600)) as it:
-        it.write(SECRET.hex() + "\n")
+def watching(bench):
+    """Two pages watch, one of them from the middle on and with a reload, and have the players' result. Their links are those that player 1
+    shows. A page with the players' secret in a watcher's link sees nothing."""
     bench.next_room()
-    name = room_name(SECRET, session_of(bench.game_id("rally"), bench.room))
-    port = free_port()
-    shim = Shim(("127.0.0.1", bench.port), name, 1, ("127.0.0.1", port), [2])
-    words = [program, "peer", f"{bench.pages}/rally.game", "1", f"{bench.folder}/one.journal", f"127.0.0.1:{port}", shim.address(2)]
-    words += ["--secret", f"{bench.folder}/secret", "--room", str(bench.room), "--turns", "1000000"]
-    run = subprocess.Popen(words, stdin=subprocess.PIPE, stdout=subprocess.PIPE, text=True)
-    lines = "".join(f"{(2, 16, 128, 0, 32, 256)[frame // 7 * 5 % 6]:04x}\n" for frame in range(FRAMES))
+    one = bench.open(1)
+    one.until("document.querySelectorAll('#watching input').length === 2")
+    links = [one.value(f"document.querySelectorAll('#watching input')[{it}].value") for it in (0, 1)]
+    five, false = bench.browser.page(links[0]), bench.open(6)
+    says(five, "who", "You are watching.")
+    says(five, "state", "Waiting for the players.")
     two = bench.open(2)
-    said = []
-    reader = threading.Thread(target=lambda: said.append(run.communicate(lines)[0]), daemon=True)
-    reader.start()
-    check("the match ends", bench.play({2: two}))
-    reader.join(30)
-    shim.end()
-    bench.equal("a page and peer", two, more=said)
+    check("both play", is_playing(one) and is_playing(two))
+    says(five, "state", "Watching.")
+    late = []
+
+    def watch():
+        late.append(bench.browser.page(links[1]))
+        says(late[0], "state", "Watching.", 10)
+        five.call("Page.reload")
+    check("the match ends", bench.play({1: one, 2: two}, meanwhile=watch))
+    ended = [it.until("!document.getElementById('end').hidden", 20) for it in (five, *late)]
+    check("the watchers see the end", ended == [True, True], ended, *(f"[{it.text('state')}]" for it in (five, *late)))
+    bench.equal("players and watchers", one, two, five, *late)
+    says(false, "state", "Waiting for player 1 to show the match.")
+    check("a watcher has no journal", five.value("document.getElementById('save').hidden && document.getElementById('again').hidden"))
+    bench.shown += [five, *late]
 
 
 def stalled(bench):
@@ -236,28 +257,61 @@ def unkept(bench):
 
 
 def cost(bench):
-    """What a page costs that plays with 200 ms of round trip, in parts of a processor."""
+    """What a page takes of a processor that plays with 200 ms of round trip, its link included: that of its own process. The other page is
+    in another browser."""
     bench.stop_relay()
     bench.start_relay(delay=100)
     bench.next_room()
-    one, two = bench.open(1, "paddles"), bench.open(2, "paddles")
-    check("both play", is_playing(one) and is_playing(two))
-    begun, before = time.monotonic(), times(bench)
-    time.sleep(5)
-    passed = time.monotonic() - begun
-    parts = {kind: 100 * (spent - before.get(kind, 0)) / passed for kind, spent in times(bench).items()}
-    told = ", ".join(f"{part:.0f} % {kind}" for kind, part in parts.items() if part >= 1)
-    print(f"  two pages take {told} of a processor; {one.text('numbers')}")
+    other = Chromium()
+    try:
+        two = other.page(bench.link(2, "paddles"))
+        one = bench.open(1, "paddles")
+        check("both play", is_playing(one) and is_playing(two))
+        begun, before, was = time.monotonic(), times(bench), left(one)
+        until = begun + 10
+        while time.monotonic() < until:
+            # the other one's keys change, so that there is something to roll back
+            for page in (one, two):
+                page.key(bench.chance.choice(KEYS[1][:2] if page is one else KEYS[2][:2]), bench.chance.random() < 0.5)
+            time.sleep(0.2)
+        passed = time.monotonic() - begun
+        parts = {name: 100 * (spent - before.get(name, 0)) / passed for name, spent in times(bench).items()}
+        told = ", ".join(f"{part:.1f} % {kind} ({pid})" for (kind, pid), part in parts.items() if part >= 0.5)
+        page = max((part for (kind, _), part in parts.items() if kind == "renderer"), default=0)
+        check("it plays 60 frames a second", abs(RATE * (was - left(one)) / passed - RATE) < 10, was, left(one), passed)
+        check("a page takes little", 0 < page < MOST_COST, f"{page:.1f} %")
+        print(f"  a page takes {page:.1f} % of a processor; all processes of its browser: {told}; {one.text('numbers')}")
+    finally:
+        other.close()
 
 
 def times(bench):
-    """The seconds of a processor that the browser's processes took so far, by their kind."""
-    found = {}
-    for pid in children(bench.browser.run.pid):
-        spent = sum(map(int, stat(pid).rpartition(")")[2].split()[11:13])) / os.sysconf("SC_CLK_TCK")
-        kind = kind_of(pid)
-        found[kind] = found.get(kind, 0) + spent
-    return found
+    """The seconds of a processor that each process of the browser took so far, by its kind and number."""
+    ticks = os.sysconf("SC_CLK_TCK")
+    return {(kind_of(pid), pid): sum(map(int, stat(pid).rpartition(")")[2].split()[11:13])) / ticks for pid in children(bench.browser.run.pid)}
+
+
+def firefox(bench):
+    """A page in Firefox against one in Chromium, with a reload of Firefox's in the middle."""
+    if not shutil.which(PROGRAM):
+        print("  no firefox-esr: skipped")
+        return
+    bench.next_room()
+    other = Firefox()
+    try:
+        two = other.page(bench.link(2))
+        one = bench.open(1)
+        check("both play", is_playing(one) and is_playing(two), one.text("state"), two.text("state"), two.text("ended"), two.text("then"))
+        check("it keeps a journal", two.value("document.getElementById('warning').hidden"))
+        check("the match ends", bench.play({1: one, 2: two}, meanwhile=lambda: (two.reload(), is_playing(two))))
+        bench.equal("Firefox and Chromium", one, two)
+        if bench.given.pictures:
+            two.picture(f"{bench.given.pictures}/firefox.png")
+        print(f"  Firefox {other.version}, {bench.browser.version}")
+    finally:
+        for it in other.errors:
+            check("Firefox complains", False, it)
+        other.close()
 
 
 def kind_of(pid):

@@ -4,20 +4,37 @@ import hashlib
 import hmac
 import json
 import os
+import random
 import re
 import shutil
+import struct
 import subprocess
 import time
 
-from bench import FRAMES, HERE, PAGES, ROLLBACK, SECRET, SIZES, STATE, TOP, check, is_playing, says, spelt
+from bench import FRAMES, HERE, PAGES, ROLLBACK, SECRET, SIZES, TOP, check, is_playing, says, spelt
 from native import room_name, session_of
 
 # The first row of a paddle that stands in a column of the picture.
 PADDLE = """(() => {{
-    const points = document.getElementById('picture').getContext('2d').getImageData({}, 0, 1, 32).data;
+    const copy = new OffscreenCanvas(64, 32).getContext('2d');
+    copy.drawImage(document.getElementById('picture'), 0, 0);
+    const points = copy.getImageData({}, 0, 1, 32).data;
     return [...Array(32).keys()].findIndex(row => row > 0 && points[4 * row] !== points[0]);
 }})()"""
 ARCHIVE = f"{TOP}/crates/c8_engine/out/libc8_engine.a"
+
+
+def formats():
+    with open(f"{TOP}/docs/FORMATS.md", encoding="utf-8") as it:
+        return it.read()
+
+
+def examples():
+    """The game text of the examples of docs/FORMATS.md, and what stands behind the `#` of the two links."""
+    text = formats().partition("\nExamples, with the secret")[2]
+    game = "\n".join(line[4:] for line in text[text.index("    # a jump"):text.index("    http:")].splitlines())
+    long, short = re.findall(r"(?m)^    http://\S+/#(\S+)$", text)
+    return game, long, short
 
 
 def links(bench):
@@ -26,7 +43,12 @@ def links(bench):
     text = bench.page.read(f"{bench.pages}/rally.game").encode()
     long = spelt(bytes([1, 2]) + (2**63 + 9).to_bytes(8, "big") + SECRET + text[:3000])
     short = f"{2**64 - 1}.{spelt(SECRET)}.2.rally"
+    game, worked, by_name = examples()
+    lines = [it for it in game.splitlines() if it and not it.startswith("#")]
+    check("the long link of FORMATS", worked == spelt(bytes([1, 2]) + (9).to_bytes(8, "big") + SECRET + "".join(f"{it}\n" for it in lines).encode()))
+    check("the short link of FORMATS", by_name == f"9.{spelt(SECRET)}.2.rally")
     wrong = ["", "a", long[:-3], long + "A", spelt(bytes([2, 2]) + bytes(50)), "A" * 8193]
+    wrong += [spelt(bytes([1, 0]) + bytes(50)), spelt(bytes([1, 7]) + bytes(50)), spelt(bytes([1, 2]) + bytes(40)), short + ".", short + "/"]
     wrong += ["." + short, short.replace(".2.", ".7."), short.replace("1844", "18446"), "0" + short, short[:-6]]
     said = json.loads(page.value(f"""(async () => {{
         const L = await import('/link.mjs'), C = await import('/c8.mjs'), bytes = n => Uint8Array.from({{ length: n }}, (_, i) => i * 7 + n);
@@ -39,6 +61,8 @@ def links(bench):
             id: L.hex(L.gameId(rules)), session: L.hex(L.sessionOf(rules, 9n)), hello: L.hex(hello.slice(4, 12)),
             name: L.hex(L.roomName(bytes(32), L.sessionOf(rules, 9n))),
             long: read({json.dumps(long)}), short: read({json.dumps(short)}), wrong: {json.dumps(wrong)}.map(read),
+            worked: read({json.dumps(worked)}), longest: read({json.dumps(spelt(bytes([1, 2]) + bytes(6142)))}),
+            watchers: L.hex(L.watchersSecret(bytes(32).map((_, i) => i))),
             speltLong: L.spellLong({{ seat: 2, room: 2n ** 63n + 9n, secret: bytes(32).map((_, i) => i), text: text.slice(0, 3000) }}),
         }}); }})()"""))
     data = lambda n: bytes((i * 7 + n) % 256 for i in range(n))
@@ -50,6 +74,9 @@ def links(bench):
     check("the name of a room", said["name"] == room_name(data(32), session).hex())
     check("a long link", said["long"] == [2, str(2**63 + 9), SECRET.hex(), None, len(text[:3000])] and said["speltLong"] == long, said["long"])
     check("a short link", said["short"] == [2, str(2**64 - 1), SECRET.hex(), "rally", None], said["short"])
+    check("the page reads that of FORMATS", said["worked"] == [2, "9", SECRET.hex(), None, sum(len(it) + 1 for it in lines)], said["worked"])
+    check("a link of 8192 characters", said["longest"] == [2, "0", bytes(32).hex(), None, 6102], said["longest"])
+    check("the watchers' secret", said["watchers"] == hmac.digest(SECRET, b"c8play watchers 1", "sha256").hex() and said["watchers"] in formats())
     check("wrong links", said["wrong"] == [None] * len(wrong), said["wrong"])
     page.close()
 
@@ -85,12 +112,47 @@ def agree(bench):
             if ran.returncode and module == "c8.wasm":
                 print("  this node does not read c8.wasm")
             else:
-                told[f"{module} in node"] = ran.stdout.split("\n")[:-1] or ran.stderr
+                told[f"{module} in node"] = ran.stdout.split("\n")[:-1] or [ran.stderr]
     page.close()
     first = next(iter(told.values()))
     are_equal = len(first) == len(games) + 1 and all(it == first for it in told.values())
     check("all modules agree", are_equal, *(f"\n{name}: {it}" for name, it in told.items()))
     print(f"  {len(games) + 1} games:", ", ".join(told))
+
+
+def rows(bench):
+    """What a watcher takes of the packets that come, and what it says: packets are made here, by docs/FORMATS.md."""
+    session = session_of(bench.game_id("trails"), 7)
+    key = hmac.digest(SECRET, b"c8play watched 2" + session, "sha256")
+    sealed = lambda datagram, key=key, counter=bytes(8): datagram + counter + hmac.digest(key, datagram + counter, "sha256")[:16]
+    row = lambda frame: struct.pack(">4H", frame + 1, 300 + frame, 7, 0)
+
+    def show(start, count, version=1, kind=7, session=session, seats=(1, 6), length=None):
+        body = struct.pack(">IH", start, count) + b"".join(map(row, range(start, start + count)))
+        return b"C8" + bytes([version, kind]) + session + bytes(seats) + struct.pack(">HII", len(body) if length is None else length, 3, 9) + body
+    wrong = [b"", bytes(60), show(0, 2), sealed(show(0, 2), SECRET), sealed(show(0, 2))[:-1], sealed(show(0, 2)) + b"\0",
+             sealed(show(0, 2, version=2)), sealed(show(0, 2, kind=8)), sealed(show(0, 2, session=bytes(8))),
+             sealed(show(0, 2, seats=(2, 6))), sealed(show(0, 2, seats=(1, 5))), sealed(show(0, 2, length=21)), sealed(show(0, 17)),
+             sealed(show(0, 2)[:-1]), sealed(b"X" + show(0, 2)[1:])]
+    good = [(show(3, 1), 0), (show(0, 2), 2), (show(0, 2), 2), (show(1, 3), 4), (show(6, 2), 4), (show(4, 16), 20), (show(0, 0), 20),
+            (show(20, 9), 24)]
+    page = bench.browser.page(f"http://127.0.0.1:{bench.port}/none.game")
+    said = json.loads(page.value(f"""(async () => {{
+        const L = await import('/link.mjs'), {{ Spectator }} = await import('/watching.mjs'), bytes = it => L.unspell(it);
+        const rules = L.rulesOf(new Uint8Array(await (await fetch('/trails.game')).arrayBuffer()));
+        const it = new Spectator(6, {{ ...rules, frames: 24 }}, bytes('{spelt(session)}'), bytes('{spelt(SECRET)}'));
+        const wrong = {json.dumps([spelt(packet) for packet in wrong])}.map(packet => it.take(bytes(packet)));
+        it.counter = 9n;
+        const seen = L.hex(it.seen());
+        const good = {json.dumps([spelt(sealed(packet)) for packet, _ in good])}.map(packet => [it.take(bytes(packet)), it.rows.length]);
+        return JSON.stringify({{ wrong, seen, good, last: L.hex(it.seen()), rows: it.rows }}); }})()"""))
+    told = lambda count: b"C8\x01\x08" + session + bytes([6, 1]) + struct.pack(">HIII", 4, 0, 0, count)
+    seen = lambda count, counter: sealed(told(count), counter=struct.pack(">Q", counter))
+    check("wrong packets", said["wrong"] == [False] * len(wrong), said["wrong"])
+    check("what it takes", said["good"] == [[True, count] for _, count in good], said["good"])
+    check("its rows", said["rows"] == [list(struct.unpack(">4H", row(frame))) for frame in range(24)], said["rows"])
+    check("what it says", (said["seen"], said["last"]) == (seen(0, 9).hex(), seen(24, 10).hex()), said)
+    page.close()
 
 
 def memory(bench):
@@ -126,7 +188,7 @@ def wrong(bench):
     bench.next_room()
     text = {"#abc": "This link is damaged.", f"#1.{spelt(SECRET)}.2.nothing": "This link is for a game that this server does not have.",
             f"#{spelt(bytes([1, 2]) + bytes(8) + SECRET + b'players 9')}": "This match cannot begin.",
-            f"#1.{spelt(SECRET)}.3.rally": "This match cannot begin.", f"#1.{spelt(SECRET)}.5.rally": "This link is for watching."}
+            f"#1.{spelt(SECRET)}.3.rally": "This match cannot begin."}
     for link, sentence in text.items():
         page = bench.browser.page(f"http://127.0.0.1:{bench.port}/{link}")
         says(page, "ended", sentence)
@@ -164,13 +226,15 @@ def touch(bench):
 
 
 def pad(bench):
-    """A game pad, which the page finds by itself: here an object in its place. And no WebAssembly."""
+    """A game pad, which the page finds by itself: here an object in its place. This browser cannot give a canvas away, so the page paints the
+    picture. And no WebAssembly."""
     bench.next_room()
     page = bench.browser.page("about:blank")
     bench.shown.append(page)
     buttons = "Array.from({ length: 17 }, (_, it) => ({ pressed: it === (globalThis.pushed ?? 99) }))"
     pads = f"[null, {{ axes: [0, globalThis.stick ?? 0], buttons: {buttons} }}]"
     page.call("Page.addScriptToEvaluateOnNewDocument", source=f"navigator.getGamepads = () => {pads};")
+    page.call("Page.addScriptToEvaluateOnNewDocument", source="delete HTMLCanvasElement.prototype.transferControlToOffscreen;")
     page.go(f"http://127.0.0.1:{bench.port}/")
     page.until("document.querySelectorAll('#games li').length === 3", 10)
     page.value("document.querySelectorAll('#games li')[1].querySelectorAll('button')[1].click()")
@@ -210,12 +274,33 @@ def here(bench):
 
 
 def rollback(bench):
-    """The file of rollbacks: a player dies twice and comes back, and both reports are equal."""
+    """The file of rollbacks: the network is as its sliders say; each player dies and comes back; and both reports are equal."""
     page = bench.browser.page(f"file://{ROLLBACK}", size=SIZES["laptop"])
     bench.shown.append(page)
     said = "document.querySelectorAll('.said')"
     begun = page.until(f"{said}.length === 2 && /Frame (\\d\\d\\d)/.test({said}[0].textContent)", 20)
     check("both play", begun, page.value(f"{said}[0]?.textContent"))
+    # how many frames are not confirmed, at most, in a while
+    ahead = """(async () => {
+        let most = 0;
+        for (const end = performance.now() + 700; performance.now() < end; await new Promise(requestAnimationFrame)) {
+            const [ticked, confirmed] = document.querySelector('.said').textContent.match(/\\d+/g).map(Number);
+            most = Math.max(most, ticked - confirmed);
+        }
+        return most; })()"""
+
+    def slide(**values):
+        for name, value in values.items():
+            page.value(f"document.getElementById('{name}').value = {value}; document.getElementById('{name}').oninput()")
+        return [page.text(f"{it}-is") for it in values]
+    shown = slide(delay=0, jitter=0, loss=0)
+    time.sleep(0.5)
+    near = page.value(ahead)
+    shown += slide(delay=300)
+    time.sleep(0.7)
+    far = page.value(ahead)
+    check("the sliders", near + 3 < far and shown == ["0 ms", "\u00b1 0 ms", "0 %", "300 ms"], near, far, shown)
+    slide(delay=100, jitter=40, loss=10)
     for place in (1, 0):
         button = f"document.querySelectorAll('.player button')[{place}]"
         page.value(f"{button}.click()")
@@ -223,63 +308,61 @@ def rollback(bench):
         page.value(f"{button}.click()")
         own = f"{said}[{place}].textContent"
         check("it comes back", page.until(f"{own}.includes('Deaths: 1.') && {own}.includes(': plays')", 10), page.value(own))
-    if bench.given.pictures:
-        time.sleep(1.5)
-        page.picture(f"{bench.given.pictures}/rollback.png")
     page.value("document.getElementById('finish').click()")
     equal = page.until("document.getElementById('verdict').textContent.startsWith('Both reports are equal')", 20)
     check("the reports are equal", equal, page.text("verdict"))
     print(f"  {page.text('verdict')} {os.path.getsize(ROLLBACK)} bytes")
 
 
+def replay_page(bench):
+    """The page of `c8play replay`, as tools/page --replay makes its parts, with rows and pictures that are made here: their path, the frames,
+    and the pictures."""
+    frames, chance, now, pictures, changes = 200, random.Random(3), bytearray(256), [], []
+    for _ in range(frames):
+        pictures.append(bytes(now))
+        some = {chance.randrange(256): chance.randrange(1, 256) for _ in range(chance.randrange(4))}
+        for place, bits in some.items():
+            now[place] ^= bits
+        changes.append("".join(f"{place:02x}{bits:02x}" for place, bits in some.items()) + ",")
+    keys = "".join(f"{1 << frame % 16:04x}{0x8000 if frame > 99 else 0:04x}0000" for frame in range(frames))
+    data = ["3", "3 150\n", keys, "".join(changes)]
+    path, parts = f"{bench.folder}/replay.html", bench.page.replay_parts()
+    bench.page.write(path, "".join(f"{part}{it}" for part, it in zip(parts, [*data, ""])))
+    return path, frames, [*pictures, bytes(now)]
+
+
+def replay(bench):
+    """It shows each picture, forward and back, the keys that are held, and who was dropped."""
+    path, frames, pictures = replay_page(bench)
+    page = bench.browser.page(f"file://{path}", size=SIZES["laptop"])
+    bench.shown.append(page)
+    page.until("document.readyState === 'complete' && part('where').textContent !== ''", 5)
+    lit = """(() => {
+        const points = part('screen').getContext('2d').getImageData(0, 0, 64, 32).data, at = it => points[4 * it] === (picture.colors.lit & 255);
+        return [...Array(256).keys()].map(place => [...Array(8).keys()].reduce((sum, bit) => 2 * sum + at(8 * place + bit), 0)).join(); })()"""
+    check("it begins at the end", page.text("where") == f"{frames}/{frames}", page.text("where"))
+    for frame in (31, 2, frames, 0, 150):
+        page.value(f"part('seek').value = {frame}; part('seek').oninput()")
+        check(f"picture {frame}", page.value(lit) == ",".join(map(str, pictures[frame])))
+        check(f"where {frame}", page.text("where") == f"{frame}/{frames}", page.text("where"))
+    held = lambda player: page.value(f"[...document.querySelectorAll('#pad{player} .held')].map(it => it.textContent).join()")
+    check("the keys that are held", (held(1), held(2), held(3)) == ("5", "f", ""), held(1), held(2), held(3))
+    check("who was dropped", page.value("part('name3').className + part('name1').className") == "dropped" and page.text("marks") == "\u25b2 3")
+    for key, where in ((".", 151), ("ArrowLeft", 91), ("5", 100), ("End", frames), ("Home", 0), ("End", frames), ("0", 0)):
+        page.value(f"document.body.dispatchEvent(new KeyboardEvent('keydown', {{ key: '{key}', bubbles: true }}))")
+        check(f"the key {key}", page.text("where") == f"{where}/{frames}", page.text("where"))
+    page.click("play")
+    check("it plays", page.until(f"part('where').textContent === '{frames}/{frames}' && part('play').textContent === 'Play'", 10), page.text("where"))
+
+
 def types(_):
-    """The types in the comments of all modules, where TypeScript is installed (Debian's node-typescript)."""
-    if not shutil.which("tsc"):
-        print("  no tsc: skipped")
-        return
-    words = ["--noEmit", "--allowJs", "--checkJs", "--strict", "--target", "es2022", "--module", "es2022", "--moduleResolution", "node"]
-    words += ["--lib", "es2022,dom,dom.iterable"]
-    ran = subprocess.run(["tsc", *words, *glob.glob(f"{TOP}/web/*.mjs")], capture_output=True, text=True, check=False)
-    check("types", ran.returncode == 0, ran.stdout)
-
-
-def contrast(bench):
-    """The colors of texts, by the formula of WCAG 2, in both palettes."""
-    with open(f"{PAGES}/style.css", encoding="utf-8") as it:
-        blocks = re.findall(r":root \{(.*?)\}", it.read(), re.S)
-    light = lambda part: part / 12.92 if part <= 0.03928 else ((part + 0.055) / 1.055) ** 2.4
-    part = lambda color, at: light(int(color[at:at + 2], 16) / 255)
-    pairs = ("ink", "paper"), ("ink", "raised"), ("soft", "paper"), ("soft", "raised"), ("warn", "paper"), ("on-main", "main"), ("lit", "dark")
-    for block in blocks:
-        colors = re.findall(r"--([\w-]+): #(\w{6})", block)
-        shine = {name: 0.2126 * part(color, 0) + 0.7152 * part(color, 2) + 0.0722 * part(color, 4) for name, color in colors}
-        for ink, paper in pairs:
-            two = sorted((shine[ink], shine[paper]))
-            ratio = (two[1] + 0.05) / (two[0] + 0.05)
-            check(f"the contrast of {ink} on {paper}", ratio >= 4.5, f"{ratio:.2f}")
-
-
-def pictures(bench):
-    """Pictures of the page, for eyes."""
-    os.makedirs(bench.given.pictures, exist_ok=True)
-    for name, size in SIZES.items():
-        for dark in (False, True):
-            bench.next_room()
-            look = {"size": size, "dark": dark, "touch": name == "phone"}
-            path = f"{bench.given.pictures}/{name}-{'dark' if dark else 'light'}"
-            home = bench.browser.page(f"http://127.0.0.1:{bench.port}/", **look)
-            bench.shown.append(home)
-            home.until("document.querySelectorAll('#games li').length === 3", 10)
-            home.picture(f"{path}-home.png")
-            one = bench.open(1, **look)
-            one.until(f"{STATE}.startsWith('Waiting')", 10)
-            time.sleep(0.3)
-            one.picture(f"{path}-invite.png")
-            two = bench.open(2)
-            is_playing(one)
-            one.key("KeyA", True)
-            time.sleep(3)
-            one.picture(f"{path}-match.png")
-            bench.play({1: one, 2: two})
-            one.picture(f"{path}-end.png")
-            bench.close()
+    """The types in the comments of all modules, where TypeScript is installed (Debian's node-typescript); and those of these tests, by mypy."""
+    script = ["tsc", "--noEmit", "--allowJs", "--checkJs", "--strict", "--target", "es2022", "--module", "es2022", "--moduleResolution", "node",
+              "--lib", "es2022,dom,dom.iterable", *glob.glob(f"{TOP}/web/*.mjs")]
+    python = ["mypy", "--check-untyped-defs", f"--cache-dir={os.devnull}", *glob.glob(f"{TOP}/web/testing/*.py")]
+    for words in (script, python):
+        if not shutil.which(words[0]):
+            print(f"  no {words[0]}: skipped")
+            continue
+        ran = subprocess.run(words, capture_output=True, text=True, check=False)
+        check("types", ran.returncode == 0, ran.stdout)

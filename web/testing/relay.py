@@ -207,7 +207,7 @@ class Pages:
         status = "200 OK" if path in self.files else "404 Not Found"
         writer.write(f"HTTP/1.1 {status}\r\nContent-Type: {kind}\r\nContent-Length: {len(content)}\r\nContent-Security-Policy: {POLICY}\r\n"
                      "X-Content-Type-Options: nosniff\r\nReferrer-Policy: no-referrer\r\nCache-Control: no-cache\r\n\r\n".encode() + content)
-        return True
+        return fields.get("connection", "").lower() != "close"
 
 
 async def main():
