@@ -12,6 +12,9 @@ EMBED, LIBRARIES, PAGES = f"{TOP}/embed", f"{TOP}/out/libraries", f"{TOP}/out/pa
 ENGINE = f"{TOP}/crates/c8_engine/out"
 EXAMPLES = ("example.c", "example.cpp", "example.out", "game.c", "platform.h")
 DOCUMENTS = ("EMBEDDING", "FORMATS", "PROOFS", "PROTOCOL", "REFUSALS")
+# Where a file or a folder of the repository is in an archive; the first that fits.
+PLACES = {"embed/c8.h": "c8.h", "embed/c8.hpp": "c8.hpp", "embed/python": "python", "embed/rust": "rust", "embed/example.mjs": "example.mjs",
+          "embed": "examples", "web/c8.mjs": "c8.mjs", "docs": "docs"}
 RUN = ("linux-x86_64", "linux-aarch64", "windows-x86_64")
 NEW = "and an x86-64 processor with SSE4.2 (2009 and newer)", "and 64-bit ARM"
 KINDS = {"libc8.a": "an archive to link into a program", "libc8.so": "a shared library", "libc8.dylib": "a shared library",
@@ -50,12 +53,17 @@ def readme(system):
     """The README of a system: one of embed/packed, with what differs."""
     kind = "web" if system == "web" else system.split("-")[0] if system in RUN else "other"
     text = read(f"{EMBED}/packed/{kind}.md").decode()
+    is_arm, is_windows = system == "linux-aarch64", system == "windows-x86_64"
     if system in RUN:
         text += read(f"{EMBED}/packed/bindings.md").decode()
-    is_arm, is_windows = system == "linux-aarch64", system == "windows-x86_64"
+    if is_windows:
+        text += read(f"{EMBED}/packed/windows-notes.md").decode()
     libraries = "" if system == "web" else ", ".join(f"`{it}` {KINDS[it]}" for it in sorted(os.listdir(f"{LIBRARIES}/{system}")) if it in KINDS)
-    words = {"VERSION": version(), "NOTES": NOTES.get(system.split("-")[0], ""), "SYSTEM": system, "NEEDS": NEW[is_arm], "GLIBC": ".".join(map(str, GLIBC)), "LIBRARIES": libraries,
-             "COMPILER": "gcc" if is_windows else "cc", "STARTER ": "", "PYTHON": "python" if is_windows else "python3"}
+    words = {"VERSION": version(), "NOTES": NOTES.get(system.split("-")[0], ""), "SYSTEM": system, "NEEDS": NEW[is_arm],
+             "GLIBC": ".".join(map(str, GLIBC)), "LIBRARIES": libraries,
+             "COMPILER": "gcc" if is_windows else "cc", "CXX": "g++ -static" if is_windows else "c++", "SUFFIX": ".exe" if is_windows else "",
+             "SOCKETS": "-lws2_32 -lwinmm " if is_windows else "",
+             "STARTER ": "", "PYTHON": "python" if is_windows else "python3"}
     return re.sub("|".join(words), lambda it: words[it[0]], text)
 
 
@@ -79,11 +87,23 @@ def bindings(found, system):
     put(found, "rust/lib/libc8.a", f"{LIBRARIES}/{system}/libc8.a")
 
 
+def linked(text, found):
+    """A document, whose links lead to files of an archive. A link to another file becomes its words."""
+    def place(it):
+        label, path, anchor = it[1], os.path.normpath(f"docs/{it[2]}"), it[3] or ""
+        for base, where in PLACES.items():
+            if path == base or path.startswith(f"{base}/"):
+                to = where + path[len(base):]
+                is_there = to in found or any(name.startswith(f"{to}/") for name in found)
+                label = to if label == path else label
+                return f"[{label}]({os.path.relpath(to, 'docs')}{anchor})" if is_there else label
+        return label
+    return re.sub(r"\[([^\]]*)\]\((?![a-z]+:|#)([^)#\s]+)(#[^)\s]*)?\)", place, text)
+
+
 def files(system, said):
     """All files of a system's archive by their names: whether each may be run, and its bytes."""
     found = {"c8.h": (False, read(f"{EMBED}/c8.h")), "README.md": (False, readme(system).encode())}
-    for name in DOCUMENTS:
-        put(found, f"docs/{name}.md", f"{TOP}/docs/{name}.md")
     if system == "web":
         for name in ("c8.wasm", "c8-32.wasm", "c8.mjs"):
             put(found, name, f"{PAGES}/{name}")
@@ -98,6 +118,10 @@ def files(system, said):
             bindings(found, system)
         elif not system.startswith("windows"):
             put(found, "c8_journal.c", f"{EMBED}/c8_journal.c")
+    for name in DOCUMENTS:
+        found[f"docs/{name}.md"] = (False, b"")
+    for name in DOCUMENTS:
+        found[f"docs/{name}.md"] = (False, linked(read(f"{TOP}/docs/{name}.md").decode(), found).encode())
     sums = "".join(f"file {name} {hashlib.sha256(it[1]).hexdigest()}\n" for name, it in sorted(found.items())
                    if name.startswith("lib/") or name.endswith(".wasm"))
     found["proved.txt"] = (False, (said + trusted(system) + sums).encode())

@@ -104,8 +104,8 @@ class Player:
 class Relay:
     """A relay that runs."""
 
-    def __init__(self, local: str, *words: str) -> None:
-        command = [Run.program, local, *words]
+    def __init__(self, local: str, *words: str, before: tuple[str, ...] = ()) -> None:
+        command = [*before, Run.program, local, *words]
         self.process = subprocess.Popen(command, stdout=subprocess.PIPE, stderr=subprocess.PIPE, bufsize=0)
         assert self.process.stdout
         self.out = self.process.stdout

@@ -2,8 +2,6 @@
 from __future__ import annotations
 
 import os
-import random
-import resource
 import tempfile
 import threading
 import time
@@ -21,10 +19,6 @@ HURRY, SILENCE, LATE = 5, 30, 3
 PLACES, CONNECTIONS, SHARE = 1024, 128, 64
 # datagrams that a seat may send at once
 BURST = 100
-# as many kilobytes as the system may give a program that asks for none
-SOME = 128
-# how many files and sockets this program and the relay need, and the most of a relay without connections
-FILES, MOST_FILES = 4096, 8
 POLICY = "default-src 'self'; script-src 'self' 'wasm-unsafe-eval'"
 PAGES = {
     "index.html": (b"<!doctype html><title>relay</title>", "text/html; charset=utf-8"),
@@ -261,8 +255,56 @@ def limits_the_connections_of_a_host() -> None:
         check("the connections of a host", eventually(lambda: [it.is_closed(0) for it in crowd] == kept, HURRY - 1))
         crowd[0].close()
         check("a connection after one left", eventually(lambda: not Client(relay.port, host=host).is_closed(QUIET), HURRY - 1))
+        for it in crowd:
+            it.close()
+        eventually(lambda: relay.files() < SHARE // 2, HURRY)
+        webs = [At(relay.port, host, f"X-Real-IP: 192.0.2.{place}") for place in range(SHARE + 1)]
+        joined = [web.join(1, bytes([place] * 16)) for place, web in enumerate(webs)]
+        check("what a host says of itself changes nothing", joined == [JOINED] * SHARE + [FULL], joined)
     finally:
         relay.end()
+
+
+class At(Browser):
+    """A browser that comes to another address of this machine."""
+
+    def __init__(self, port: int, host: str, *fields: str) -> None:
+        self.other = host
+        super().__init__(port, "/relay", *fields)
+
+    def __post_init__(self) -> None:
+        self.host = self.other
+        super().__post_init__()
+
+
+def has_as_many_rooms_as_it_says() -> None:
+    """With --rooms 1 a second room waits until the first is empty."""
+    relay = Relay("127.0.0.1:0", "--rooms", "1")
+    try:
+        one, two = Browser(relay.port), Browser(relay.port)
+        joined = one.join(1, b"1" * 16), two.join(1, b"2" * 16)
+        check("a room too many", joined == (JOINED, FULL), joined)
+        one.close()
+        check("a room after another", eventually(lambda: two.join(1, b"2" * 16) == JOINED, HURRY - 1))
+    finally:
+        relay.end()
+
+
+def asks_both_in_turn(relay: Relay) -> None:
+    """While many packets wait of a browser and of a player, each gets its turn."""
+    room = b"a room for three"
+    web, player, hears = Browser(relay.port), Player(("127.0.0.1", relay.port)), Browser(relay.port)
+    joined = web.join(1, room), player.join(2, room), hears.join(3, room)
+    check("three join", joined == (JOINED, (PROVE, JOINED), JOINED), joined)
+    relay.paused()
+    for _ in range(BURST):
+        web.tell(datagram(1, 3))
+        player.say(datagram(2, 3))
+    relay.goes_on()
+    first = [hears.packet()[12] for _ in range(BURST)]
+    check("both get turns", BURST / 4 < first.count(1) < 3 * BURST / 4, first)
+    for it in (web, hears):
+        it.close()
 
 
 def asks_for_an_origin() -> None:
@@ -290,73 +332,6 @@ def counts_hosts_behind_a_proxy() -> None:
         relay.end()
 
 
-def bad_head(chance: random.Random) -> bytes:
-    """A head that is damaged, or noise."""
-    head = bytearray(chance.choice([upgrade(), b"GET / HTTP/1.1\r\nHost: relay\r\n\r\n", b"HEAD /a?b HTTP/1.1\r\nA: b\r\n\r\n"]))
-    for _ in range(chance.randrange(1, 8)):
-        place = chance.randrange(len(head))
-        what = chance.randrange(4)
-        if what == 0:
-            head[place] = chance.randrange(256)
-        elif what == 1:
-            del head[place:]
-            head += b"\r\n"
-        elif what == 2:
-            head[place:place] = chance.randbytes(chance.randrange(1, 2000))
-        else:
-            head[place:place] = b"X: y\r\n" * chance.randrange(80)
-    return bytes(head)
-
-
-def bad_frames(chance: random.Random) -> bytes:
-    """Frames that are damaged, cut, or too long, and JOINs and datagrams among them."""
-    frames = b""
-    for _ in range(chance.randrange(1, 12)):
-        packets = asking(chance.randrange(256)), datagram(chance.randrange(8), chance.randrange(8)), chance.randbytes(chance.randrange(300))
-        content = chance.choice(packets)
-        content = content[: chance.choice([len(content), chance.randrange(len(content) + 1)])]
-        kind = chance.choice([LAST | BINARY] * 6 + [LAST | TEXT, BINARY, LAST | PING, LAST | PONG, LAST | CLOSE, chance.randrange(256)])
-        one = bytearray(frame(kind, content, chance.random() < 0.95))
-        if chance.random() < 0.1:
-            one[chance.randrange(len(one))] = chance.randrange(256)
-        frames += one
-    return frames[: chance.choice([len(frames), chance.randrange(len(frames) + 1)])]
-
-
-def stands_bad_input(rounds: int) -> None:
-    """Bad heads, frames and packets of a generator; then the relay still serves, and holds no more memory and no more sockets."""
-    relay = Relay("127.0.0.1:0", "--progress")
-    chance = random.Random(8)
-    memory = 0
-    try:
-        # all places were used once
-        for client in [Client(relay.port) for _ in range(PLACES)]:
-            client.close()
-        for turn in range(rounds):
-            client = Client(relay.port) if turn % 2 else Browser(relay.port)
-            player = Player(("127.0.0.1", relay.port))
-            try:
-                client.say(bad_head(chance) if turn % 2 else bad_frames(chance))
-                player.say(chance.choice([asking(chance.randrange(8)), datagram(1, 2), chance.randbytes(60)])[: chance.randrange(64)])
-                client.hear(1 << 16, chance.choice([0, 0, 0.01]))
-            except ConnectionError:
-                pass
-            client.close()
-            player.socket.close()
-            if turn == rounds // 4:
-                memory = relay.memory()
-        time.sleep(2 * QUIET)
-        check("it still runs", relay.process.poll() is None, relay.process.poll())
-        check("its memory has not grown", relay.memory() <= memory + SOME, memory, relay.memory())
-        check("all connections are closed", eventually(lambda: relay.files() <= MOST_FILES, HURRY + LATE), relay.files())
-        web, player = Browser(relay.port), Player(("127.0.0.1", relay.port))
-        check("it still serves", (web.join(1), player.join(2)) == (JOINED, (PROVE, JOINED)))
-        player.say(datagram(2, 1, 9))
-        check("it still carries", web.packet() == datagram(2, 1, 9))
-    finally:
-        relay.end()
-
-
 def refuses_folders() -> None:
     """A folder that cannot be read, and one with too many bytes."""
     for what, size in (("no folder", None), ("a folder above 16 MB", 16_777_217)):
@@ -372,21 +347,19 @@ def refuses_folders() -> None:
             check(f"refuses {what}", (relay.process.returncode, relay.first, said) == (3, "", b"refused: disk 1 Failed\n"), said)
 
 
-def all_checks(rounds: int) -> None:
-    most = resource.getrlimit(resource.RLIMIT_NOFILE)[1]
-    resource.setrlimit(resource.RLIMIT_NOFILE, (min(FILES, most) if most > 0 else FILES, most))
+def all_checks() -> None:
     serves_pages()
     limits_the_connections_of_a_host()
     asks_for_an_origin()
     counts_hosts_behind_a_proxy()
+    has_as_many_rooms_as_it_says()
     refuses_folders()
     relay, patient = Relay("127.0.0.1:0", "--progress"), Relay("127.0.0.1:0")
     try:
         waits = threading.Thread(target=lets_nobody_wait, args=(patient,))
         waits.start()
-        for checks in (refuses_requests, carries_both_ways, refuses_frames, goes_on_beside_a_deaf_member, keeps_places_for_all):
+        for checks in (refuses_requests, carries_both_ways, asks_both_in_turn, refuses_frames, goes_on_beside_a_deaf_member, keeps_places_for_all):
             checks(relay)
-        stands_bad_input(rounds)
         waits.join()
     finally:
         relay.end()
