@@ -27,3 +27,8 @@ pub mod BroughtLemmas
 pub mod EnteringLemmas
 pub mod EndingLemmas
 pub mod OpeningLemmas
+pub mod EventLemmas
+pub mod CalmLemmas
+pub mod ArrivingLemmas
+pub mod FourLemmas
+pub mod RoundLemmas
