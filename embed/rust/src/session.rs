@@ -59,6 +59,17 @@ pub enum Kind {
     Cut(u8),
 }
 
+/// What an input of a row is.
+#[derive(Clone, Copy, Debug, PartialEq, Eq, Hash)]
+pub enum Status {
+    /// A guess, which may change; also of a player that the game has not.
+    Predicted,
+    /// Its player entered it: it is final.
+    Held,
+    /// The empty one of a dropped player, from its cut on: it is final.
+    Empty,
+}
+
 /// The file of a journal, and the folder that has its name.
 #[derive(Debug)]
 pub struct Journal {
@@ -210,6 +221,17 @@ impl Session {
     /// [`Refusal::NoPlayer`] for any other number.
     pub fn show_to(&mut self, watcher: u8) -> Result<(), Refusal> {
         done(self.handle.watched(watcher))
+    }
+
+    /// What the input of each player in the best row of a frame is.
+    pub fn status(&self, frame: u32) -> [Status; 4] {
+        let mut out = [0; 4];
+        self.handle.status(frame, &mut out);
+        out.map(|status| match status {
+            0 => Status::Predicted,
+            1 => Status::Held,
+            _ => Status::Empty,
+        })
     }
 
     /// Whether the match is over for this session: it was dropped, or everything was confirmed and acknowledged for more

@@ -88,6 +88,10 @@ impl Handle {
         unsafe { c8_watched(self.0.get(), watcher) }
     }
 
+    pub fn status(&self, frame: u32, out: &mut [u8; 4]) -> u32 {
+        unsafe { c8_status(self.0.get(), frame, out.as_mut_ptr()) }
+    }
+
     pub fn is_over(&self) -> bool {
         unsafe { c8_is_over(self.0.get()) }
     }

@@ -37,6 +37,10 @@ pub unsafe fn c8_watched(_: *mut c8_session, _: u8) -> u32 {
     absent()
 }
 
+pub unsafe fn c8_status(_: *mut c8_session, _: u32, _: *mut u8) -> u32 {
+    absent()
+}
+
 pub unsafe fn c8_is_over(_: *mut c8_session) -> bool {
     absent()
 }

@@ -25,6 +25,8 @@ pub struct c8_player_state {
     pub linked: bool,
     /// Whether player 1 has dropped it, as far as is known here.
     pub dropped: bool,
+    /// The frame from which on its inputs are empty, once it is known; else `u32::MAX`.
+    pub cut: u32,
 }
 
 #[cfg(c8_absent)]
@@ -52,6 +54,7 @@ extern "C" {
     pub fn c8_turn(session: *mut c8_session) -> u32;
     pub fn c8_next(session: *mut c8_session, out: *mut u8, to: *mut u8) -> u32;
     pub fn c8_watched(session: *mut c8_session, watcher: u8) -> u32;
+    pub fn c8_status(session: *mut c8_session, frame: u32, out: *mut u8) -> u32;
     pub fn c8_is_over(session: *mut c8_session) -> bool;
     pub fn c8_is_lost(session: *mut c8_session) -> bool;
     pub fn c8_step(session: *mut c8_session, from: *mut u32, rows: *mut u16, words: usize) -> u32;
