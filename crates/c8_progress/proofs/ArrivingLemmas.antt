@@ -1,7 +1,6 @@
 -- What a HELLO, a WELCOME and a DATA do that arrive in a calm run; for LinkingLemmas and RoundLemmas.
-use Rattle.std.proofs.Common.{◌≡◌, ◌≢◌, ℕ, suc, ◌≤◌, ◌<◌, ◌⊎◌, inl, inr, ⊎_elim, List, [], ◌∷◌, ◌++◌, length, true, false, Option, Some}
-use Rattle.std.proofs.Common.{None}
-use Rattle.std.proofs.Common.{Ok, Err, refl, sym, ap, subst, ◌∙◌, arith}
+use Rattle.std.proofs.Common.{◌≡◌, ◌≢◌, ℕ, suc, ◌≤◌, ◌<◌, ◌⊎◌, inl, inr, ⊎_elim, List, [], ◌∷◌, ◌++◌, length, true, false, Option, Some, None, Ok}
+use Rattle.std.proofs.Common.{Err, refl, sym, ap, subst, ◌∙◌, arith}
 use Rattle.std.specs.Prelude.{◌==◌, not, max}
 use Rattle.std.specs.List.{slice_get}
 use Rattle.std.proofs.lemmas.Bool.{cases_Bool, ne_eqb}
@@ -42,7 +41,7 @@ use Rattle.c8_progress.proofs.CalmLemmas.{acked_later, end_later, matched_across
 -- ---- one event
 
 -- what p says is the next datagram
-said_next : (rules : Rules) (room : ℕ) (run : Run rules room) (p q : ℕ) (what : Saying) (told : Packet) (t : ℕ) → IsPlayer rules p
+pub said_next : (rules : Rules) (room : ℕ) (run : Run rules room) (p q : ℕ) (what : Saying) (told : Packet) (t : ℕ) → IsPlayer rules p
     → (peer_of (run.world t) p).mode ≡ states.Open → run.event t ≡ Do (worlds.Say p q what)
     → ((on_disk : DiskOutcome) → step rules p (peer_of (run.world t) p) (states.Say q what) on_disk ≡ record {
       reply = Said (Ok told);
@@ -62,7 +61,7 @@ said_next rules room run p q what told t plays up says is =
     subst (λ (x : World). slice_get x.said (length w.said) ≡ Some told) (sym made ∙ v_is) (next_said w.said told)
 
 -- what is given to q, it hears
-heard_next : (rules : Rules) (room : ℕ) (run : Run rules room) → Goes rules room run → (q number : ℕ) (told : Packet) (t : ℕ)
+pub heard_next : (rules : Rules) (room : ℕ) (run : Run rules room) → Goes rules room run → (q number : ℕ) (told : Packet) (t : ℕ)
     → Stays rules room run q → run.event t ≡ Do (worlds.Give number q) → slice_get (run.world t).said number ≡ Some told
     → peer_of (run.world (suc t)) q ≡ (step rules q (peer_of (run.world t) q) (Deliver (Ok told)) Works).state
 unfolding acted
@@ -82,14 +81,14 @@ heard_next rules room run goes q number told t stays gives is =
 
 -- ---- what arrives
 
-own_stays : (rules : Rules) (room : ℕ) (run : Run rules room) → Goes rules room run → (p t : ℕ) → Stays rules room run p
+pub own_stays : (rules : Rules) (room : ℕ) (run : Run rules room) → Goes rules room run → (p t : ℕ) → Stays rules room run p
     → has_leave p (journal_of (run.world t) p) ≡ false
 own_stays rules room run goes p t stays =
     (stays_clean rules room (run.world t) p p goes.range goes.laws (reached_at rules room run goes t) (undropped_at rules room run goes p t stays)
     stays.plays).stays
 
 -- the datagram is there when it is heard
-told_then : (rules : Rules) (room : ℕ) (run : Run rules room) (p q : ℕ) (what : Saying) (t u : ℕ) (told : Packet)
+pub told_then : (rules : Rules) (room : ℕ) (run : Run rules room) (p q : ℕ) (what : Saying) (t u : ℕ) (told : Packet)
     → (a : Arrives rules room run p q what t u)
     → slice_get (run.world (suc a.at)).said (length (run.world a.at).said) ≡ Some told
     → slice_get (run.world a.heard_at).said (length (run.world a.at).said) ≡ Some told
@@ -242,7 +241,8 @@ pub record IsTaught (rules : Rules) (room : ℕ) (run : Run rules room) (p q t u
 more_brought : (from all low high : ℕ) → low ≤ high → Brings from all low → Brings from all high
 more_brought from all low high up_to brings = ⊎_elim (λ more. inl (omega (arith, more, up_to))) (λ whole. inr (omega (arith, whole, up_to))) brings
 
-may_tell : (rules : Rules) (room : ℕ) (run : Run rules room) → Goes rules room run → (p q n m : ℕ) → Stays rules room run p → Stays rules room run q
+pub may_tell : (rules : Rules) (room : ℕ) (run : Run rules room) → Goes rules room run → (p q n m : ℕ) → Stays rules room run p
+    → Stays rules room run q
     → p ≢ q → n ≤ m → Fresh (run.world n) p q → Fresh (run.world n) q p → MayTell rules p (peer_of (run.world n) p) q (peer_of (run.world m) q)
 may_tell rules room run goes p q n m one other apart up_to fresh back =
     let w : World = run.world n in

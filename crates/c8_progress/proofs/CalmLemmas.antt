@@ -1,7 +1,5 @@
 -- What never goes back in a calm run: journals, links that are open, acknowledgements; for ArrivingLemmas and the laws of rounds.
-use Rattle.std.proofs.Common.{◌≡◌, ◌≢◌, ℕ, zero, suc, ◌+◌, ◌-◌, ◌≤◌, ◌⊎◌, inl, inr, ⊎_elim, List, ◌++◌, true, None, refl}
-use Rattle.std.proofs.Common.{sym}
-use Rattle.std.proofs.Common.{ap, subst, ◌∙◌, arith}
+use Rattle.std.proofs.Common.{◌≡◌, ◌≢◌, ℕ, zero, suc, ◌+◌, ◌-◌, ◌≤◌, ◌⊎◌, inl, inr, ⊎_elim, List, ◌++◌, true, None, refl, sym, ap, subst, ◌∙◌, arith}
 use Rattle.std.proofs.lemmas.Bool.{cases_eq}
 use Rattle.c8_game.specs.Rules.{Rules, AreInRange}
 use Rattle.c8_wire.specs.Packet.{Packet}
@@ -35,7 +33,7 @@ use Rattle.c8_progress.proofs.TellingLemmas.{IsLonger}
 use Rattle.c8_progress.proofs.ExchangeLemmas.{pair_gets_on}
 use Rattle.c8_progress.proofs.GoingLemmas.{got_on_leads, reached_leads, grown_longer, grown_leaves, count_begins, cut_begins, stays_clean}
 use Rattle.c8_progress.proofs.GoingLemmas.{undropped_pair, players_get_on}
-use Rattle.c8_progress.proofs.EventLemmas.{HasMoved, event_calls, event_said, called_moves}
+use Rattle.c8_progress.proofs.EventLemmas.{IsCalled, HasMoved, event_calls, event_said, called_moves}
 
 -- a calm run from a reached world
 pub record Goes (rules : Rules) (room : ℕ) (run : Run rules room) : Type 0 where
@@ -94,14 +92,18 @@ pub linked_at : (rules : Rules) (room : ℕ) (run : Run rules room) → Goes rul
     → IsLinkedWell rules room (journal_of (run.world t)) (run.world t).said p (links_of (run.world t) p)
 linked_at rules room run goes p t stays = (well_at rules room run goes t).linked p stays.plays (awake_at rules room run goes p t stays)
 
+-- at each time a call was made of the peer, or nothing happened to it
+pub called_at : (rules : Rules) (room : ℕ) (run : Run rules room) → Goes rules room run → (p t : ℕ) → Stays rules room run p
+    → IsCalled rules (run.world t) p (peer_of (run.world (suc t)) p)
+called_at rules room run goes p t stays =
+    event_calls rules room (run.world t) (run.world (suc t)) p (run.event t) (run.answer t) goes.range.at_most_four (well_at rules room run goes t)
+    stays.plays (run.step t) (open_at rules room run goes p t stays) (open_at rules room run goes p (suc t) stays)
+
 moved_at : (rules : Rules) (room : ℕ) (run : Run rules room) → Goes rules room run → (p t : ℕ) → Stays rules room run p
     → HasMoved (run.world t).said (peer_of (run.world t) p) (peer_of (run.world (suc t)) p)
 moved_at rules room run goes p t stays =
-    let up = open_at rules room run goes p t stays in
-    let still = open_at rules room run goes p (suc t) stays in
-    called_moves rules (run.world t) p (peer_of (run.world (suc t)) p) up
-    (event_calls rules room (run.world t) (run.world (suc t)) p (run.event t) (run.answer t) goes.range.at_most_four (well_at rules room run goes t)
-    stays.plays (run.step t) up still)
+    called_moves rules (run.world t) p (peer_of (run.world (suc t)) p) (open_at rules room run goes p t stays)
+    (called_at rules room run goes p t stays)
 
 -- ---- journals, datagrams and acknowledgements
 

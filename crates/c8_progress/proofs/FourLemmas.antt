@@ -8,8 +8,8 @@ use Rattle.c8_world.specs.World.{peer_of}
 use Rattle.c8_world.specs.Agreement.{Names}
 use Rattle.c8_progress.specs.Exchange.{links_of}
 use Rattle.c8_progress.specs.Rounds.{Run, IsHailed, IsDue, Arrives, IsTurn, spoke, FairRounds, LinksAreOpen}
-use Rattle.c8_progress.proofs.CalmLemmas.{Goes, Stays, reached_at, well_at, undropped_at, awake_at, linked_at, among_later, end_later}
-use Rattle.c8_progress.proofs.CalmLemmas.{Knows, known_within, knows_later, Fresh, fresh_later}
+use Rattle.c8_progress.proofs.CalmLemmas.{Goes, Stays, reached_at, well_at, undropped_at, awake_at, linked_at, among_later, end_later, Knows}
+use Rattle.c8_progress.proofs.CalmLemmas.{known_within, knows_later, Fresh, fresh_later}
 use Rattle.c8_progress.proofs.ArrivingLemmas.{IsGreeted, hello_arrives, welcome_arrives}
 
 -- ---- rounds

@@ -105,12 +105,18 @@ pub fn four_fair_rounds_open_links()
     openings_find_journals();
 }
 
-/// Fair rounds end a match: after three of them and three a frame, every undropped player has confirmed all frames, for good.
+/// Fair rounds end a match: every undropped player has confirmed all frames, for good.
 ///
-/// The run begins in any reached world in which every undropped peer is open and no drop round is under way, so in any match
-/// in which nobody was dropped.
+/// The run begins in any reached world in which every undropped peer is open, whatever happened before.
+///
+/// - `all`: after eight rounds and three a frame; drop rounds may be under way.
+/// - `over`: after three rounds and three a frame, if no drop round is under way, as in a match in which nobody was dropped.
 pub fn fair_rounds_end_a_match()
-    ensures { (rules : Rules) (room : ℕ) (run : Run rules room) (rounds : FairRounds rules room run (3 + 3 * rules.frames)) (p t : ℕ)
+    ensures all { (rules : Rules) (room : ℕ) (run : Run rules room) (rounds : FairRounds rules room run (8 + 3 * rules.frames)) (p t : ℕ)
+        → AreInRange rules → room < 2 ^ 64 → IsReached rules room (run.world 0) → IsCalm rules room run
+        → IsPlayer rules p → IsUndropped (run.world 0) p
+        → rounds.begin (8 + 3 * rules.frames) ≤ t → confirmed (known_by rules (run.world t) p) ≡ rules.frames }
+    ensures over { (rules : Rules) (room : ℕ) (run : Run rules room) (rounds : FairRounds rules room run (3 + 3 * rules.frames)) (p t : ℕ)
         → AreInRange rules → room < 2 ^ 64 → IsReached rules room (run.world 0) → IsCalm rules room run
         → DropsAreOver rules (run.world 0)
         → IsPlayer rules p → IsUndropped (run.world 0) p
