@@ -1,5 +1,5 @@
 -- What a turn says at one place, and at the places after it. The calls of speaking need it.
-use Rattle.std.proofs.Common.{◌≡◌, ◌≢◌, ℕ, suc, ◌+◌, ◌-◌, ◌/◌, ◌%◌, ◌<◌, ◌≤◌, List, [], ◌∷◌, ◌++◌, Bool, true, false, nat_lt, nat_eq}
+use Rattle.std.proofs.Common.{◌≡◌, ◌≢◌, ℕ, suc, ◌+◌, ◌-◌, ◌/◌, ◌%◌, ◌<◌, ◌≤◌, List, [], ◌∷◌, ◌++◌, Bool, true, false}
 use Rattle.std.proofs.Common.{Option, Some, Ok, Err, option_map, refl, ap, sym, subst, ◌∙◌, arith}
 use Rattle.std.proofs.lemmas.Bool.{lt-ltb, le-leb, ne_eqb}
 use Rattle.c8_refusals.specs.declared.error.Unsayable.{Unsayable}
@@ -35,9 +35,9 @@ module _ {D : Type 0} (p : PeerValue D) where
   due_is greeters shown place to what low same other due =
       let player = place / places_of_player in
       let there = subst (λ (at : ℕ). Some what
-          ≡ due_to p.me (known_by p) p.state.memory (has greeters at) (player + 1) (place % places_of_player)) (back player)
-          (subst (λ (one : ℕ). Some what
-          ≡ due_to p.me (known_by p) p.state.memory (has greeters (one - 1)) one (place % places_of_player)) same due) in
+      ≡ due_to p.me (known_by p) p.state.memory (has greeters at) (player + 1) (place % places_of_player)) (back player)
+      (subst (λ (one : ℕ). Some what
+      ≡ due_to p.me (known_by p) p.state.memory (has greeters (one - 1)) one (place % places_of_player)) same due) in
       rw (lt-ltb place places_of_players low, ne_eqb (player + 1) p.me other, same) (ap (option_map (Say (player + 1))) (sym there))
 
   -- ---- whether it is said

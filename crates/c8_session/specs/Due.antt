@@ -58,8 +58,8 @@ due_at peer greeters shown place =
     if nat_lt place places_of_players then
     (if (place / places_of_player) + 1 == peer.me then None
     else option_map (Say ((place / places_of_player) + 1))
-        (due_to peer.me (known_by peer) peer.state.memory (has greeters (place / places_of_player)) ((place / places_of_player) + 1)
-        (place % places_of_player)))
+    (due_to peer.me (known_by peer) peer.state.memory (has greeters (place / places_of_player)) ((place / places_of_player) + 1)
+    (place % places_of_player)))
     else shown_at shown (place - places_of_players)
 
 -- ---- what the peer does not refuse to say

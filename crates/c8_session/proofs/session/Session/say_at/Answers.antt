@@ -15,9 +15,12 @@ returns-in-Ok-clause-said g c =
     let seat : c.from.result.number ≡ c.in_ok-to.to.number = search rules in
     let low : c.args.place < places_of_players = omega (arith, c.if-place-ge-PLACES_OF_PLAYERS.false) in
     let due = due_is self.peer self.schedule.greeters self.is_shown c.args.place to what low c.in_ok-to.ensures.some.0
-        c.in_ok-to.ensures.some.1 c.in_ok-kind.ensures in
-    (Say to what, saying_to to c.from.result.number what seat, said,
-    says self.peer (due_at self.peer self.schedule.greeters self.is_shown c.args.place) (Say to what) said.packet due said.step)
+    c.in_ok-to.ensures.some.1 c.in_ok-kind.ensures in (
+      Say to what,
+      saying_to to c.from.result.number what seat,
+      said,
+      says self.peer (due_at self.peer self.schedule.greeters self.is_shown c.args.place) (Say to what) said.packet due said.step,
+    )
 
 pub returns-in-Err-clause-silent : goal.returns-in-Err-clause-silent
 returns-in-Err-clause-silent g c =
@@ -26,5 +29,5 @@ returns-in-Err-clause-silent g c =
     let what = saying_of c.in_ok-kind.kind in
     let low : c.args.place < places_of_players = omega (arith, c.if-place-ge-PLACES_OF_PLAYERS.false) in
     let due = due_is self.peer self.schedule.greeters self.is_shown c.args.place to what low c.in_ok-to.ensures.some.0
-        c.in_ok-to.ensures.some.1 c.in_ok-kind.ensures in
+    c.in_ok-to.ensures.some.1 c.in_ok-kind.ensures in
     refuses self.peer (due_at self.peer self.schedule.greeters self.is_shown c.args.place) (Say to what) c.in-Err.field-0 due c.in-Err.ensures.refused

@@ -11,13 +11,16 @@ returns-in-Ok-clause-said g c =
     let watcher = c.in_ok-watcher.watcher in
     let seat : c.from.result.number ≡ watcher.number = search rules in
     let due = shown_is c.args.self.now.is_shown c.args.place watcher.number (sym c.shows.ensures ∙ c.if-not-shows.false)
-        c.in_ok-watcher.ensures.some in
-    (Show watcher.number, showing_to watcher.number c.from.result.number watcher.from_five watcher.to_six seat, said,
-    says c.args.self.now.peer (shown_at c.args.self.now.is_shown c.args.place) (Show watcher.number) said.packet due said.step)
+    c.in_ok-watcher.ensures.some in (
+      Show watcher.number,
+      showing_to watcher.number c.from.result.number watcher.from_five watcher.to_six seat,
+      said,
+      says c.args.self.now.peer (shown_at c.args.self.now.is_shown c.args.place) (Show watcher.number) said.packet due said.step,
+    )
 
 pub returns-in-Err-clause-silent : goal.returns-in-Err-clause-silent
 returns-in-Err-clause-silent g c =
     let watcher = c.in_ok-watcher.watcher in
     let due = shown_is c.args.self.now.is_shown c.args.place watcher.number (sym c.shows.ensures ∙ c.if-not-shows.false)
-        c.in_ok-watcher.ensures.some in
+    c.in_ok-watcher.ensures.some in
     refuses c.args.self.now.peer (shown_at c.args.self.now.is_shown c.args.place) (Show watcher.number) c.in-Err.field-0 due c.in-Err.ensures.refused
