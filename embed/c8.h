@@ -12,9 +12,10 @@
  *
  * example.c is a whole program, game.c a game over UDP, docs/EMBEDDING.md an overview.
  *
- * What a caller owes:
+ * What a caller owes; what a call does otherwise is undefined:
  * - A session starts as {0}. Never change `at`, and keep one live copy: pass pointers.
- * - One call at a time on a session. Sessions share nothing, so each may be used by a thread of its own.
+ * - One call at a time on a session. Sessions share nothing, so each may be used by a thread of its own. After fork() a
+ *   child uses none of its parent's sessions, and closes none.
  * - A pointer is not null, and points to as many bytes as its length or array bound says. Two pointers of one call that
  *   the call writes to do not overlap each other or what it reads.
  *
@@ -34,8 +35,8 @@
 
 /* The version of the library that this header is for; as a number, a byte for each part. docs/EMBEDDING.md says what may
  * change between versions. */
-#define C8_VERSION "0.2.0"
-#define C8_VERSION_NUMBER 0x000200
+#define C8_VERSION "0.2.1"
+#define C8_VERSION_NUMBER 0x000201
 
 #ifdef __cplusplus
 extern "C" {
@@ -51,11 +52,14 @@ enum {
     C8_ROWS = 16       /* rows that one step needs room for at most, once the engine is up to date */
 };
 
+#define C8_UNCUT UINT32_MAX /* `cut` of a player whose inputs have no known end */
+
 typedef uint32_t c8_answer;
 
 /* Some answers that a program may test for. */
 enum {
     C8_CLOSED = 101,         /* the session is closed */
+    C8_NOBODY = 102,         /* the number of no player, watcher or kind, whichever the call wants */
     C8_NOT_SEALED = 103,     /* a packet that is not sealed for this player with the secret of the match */
     C8_SEEN_BEFORE = 104,    /* a packet that came before, or is too old to tell */
     C8_BAD_SECRET = 105,     /* the watchers' secret is that of the players, or not 32 bytes */
@@ -63,6 +67,9 @@ enum {
     C8_THRESHOLD = 401,      /* too far ahead of what is confirmed: tick this input again later */
     C8_END = 402,            /* the last frame was ticked */
     C8_DROPPED = 403,        /* player 1 has dropped this player */
+    C8_GAP = 701,            /* inputs that came before those that precede them; they come again */
+    C8_DIFFERS = 703,        /* another input for a frame than before: a lost journal, or two programs as one player */
+    C8_BAD_ACK = 810,        /* it has inputs of this player that its journal has not: see c8_is_lost */
     C8_DESYNC = 814,         /* another player's CHIP-8 machine differs */
     C8_DISK = 1301,          /* the journal's disk failed */
     C8_FULL = 1302,          /* the journal is full */
@@ -74,6 +81,12 @@ typedef struct {
     uint8_t *at;
 } c8_session;
 
+/* Whether an answer says that the session is down: its disk refused a record, in this call or an earlier one. */
+static inline bool c8_is_down(c8_answer answer) {
+    return answer == C8_DISK || answer == C8_FULL || answer == 405 || answer == 816 || answer == 901 || answer == 1005 ||
+           answer == 1105 || answer == 1204;
+}
+
 /* What a session knows of another player of its match. Of its own, only `held` and `dropped` mean something. */
 typedef struct {
     uint64_t silent;       /* turns in a row without a datagram that its open link admitted, with the present one */
@@ -81,17 +94,33 @@ typedef struct {
     uint32_t acknowledged; /* own inputs that it has acknowledged since the opening, with those of the delay */
     bool linked;           /* its link is open: inputs can be sent */
     bool dropped;          /* player 1 has dropped it, as far as is known here */
+    uint32_t cut;          /* the frame from which on its inputs are empty, once it is known; else C8_UNCUT */
 } c8_player_state;
+
 /* Who is ahead: the own ticks that reached a player are `acknowledged` - delay, its ticks that came here `held` - delay.
  * The own player is ahead of it by about (ticked + delay - held) - (ticked + delay - acknowledged) / 2 frames. If that
- * stays above 1, leave out a tick now and then: it is always allowed, and the other one has fewer rollbacks. */
+ * stays above 1, leave out a tick now and then: it is always allowed, and the other one has fewer rollbacks. With several
+ * players the one with the fewest `held` counts, among those that are not `dropped`. */
+
+/* What an input of a row is. */
+enum {
+    C8_PREDICTED = 0, /* a guess, which may change */
+    C8_HELD = 1,      /* its player entered it: it is final */
+    C8_EMPTY = 2      /* the empty one of a dropped player, from its cut on: it is final */
+};
 
 /* ---- opening and closing */
 
 /* Opens the session of a player, 1 to 4, in a match: the text of a game (docs/FORMATS.md, or c8_rules) and a room, a
- * number that all players of the match share. The journal is in memory. Player 1 drops a player who was silent for
- * `patience` turns; 0 never. Opening over an open session closes that one, unless it is refused. The rules of the game,
- * some hundred bytes and its program, are never given back. Use a room once. */
+ * number that all players of the match share. The journal is in memory. Opening over an open session closes that one,
+ * unless it is refused. The rules of the game, some hundred bytes and its program, are never given back. Use a room once.
+ *
+ * Only player 1 drops players, and nobody drops player 1: a match without it waits, and ends there if it does not come
+ * back. Player 1 drops a player who was silent for `patience` turns; 0 never. This begins with player 1's opening, so
+ * choose more turns than the others need to load. At the sessions of other players `patience` does nothing.
+ *
+ * It reserves 144 bytes for each record of the journal: players times frames, 37 for each 3,600 frames, and 65,536 more.
+ * That is 9.6 MB for two players and 600 frames, 161 MB for four and 262,144; what is not used is not touched. */
 c8_answer c8_open(const uint8_t *text, size_t length, uint8_t player, uint64_t room, uint32_t patience, c8_session *);
 
 /* The same over a journal in a file, from which a crashed program goes on where it was: with the same text, player and
@@ -117,13 +146,15 @@ void c8_memory(void *(*take)(size_t size), void *(*again)(void *at, size_t size)
 
 /* ---- a frame: deliver what came, tick, make the turn, send what is due, step
  *
- * Tick from the first frame on; c8_turn makes the links between the players, and a datagram names its sender. The result
- * is final once c8_confirmed is the number of frames, but go on with turns until c8_is_over: who leaves earlier may leave
- * another player without an end. */
+ * Tick from the first frame on; c8_turn makes the links between the players, and a datagram names its sender. All players
+ * tick at one rate, and make a turn for each frame, whatever their screens do. The result is final once c8_confirmed is
+ * the number of frames, but go on with turns until c8_is_over: who leaves earlier may leave another player without an end.
+ * To leave a match before its end, close the session: player 1 drops that player by its patience, or by c8_leave. */
 
-/* Processes a received packet: any bytes. 0: it added nothing; 1: it added inputs or a decision; 2: it says that
- * player 1 has dropped this player. Refusals are normal, since packets come late, twice or from strangers: only
- * C8_DISK, C8_FULL and C8_DESYNC need an answer. */
+/* Processes a received packet: any bytes, at any time between two calls. 0: it added nothing; 1: it added inputs or a
+ * decision; 2: it says that player 1 has dropped this player. Refusals are normal, since packets come late, twice or from
+ * strangers: only C8_DISK, C8_FULL and C8_DESYNC need an answer. C8_DIFFERS and C8_BAD_ACK, if they go on, tell that a
+ * journal was lost: its player cannot play on. */
 c8_answer c8_deliver(c8_session *, const uint8_t *bytes, size_t length);
 
 /* Enters the own player's next input, 16 bits. The input of tick t, from 0 on, is in row t + delay; the first rows, as
@@ -131,7 +162,9 @@ c8_answer c8_deliver(c8_session *, const uint8_t *bytes, size_t length);
 c8_answer c8_tick(c8_session *, uint16_t input);
 
 /* Begins a turn: player 1 drops silent players and cuts their inputs, a journal gets a part of its checkpoint (one every
- * 3,600 frames), and c8_next gives the turn's datagrams. Call it once a frame, also when the tick was refused. */
+ * 3,600 frames), and c8_next gives the turn's datagrams. Call it once a frame, also when the tick was refused, and while
+ * an engine catches up after an opening. It may come before c8_next gave 0: what is left of the last turn is not sent,
+ * and what is still due is due again. */
 c8_answer c8_turn(c8_session *);
 
 /* Writes the next packet of this turn to `out`, and the seat that it is for to `to`: a player, 1 to 4, or a watcher of
@@ -158,12 +191,17 @@ bool c8_is_lost(c8_session *);
  * many rows: as many as fit into `words` words. Call it until it returns fewer than fit (not until 0: c8_check gives rows
  * at each call); after a tick one call with room for C8_ROWS rows is enough, but not after an opening. Then the engine's
  * state is the one before frame c8_ticked. The best row of a frame has each player's input if it is known, else the last
- * known one.
+ * known one; 0 from a dropped player's cut on. A step changes nothing that other players see, so turns may come between.
  *
  * An engine goes back to its state before frame `from`, runs its machine on the rows, and keeps the state before each
  * frame. The next `from` is at least c8_confirmed as it is now, or as many rows as were given if these are fewer: older
  * states may go, and window + 1 states suffice. After an opening `from` is 0, also over a journal with frames in it. */
 uint32_t c8_step(c8_session *, uint32_t *from, uint16_t *rows, size_t words);
+
+/* Writes for each of the four players what its input in the best row of a frame is: C8_PREDICTED, C8_HELD or C8_EMPTY. A
+ * player that the game has not is C8_PREDICTED. A machine that treats a dropped player otherwise than one with an input of
+ * 0 goes back to its `cut` by itself, once that is known, if c8_step gives no earlier frame: its states are still there. */
+c8_answer c8_status(c8_session *, uint32_t frame, uint8_t out[C8_ROW]);
 
 /* For a test of an engine's machine: from now on each step goes back by `depth` frames, as far as they were not
  * confirmed, so that an engine can compare its states: as long as a row equals the one that was kept for its frame, the
