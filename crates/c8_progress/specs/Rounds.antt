@@ -46,15 +46,15 @@ pub record IsHailed (rules : Rules) (room : ℕ) (run : Run rules room) (p q fro
   pub sender : packet.head.from ≡ q
   pub admitted : refusal (links_of (run.world at) p) packet.head ≡ None
 
--- Whether p, in this state, has to say this to q. `hailed`: its links admitted a HELLO of q since it last spoke.
-abbrev pub IsDue : Type 0 → ℕ → State → ℕ → Saying → Type 0
-IsDue hailed p s q Hello = (link_to s.memory.links q).is_open ≡ false
-IsDue hailed p s q Welcome = hailed
-IsDue hailed p s q Data = (link_to s.memory.links q).is_open ≡ true
-IsDue hailed p s q (Freeze leaver) = ((link_to s.memory.links q).is_open ≡ true) × (p ≡ 1) × (has_leave leaver s.journal ≡ true)
+-- Whether p, in this state, has to say this to q. No WELCOME is due by a state: it answers a HELLO, see `answers` of `IsTurn`.
+abbrev pub IsDue : ℕ → State → ℕ → Saying → Type 0
+IsDue p s q Hello = (link_to s.memory.links q).is_open ≡ false
+IsDue p s q Welcome = ⊥
+IsDue p s q Data = (link_to s.memory.links q).is_open ≡ true
+IsDue p s q (Freeze leaver) = ((link_to s.memory.links q).is_open ≡ true) × (p ≡ 1) × (has_leave leaver s.journal ≡ true)
     × (cut_of leaver s.journal ≡ None) × (has_leave q s.journal ≡ false)
-IsDue hailed p s q (Cut leaver) = ((link_to s.memory.links q).is_open ≡ true) × (p ≡ 1) × ((K : ℕ) × (cut_of leaver s.journal ≡ Some K))
-IsDue hailed p s q (Frozen leaver) = ((link_to s.memory.links q).is_open ≡ true) × (q ≡ 1) × (has_freeze leaver s.journal ≡ true)
+IsDue p s q (Cut leaver) = ((link_to s.memory.links q).is_open ≡ true) × (p ≡ 1) × ((K : ℕ) × (cut_of leaver s.journal ≡ Some K))
+IsDue p s q (Frozen leaver) = ((link_to s.memory.links q).is_open ≡ true) × (q ≡ 1) × (has_freeze leaver s.journal ≡ true)
     × (cut_of leaver s.journal ≡ None)
 
 -- At some time from t on p says this to q, in the state that it had at t. Later, but before time u, q hears this datagram.
@@ -63,6 +63,16 @@ pub record Arrives (rules : Rules) (room : ℕ) (run : Run rules room) (p q : �
   pub from : t ≤ at
   pub says : run.event at ≡ Do (Say p q what)
   pub same : peer_of (run.world at) p ≡ peer_of (run.world t) p
+  pub heard_at : ℕ
+  pub later : at < heard_at
+  pub hears : run.event heard_at ≡ Do (Give (length (run.world at).said) q)
+  pub before : heard_at < u
+
+-- After time t p says WELCOME to q, in whatever state it has then. Later, but before time u, q hears this datagram.
+pub record Welcomes (rules : Rules) (room : ℕ) (run : Run rules room) (p q t u : ℕ) : Type 0 where
+  pub at : ℕ
+  pub from : t < at
+  pub says : run.event at ≡ Do (Say p q Welcome)
   pub heard_at : ℕ
   pub later : at < heard_at
   pub hears : run.event heard_at ≡ Do (Give (length (run.world at).said) q)
@@ -93,7 +103,9 @@ pub record IsTurn (rules : Rules) (room : ℕ) (run : Run rules room) (p last be
   pub ticks : Ticks rules room run p begin speak
   pub decides : p ≡ 1 → (leaver : ℕ) → has_leave leaver (journal_of (run.world begin) 1) ≡ true → Decides rules room run leaver begin speak
   pub says : (q : ℕ) (what : Saying) → IsPlayer rules q → q ≢ p → IsUndropped (run.world speak) q
-      → IsDue (IsHailed rules room run p q last speak) p (peer_of (run.world speak) p) q what → Arrives rules room run p q what speak end
+      → IsDue p (peer_of (run.world speak) p) q what → Arrives rules room run p q what speak end
+  pub answers : (q : ℕ) → IsPlayer rules q → q ≢ p → (hello : IsHailed rules room run p q last speak)
+      → IsUndropped (run.world hello.at) q → Welcomes rules room run p q hello.at end
 
 -- when p spoke before a round
 abbrev pub spoke : (ℕ → ℕ → ℕ) → ℕ → ℕ → ℕ
