@@ -87,16 +87,19 @@ pub record Ticks (rules : Rules) (room : ℕ) (run : Run rules room) (p from to 
   pub keys : ℕ
   pub ticks : run.event at ≡ Do (Tick p keys)
 
--- player 1 decides a leaver's cut, or its round is not ready
+-- player 1 decides a leaver's cut, or its round is not ready, or player 1 has cut its list already
 pub record Decides (rules : Rules) (room : ℕ) (run : Run rules room) (leaver from to : ℕ) : Type 0 where
   pub at : ℕ
   pub after : from ≤ at
   pub before : at < to
   pub decides : (run.event at ≡ Do (Decide leaver))
-      ⊎ (is_ready (peer_of (run.world at) 1).memory.chair (known_by rules (run.world at) 1) leaver ≡ false)
+      ⊎ ((is_ready (peer_of (run.world at) 1).memory.chair (known_by rules (run.world at) 1) leaver ≡ false)
+      ⊎ ((K : ℕ) × (cut_of leaver (journal_of (run.world at) 1) ≡ Some K)))
 
--- A turn of p in the round between two times. Before it speaks it ticks, and player 1 decides what is ready. Then it says to each
--- other player what is due, and what it says to undropped players arrives within the round. `last` is when it spoke before.
+-- A turn of p in the round between two times. Before it speaks it ticks (a refused tick counts), and player 1 decides what is ready.
+-- Then it says to each other undropped player what is due, and that arrives within the round. Each HELLO of such a player that p's links
+-- admitted since `last`, when p spoke in the round before, is answered: a WELCOME said after it arrives within the round. Which turn
+-- says that WELCOME does not matter.
 pub record IsTurn (rules : Rules) (room : ℕ) (run : Run rules room) (p last begin speak end : ℕ) : Type 0 where
   pub from : begin ≤ speak
   pub to : speak ≤ end
@@ -113,10 +116,26 @@ spoke speak zero p = 0
 spoke speak (suc round) p = speak round p
 
 -- The first rounds of a run, numbered from 0. Each undropped peer makes a turn in each round, in any order, while anything else happens.
+-- A round may have further turns of a peer; this is one of them.
 pub record FairRounds (rules : Rules) (room : ℕ) (run : Run rules room) (rounds : ℕ) : Type 0 where
   pub begin : ℕ → ℕ
   pub speak : ℕ → ℕ → ℕ
   pub turns : (round p : ℕ) → round < rounds → IsPlayer rules p → IsUndropped (run.world 0) p
+      → IsTurn rules room run p (spoke speak round p) (begin round) (speak round p) (begin (suc round))
+
+-- a player that was not dropped has not confirmed all frames
+pub record GoesOn (rules : Rules) (w : World) : Type 0 where
+  pub player : ℕ
+  pub plays : IsPlayer rules player
+  pub undropped : IsUndropped w player
+  pub lacks : confirmed (known_by rules w player) ≢ rules.frames
+
+-- The same, but turns are wanted only in rounds at whose beginning the match still goes on. Programs end some time after that.
+pub record FairMatch (rules : Rules) (room : ℕ) (run : Run rules room) (rounds : ℕ) : Type 0 where
+  pub begin : ℕ → ℕ
+  pub speak : ℕ → ℕ → ℕ
+  pub order : (round : ℕ) → round < rounds → begin round ≤ begin (suc round)
+  pub turns : (round p : ℕ) → round < rounds → GoesOn rules (run.world (begin round)) → IsPlayer rules p → IsUndropped (run.world 0) p
       → IsTurn rules room run p (spoke speak round p) (begin round) (speak round p) (begin (suc round))
 
 -- No drop round is under way: each undropped peer has cut the list of each player that was dropped. So it is if nobody was dropped.
