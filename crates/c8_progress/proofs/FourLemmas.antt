@@ -165,12 +165,14 @@ both_know rules room run goes n p q r less one other apart =
     ))
     (first_round rules room run goes n p q r (omega (arith, less)) one other apart)
 
--- a greeting that came before a turn is answered by the end of its round
+-- a greeting that came before a turn is answered by the end of its round, or it need not be
 welcomes_in : (rules : Rules) (room : ℕ) (run : Run rules room) → Goes rules room run → (n i p q t u : ℕ) (r : FairRounds rules room run n) → i < n
-    → Stays rules room run p → Stays rules room run q → p ≢ q → (g : IsGreeted rules room run p q t u) → Knows (run.world g.at) q p
-    → spoke r.speak i q ≤ g.at → g.at < r.speak i q → Fresh (run.world (r.begin (suc i))) p q
-welcomes_in rules room run goes n i p q t u r less one other apart g knows from before =
+    → Stays rules room run p → Stays rules room run q → p ≢ q → (g : IsGreeted rules room run p q t u) → Knows (run.world g.at) p q
+    → Knows (run.world g.at) q p → spoke r.speak i q ≤ g.at → g.at < r.speak i q → Fresh (run.world (r.begin (suc i))) p q
+welcomes_in rules room run goes n i p q t u r less one other apart g knows its from before =
     let back : q ≢ p = λ e. apart (sym e) in
+    let turn = turn_of rules room run n i q r less other in
+    let to = turn.to in
     let hailed : IsHailed rules room run q p (spoke r.speak i q) (r.speak i q) = record {
       at = g.at;
       after = from;
@@ -183,8 +185,11 @@ welcomes_in rules room run goes n i p q t u r less one other apart g knows from 
       sender = g.sender;
       admitted = g.admitted;
     } in
-    welcome_arrives rules room run goes q p g.at (r.begin (suc i)) other one back knows
-    ((turn_of rules room run n i q r less other).answers p one.plays apart hailed (undropped_at rules room run goes p g.at one))
+    ⊎_elim
+    (λ welcomes. welcome_arrives rules room run goes q p g.at (r.begin (suc i)) other one back its welcomes)
+    (λ is_open. fresh_by rules room run goes p q (r.begin (suc i)) other
+    (knows_later rules room run goes p q g.at (r.begin (suc i)) one other apart (omega (arith, before, to)) knows) is_open)
+    (turn.answers p one.plays apart hailed (undropped_at rules room run goes p g.at one))
 
 -- two more rounds after both know the other's epoch
 opens : (rules : Rules) (room : ℕ) (run : Run rules room) → Goes rules room run → (n p q : ℕ) (r : FairRounds rules room run n) → 3 < n
@@ -207,15 +212,16 @@ opens rules room run goes n p q r less one other apart knows its =
           let before : g.at < r.begin 3 = g.before in
           let back : q ≢ p = λ e. apart (sym e) in
           let begun : r.begin 2 ≤ g.at = omega (arith, p_from, after) in
+          let mine : Knows (run.world g.at) p q = knows_later rules room run goes p q (r.begin 2) g.at one other apart begun knows in
           let known : Knows (run.world g.at) q p = knows_later rules room run goes q p (r.begin 2) g.at other one back begun its in
           elim (cases_lt g.at (r.speak 2 q)) [
             | inl early ↦
                 let since : r.speak 1 q ≤ g.at = omega (arith, q_before, begun) in
                 fresh_later rules room run goes p q (r.begin 3) (r.begin 4) one other three
-                (welcomes_in rules room run goes n 2 p q (r.speak 2 p) (r.begin 3) r (omega (arith, less)) one other apart g known since early)
+                (welcomes_in rules room run goes n 2 p q (r.speak 2 p) (r.begin 3) r (omega (arith, less)) one other apart g mine known since early)
             | inr late ↦
                 let in_time : g.at < r.speak 3 q = omega (arith, before, q_from) in
-                welcomes_in rules room run goes n 3 p q (r.speak 2 p) (r.begin 3) r less one other apart g known late in_time
+                welcomes_in rules room run goes n 3 p q (r.speak 2 p) (r.begin 3) r less one other apart g mine known late in_time
           ]
     ]
 

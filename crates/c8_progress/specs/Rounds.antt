@@ -98,8 +98,8 @@ pub record Decides (rules : Rules) (room : ℕ) (run : Run rules room) (leaver f
 
 -- A turn of p in the round between two times. Before it speaks it ticks (a refused tick counts), and player 1 decides what is ready.
 -- Then it says to each other undropped player what is due, and that arrives within the round. Each HELLO of such a player that p's links
--- admitted since `last`, when p spoke in the round before, is answered: a WELCOME said after it arrives within the round. Which turn
--- says that WELCOME does not matter.
+-- admitted since `last`, when p spoke in the round before, is answered: a WELCOME said after it arrives within the round, whichever turn
+-- says it. That may be lost if the player's link is open when the round ends, since then no HELLO comes again.
 pub record IsTurn (rules : Rules) (room : ℕ) (run : Run rules room) (p last begin speak end : ℕ) : Type 0 where
   pub from : begin ≤ speak
   pub to : speak ≤ end
@@ -107,8 +107,8 @@ pub record IsTurn (rules : Rules) (room : ℕ) (run : Run rules room) (p last be
   pub decides : p ≡ 1 → (leaver : ℕ) → has_leave leaver (journal_of (run.world begin) 1) ≡ true → Decides rules room run leaver begin speak
   pub says : (q : ℕ) (what : Saying) → IsPlayer rules q → q ≢ p → IsUndropped (run.world speak) q
       → IsDue p (peer_of (run.world speak) p) q what → Arrives rules room run p q what speak end
-  pub answers : (q : ℕ) → IsPlayer rules q → q ≢ p → (hello : IsHailed rules room run p q last speak)
-      → IsUndropped (run.world hello.at) q → Welcomes rules room run p q hello.at end
+  pub answers : (q : ℕ) → IsPlayer rules q → q ≢ p → (hello : IsHailed rules room run p q last speak) → IsUndropped (run.world hello.at) q
+      → Welcomes rules room run p q hello.at end ⊎ ((link_to (links_of (run.world end) q) p).is_open ≡ true)
 
 -- when p spoke before a round
 abbrev pub spoke : (ℕ → ℕ → ℕ) → ℕ → ℕ → ℕ

@@ -1,5 +1,5 @@
 -- Fair rounds bring every undropped player to the end of the match; for readers of README and PROOFS.
-use Rattle.std.proofs.Common.{◌≡◌, ◌≤◌, ◌<◌, ◌+◌, ◌*◌, ℕ, arith}
+use Rattle.std.proofs.Common.{◌≡◌, ◌+◌, ◌*◌, ℕ, arith}
 use Rattle.c8_progress.proofs.LawLemmas.{all_laws}
 use Rattle.c8_progress.proofs.CalmLemmas.{Goes, Stays}
 use Rattle.c8_progress.proofs.LeavingLemmas.{drops_end}
