@@ -145,7 +145,8 @@ class Show {
     part('live').setAttribute('aria-pressed', String(this.isLive));
     const { isOver } = this, isStill = !isOver && now - this.fed > STILL;
     const loading = cast.rows.length - film.frames > RATE * 10 ? `Running to frame ${cast.rows.length} …` : '';
-    const said = this.trouble || loading || (isOver ? 'The match is over.' : isStill ? 'No new frames: the match stands still, or is over.' : 'Live.');
+    const ends = isOver ? 'The match is over.' : isStill ? 'No new frames: the match stands still, or is over.' : 'Live.';
+    const said = this.trouble || loading || ends;
     if (part('state').textContent !== said) part('state').textContent = said;
     part('state').className = this.trouble || isStill ? 'bad' : '';
   }
@@ -191,7 +192,8 @@ class Show {
 /** @param {number} player */
 function addPad(player) {
   const box = document.createElement('div');
-  box.innerHTML = `<span id="name${player}">player ${player}</span><div class="pad" id="pad${player}" aria-hidden="true">${[...PAD].map(key => `<span>${key}</span>`).join('')}</div>`;
+  const pad = [...PAD].map(key => `<span>${key}</span>`).join('');
+  box.innerHTML = `<span id="name${player}">player ${player}</span><div class="pad" id="pad${player}" aria-hidden="true">${pad}</div>`;
   part('pads').append(box);
 }
 

@@ -87,7 +87,8 @@ def rows_of(count):
 
 WHERE = "Number(document.getElementById('where').textContent.split('/')[0])"
 POINTS = """(() => { const copy = new OffscreenCanvas(64, 32).getContext('2d'); copy.drawImage(document.getElementById('screen'), 0, 0);
-    const points = new Uint32Array(copy.getImageData(0, 0, 64, 32).data.buffer), dark = getComputedStyle(document.documentElement).getPropertyValue('--dark');
+    const points = new Uint32Array(copy.getImageData(0, 0, 64, 32).data.buffer);
+    const dark = getComputedStyle(document.documentElement).getPropertyValue('--dark');
     const [red, green, blue] = dark.match(/[0-9a-f]{2}/gi).map(it => parseInt(it, 16)), off = (0xff000000 | blue << 16 | green << 8 | red) >>> 0;
     return [...points].map(it => it === off ? '.' : '#').join(''); })()"""
 # The mark after all frames, by sessions of all players, which tick what the rows say: an input is entered `delay` frames before its row.
@@ -163,7 +164,8 @@ def follow(bench, site, caster, rows):
     check("each chunk was loaded once", set(chunks.values()) == {1} and len(chunks) == len(rows) // CHUNK, chunks)
     played = page.value(PLAYED.format(json.dumps(GAME.format(len(rows), CODE)), json.dumps(rows)))
     check("the machine is that of all players' sessions", page.text("mark") == played, page.text("mark"), played)
-    check("player 2 is quiet", page.text("name2").startswith("player 2, no key since frame ") and page.text("name1") == "player 1", page.text("name2"))
+    names = page.text("name1"), page.text("name2")
+    check("player 2 is quiet", names[1].startswith("player 2, no key since frame ") and names[0] == "player 1", names)
     late = started(bench, site)
     check("a late viewer sees the end", late.until(f"{WHERE} === {len(rows)}", 20), late.text("where"))
     check("their marks are equal", late.text("mark") == page.text("mark") and late.value(POINTS) == page.value(POINTS), late.text("mark"))

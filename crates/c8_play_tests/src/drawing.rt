@@ -120,6 +120,7 @@ pub(crate) fn asked_for(turns: u64, stop: Option<u64>, screen: bool) -> WatchAsk
         turns,
         stop,
         screen,
+        cast: None,
         explain: false,
     }
 }

@@ -1,5 +1,4 @@
--- Links open and stay open, drop rounds end, rounds end a match; begin at `match_can_always_end` (OpeningLemmas)
--- and `rounds_end` (RoundLemmas).
+-- Links open, drop rounds end, rounds end a match; begin at `match_can_always_end` (OpeningLemmas) and `rounds_end` (RoundLemmas).
 
 pub mod LawLemmas
 pub mod MeetingLemmas

@@ -28,6 +28,8 @@ pub struct WatchAsked<'a> {
     pub stop: Option<u64>,
     /// Whether to draw the screen during the match.
     pub screen: bool,
+    /// The path of the folder that the rows are cast into, if they are.
+    pub cast: Option<&'a str>,
     /// Whether to print a second line that says where a refusal's fault is.
     pub explain: bool,
 }
@@ -65,8 +67,7 @@ pub static WATCH: Outline = Outline {
         },
         Argument {
             name: "turns",
-            help: "Ends after N turns, of at least a millisecond each",
-            default: Some("100000"),
+            help: "Ends after N turns, of at least a millisecond each [default: never]",
             ..Argument::NUMBER
         },
         Argument {
@@ -84,6 +85,12 @@ pub static WATCH: Outline = Outline {
             help: "Draws the screen on the terminal as the match goes on",
             ..Argument::FLAG
         },
+        Argument {
+            name: "cast",
+            help: "Keeps the match as files in this folder, for a web server and any number of viewers",
+            form: Form::Option("FOLDER"),
+            ..Argument::NEEDED
+        },
         Argument::EXPLAIN,
     ],
 };
@@ -100,9 +107,10 @@ pub(crate) fn asked_of<'a>(given: &ArgMatches<'a>) -> Option<WatchAsked<'a>> {
         has_relay: relay.is_some(),
         secret: given.get_str("secret"),
         room: number_of(given, "room").unwrap_or(0),
-        turns: number_of(given, "turns").unwrap_or(0),
+        turns: number_of(given, "turns").unwrap_or(u64::MAX),
         stop: number_of(given, "stop"),
         screen: given.get_flag("screen"),
+        cast: given.get_str("cast"),
         explain: is_explained(given),
     })
 }

@@ -5,8 +5,10 @@ ghost use Rattle.c8_command.specs.declared.status.Status.TheVariants as statuses
 ghost use Rattle.c8_watch.specs.Watched.{HasWatched, IsWatched, HasWatchedThen};
 
 use crate::arguments::{WatchAsked, asked_of};
+use crate::casting::Casting;
 use crate::laws::turns_take_nothing_back;
 use crate::stage::Stage;
+use crate::worker::Picture;
 use c8_command::Status;
 use c8_files::warn_of_readers;
 use c8_front::{Terminals, Threaded};
@@ -92,7 +94,7 @@ where
     if let Some(path) = asked.secret {
         warn_of_readers(rt, path, refused)?;
     }
-    match watched(rt, asked, out) {
+    match watched(rt, asked, out, refused) {
         Ok(played) => {
             write_report(out, &played)?;
             Ok(Status::Done)
@@ -107,10 +109,16 @@ where
 
 /// Watches a match of the game in a file, and returns the machine at the end. Faults are found in this order: the
 /// game's file, the game, the secret, the addresses, the socket, out of memory.
-fn watched<'a, R, W>(rt: &R, asked: &WatchAsked<'a>, out: &mut W) -> Result<Played, Fault<'a>>
+fn watched<'a, R, W, E>(
+    rt: &R,
+    asked: &WatchAsked<'a>,
+    out: &mut W,
+    refused: &mut E,
+) -> Result<Played, Fault<'a>>
 where
     R: Threaded,
     W: Write,
+    E: Write,
     ensures { IfOk result (λ played. IsWatched (Ok played)) }
 {
     let game = game_at(rt, asked.game)?;
@@ -120,7 +128,8 @@ where
     };
     let (session, seat) = (game.session(asked.room), Seat::from(asked.seat));
     let sealing = watch_sealing_at(rt, asked.secret, seat, session, reached.relay())?;
-    match watched_at(rt, asked, &game, &reached, sealing, out) {
+    let mut casting = Casting::open(rt, asked, &game, millis(rt), refused);
+    match watched_at(rt, asked, &game, &reached, sealing, out, &mut casting) {
         Ok(played) => Ok(played),
         Err(error) => Err(Fault::new(rt.alloc(), error, asked.game)),
     }
@@ -138,17 +147,19 @@ fn named<'m, 'a>(asked: &WatchAsked<'a>, remotes: &'m [&'a str]) -> Named<'m, 'a
 }
 
 /// Watches a match of a game, by sealed packets if the match has a secret.
-fn watched_at<R, W>(
+fn watched_at<R, W, P>(
     rt: &R,
     asked: &WatchAsked<'_>,
     game: &Game,
     reached: &Reached,
     sealing: Option<Sealing>,
     out: &mut W,
+    more: &mut P,
 ) -> Result<Played, PeerError>
 where
     R: Net + Clock + Threads + Wait + Sync + AllocGlobal,
     W: Write,
+    P: Picture,
     ensures { IfOk result (λ played. IsWatched (Ok played)) }
 {
     let addresses = match Addresses::of_player_one(reached.local(), reached.remote()) {
@@ -158,10 +169,10 @@ where
     let line = Line { addresses, sealing };
     match line.open(rt) {
         Ok(wire) => match line.sealing {
-            None => watch_on(rt, asked, game, wire, out),
+            None => watch_with(rt, asked, game, wire, out, more),
             Some(sealing) => {
                 let sealer = Sealer::new(sealing.seal, Counters::of_time(millis(rt)));
-                watch_on(rt, asked, game, Sealed::over(wire, sealer), out)
+                watch_with(rt, asked, game, Sealed::over(wire, sealer), out, more)
             }
         },
         Err(fault) => Err(PeerError::Socket(SocketError::Failed(fault))),
@@ -195,6 +206,35 @@ where
     ensures { IfOk result
         (HasWatched W.Wire game.now asked.now.room asked.now.seat.number asked.now.turns wire) }
 {
+    let mut nobody = Nobody;
+    watch_with(rt, asked, game, wire, out, &mut nobody)
+}
+
+/// Nobody else sees the match.
+#[derive(Drop)]
+struct Nobody;
+
+impl Picture for Nobody {
+    fn show(&mut self, _: &Spectator<'_>) {}
+}
+
+/// The same, and somebody sees the match after each turn, and at its end.
+fn watch_with<R, W, O, P>(
+    rt: &R,
+    asked: &WatchAsked<'_>,
+    game: &Game,
+    wire: W,
+    out: &mut O,
+    more: &mut P,
+) -> Result<Played, PeerError>
+where
+    R: Clock + Threads + Wait + Sync + AllocGlobal,
+    W: Wire + Drop,
+    O: Write,
+    P: Picture,
+    ensures { IfOk result
+        (HasWatched W.Wire game.now asked.now.room asked.now.seat.number asked.now.turns wire) }
+{
     turns_take_nothing_back::<W>();
     let Ok(spectator) = Spectator::open(rt.alloc(), game, asked.room, asked.seat) else {
         return Err(PeerError::Open(OpenError::Memory));
@@ -202,9 +242,10 @@ where
     let Ok(stage) = Stage::open(rt.alloc(), &spectator) else {
         return Err(PeerError::Open(OpenError::Memory));
     };
-    let Ok((spectator, turns)) = stage.watch(rt, asked, spectator, wire, out) else {
+    let Ok((spectator, turns)) = stage.watch(rt, asked, spectator, wire, out, more) else {
         return Err(PeerError::Socket(SocketError::Thread));
     };
+    more.end(&spectator);
     if let Err(failed) = turns {
         return Err(PeerError::Socket(SocketError::Failed(SocketFault::from(failed))));
     }

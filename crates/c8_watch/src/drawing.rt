@@ -1,8 +1,8 @@
 //! The screen of a watched match, drawn on a terminal.
 
 use crate::worker::Picture;
-use c8_machine::Machine;
 use c8_screen::Screen;
+use c8_spectator::Spectator;
 use c8_terminal::{Beat, ENTER, LEAVE, Painter};
 use std::io::Write;
 use std::time::{Clock, Duration};
@@ -14,7 +14,7 @@ const RATE: u8 = 60;
 /// have changed. Every sixtieth picture is drawn whole, because the terminal does not report a new window size. After a
 /// write has failed it draws no more.
 #[derive(Drop)]
-pub(crate) struct Drawing<'r, 'w, R, W> {
+pub(crate) struct Drawing<'r, 'w, 'p, R, W, P> {
     rt: &'r R,
     out: &'w mut W,
     painter: Painter,
@@ -26,11 +26,18 @@ pub(crate) struct Drawing<'r, 'w, R, W> {
     is_wanted: bool,
     /// Whether it is wanted, and the terminal has taken all so far.
     is_on: bool,
+    /// Who sees the match besides.
+    more: &'p mut P,
 }
 
-impl<'r, 'w, R: Clock, W: Write> Drawing<'r, 'w, R, W> {
+impl<'r, 'w, 'p, R: Clock, W: Write, P> Drawing<'r, 'w, 'p, R, W, P> {
     /// Prepares the terminal, if pictures are wanted; nothing is drawn yet.
-    pub(crate) fn new(rt: &'r R, out: &'w mut W, is_wanted: bool) -> Drawing<'r, 'w, R, W> {
+    pub(crate) fn new(
+        rt: &'r R,
+        out: &'w mut W,
+        is_wanted: bool,
+        more: &'p mut P,
+    ) -> Drawing<'r, 'w, 'p, R, W, P> {
         let is_on = is_wanted && out.write_all(ENTER).is_ok();
         let last = rt.monotonic().unwrap_or(Duration::from_secs(0));
         Drawing {
@@ -42,6 +49,7 @@ impl<'r, 'w, R: Clock, W: Write> Drawing<'r, 'w, R, W> {
             since_whole: 0,
             is_wanted,
             is_on,
+            more,
         }
     }
 
@@ -74,15 +82,16 @@ impl<'r, 'w, R: Clock, W: Write> Drawing<'r, 'w, R, W> {
     }
 }
 
-impl<'r, 'w, R: Clock, W: Write> Picture for Drawing<'r, 'w, R, W> {
-    fn show(&mut self, machine: &Machine) {
+impl<'r, 'w, 'p, R: Clock, W: Write, P: Picture> Picture for Drawing<'r, 'w, 'p, R, W, P> {
+    fn show(&mut self, spectator: &Spectator<'_>) {
+        self.more.show(spectator);
         if !self.is_on {
             return;
         }
         let now = self.now();
         if self.beat.left(now).is_zero() {
             self.beat.begin(now);
-            self.draw(machine.screen());
+            self.draw(spectator.shown().screen());
         }
     }
 }

@@ -10,6 +10,10 @@ The command ends when it has the whole game, once it has as many frames as --sto
 last turn. It then prints the machine after the frames that it has. With --screen it draws the screen
 meanwhile, sixty times a second by the clock; standard output must then be a terminal of at least 64
 columns and 16 rows. If player 1 has --watch-secret FILE, a watcher takes the same file as --secret.
+With --cast it keeps the match in FOLDER as files, which any web server serves: match.json, chunks of
+600 rows, rows/000000.bin and so on, and tail.bin with the newer ones, once a second. A chunk never
+changes. A second start goes on with the folder: it takes the rows again and compares. If the cast
+fails, two lines on standard error say why, as 'refused: cast 2 Differs', and the match is watched on.
 
 Two players and a watcher, each in a terminal of their own:
   ./c8play peer games/duel.game 1 one.journal 127.0.0.1:4001 127.0.0.1:4002 --watch5 127.0.0.1:4005 \\
@@ -28,5 +32,8 @@ Refusals, each one line on standard error, as 'refused: game 5 Hex':
   socket 3 Address    an address that is not written as 127.0.0.1:4001, or a name that the system does not
                       find; or a REMOTE with port 0, or of another IP version than LOCAL
   socket 4 Thread     the system starts no more threads
+  cast 1 Failed       a file of --cast cannot be read or written: the disk is full, or the folder gone
+  cast 2 Differs      the folder of --cast has another match, or a file of it was changed
+  cast 3 Memory       out of memory for the cast
 
 Exit status: 0 done, 1 refused, 2 a mistake in the command line, 3 a disk or a socket failed";

@@ -3,11 +3,13 @@
 //! `command` opens the files and the socket, and [`watch_on`] watches over any wire, in two threads (`stage`). One makes the
 //! turns of a spectator until the match is complete ([`watch_worker`]): in each it hears the packets that wait, and tells
 //! player 1 how many rows it has ([`watch_turn`], `specs/Turns.antt`). It publishes the rows on a board, at which the other
-//! thread looks ([`open_watch_board`]). A [`Picture`] sees the machine after each turn; `drawing` is that on a terminal.
+//! thread looks ([`open_watch_board`]). A [`Picture`] sees the watcher after each turn; `drawing` is that on a terminal, `casting`
+//! that in files.
 //! c8_spectator decides which rows a spectator takes.
 #![tactic(auto)]
 
 mod arguments;
+mod casting;
 mod command;
 mod drawing;
 mod help;

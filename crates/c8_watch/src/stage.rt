@@ -5,7 +5,7 @@ ghost use Rattle.c8_watch.specs.Turns.{AreTurns};
 
 use crate::arguments::WatchAsked;
 use crate::drawing::Drawing;
-use crate::worker::{open_watch_board, watch_worker};
+use crate::worker::{Picture, open_watch_board, watch_worker};
 use c8_live::{Board, Pen, Viewer};
 use c8_net::{Onlooker, Pace, VIEWER_PAUSE};
 use c8_spectator::Spectator;
@@ -52,18 +52,20 @@ impl Stage {
 
     /// Watches over a wire, until it has every row, its turns are made, the viewer has asked for the end, or the wire
     /// fails. Both threads are then joined. If the system starts no thread, no turn is made.
-    pub(crate) fn watch<'g, R, W, O>(
+    pub(crate) fn watch<'g, R, W, O, P>(
         self,
         rt: &R,
         asked: &WatchAsked<'_>,
         spectator: Spectator<'g>,
         wire: W,
         out: &mut O,
+        more: &mut P,
     ) -> Result<(Spectator<'g>, Result<u64, WireFailed>), NoThread>
     where
         R: Clock + Threads + Wait + Sync,
         W: Wire + Drop,
         O: Write,
+        P: Picture,
         requires { MayShow spectator self.pen }
         ensures { IfOk result (λ r. (n : ℕ) × (last : W) × n ≤ asked.now.turns × IfOk r.1 (λ made. made ≡ n)
             × AreTurns W.Wire n spectator.entry r.0 wire last) }
@@ -91,26 +93,28 @@ impl Stage {
                 if viewer.is_err() {
                     return Err(NoThread);
                 }
-                Ok(make_turns(rt, asked, spectator, wire, pen, out, common))
+                Ok(make_turns(rt, asked, spectator, wire, pen, out, more, common))
             },
         )
     }
 }
 
 /// Runs the caller's thread: the turns, and the picture.
-fn make_turns<'g, R, W, O>(
+fn make_turns<'g, R, W, O, P>(
     rt: &R,
     asked: &WatchAsked<'_>,
     spectator: Spectator<'g>,
     wire: W,
     pen: Pen,
     out: &mut O,
+    more: &mut P,
     shared: &Shared<'_, R>,
 ) -> (Spectator<'g>, Result<u64, WireFailed>)
 where
     R: Clock,
     W: Wire + Drop,
     O: Write,
+    P: Picture,
     requires board { pen.board ≡ shared.now.board }
     requires shows { MayShow spectator pen }
     ensures { (n : ℕ) × (last : W) × n ≤ asked.now.turns × IfOk result.1 (λ made. made ≡ n)
@@ -118,7 +122,7 @@ where
 {
     let Shared { board, pace } = shared;
     let (mut spectator, mut wire, mut pen) = (spectator, wire, pen);
-    let mut drawing = Drawing::new(rt, out, asked.screen);
+    let mut drawing = Drawing::new(rt, out, asked.screen, more);
     let turns = watch_worker(
         &mut spectator,
         &mut wire,

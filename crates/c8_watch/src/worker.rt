@@ -20,15 +20,18 @@ use c8_spectator::Spectator;
 use c8_transport::{Gate, Wire, WireFailed, Worker};
 use std::alloc::{AllocError, Global};
 
-/// Sees the machine of a watched match, in the thread that makes the turns.
+/// Sees a watched match, in the thread that makes the turns.
 pub trait Picture {
     /// Called after each turn.
-    fn show(&mut self, machine: &Machine);
+    fn show(&mut self, spectator: &Spectator<'_>);
+
+    /// Called after the last turn.
+    fn end(&mut self, _spectator: &Spectator<'_>) {}
 }
 
 /// Makes at most `turns` turns of a spectator, until it has every row of the game, a viewer of the board asks for the
 /// end, or the gate ends it (as `Worker::Game`). Returns how many it made. Before the first turn and after each, the
-/// pen publishes the spectator's rows, if there are new ones; after each, the picture is shown the machine. The error
+/// pen publishes the spectator's rows, if there are new ones; after each, the picture is shown the spectator. The error
 /// is the wire's; the pen then still shows the rows from before that turn.
 pub fn watch_worker<W: Wire, G: Gate, P: Picture>(
     spectator: &mut Spectator<'_>,
@@ -56,7 +59,7 @@ pub fn watch_worker<W: Wire, G: Gate, P: Picture>(
         }
         watch_turn(spectator, wire)?;
         published = publish_more(spectator, published, board, pen);
-        picture.show(spectator.shown());
+        picture.show(spectator);
         gate.after(Worker::Game, turn);
         made = turn + 1;
     }

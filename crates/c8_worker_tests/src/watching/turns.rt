@@ -125,8 +125,8 @@ fn shown_with(album: &Album<'_>, machine: &Machine) -> Option<usize> {
 }
 
 impl<'b> Picture for Album<'b> {
-    fn show(&mut self, machine: &Machine) {
-        self.shown = shown_with(self, machine);
+    fn show(&mut self, spectator: &Spectator<'_>) {
+        self.shown = shown_with(self, spectator.shown());
         if self.shown == Some(self.enough) {
             self.board.ask_stop(&mut self.viewer);
         }
