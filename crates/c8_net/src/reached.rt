@@ -1,5 +1,6 @@
 //! The addresses that a command line names, once the system has found the hosts that it names.
 
+use crate::no_address::Place;
 use c8_udp::{MOST_WATCHERS, address_at, refused_address};
 use std::alloc::{AllocError, Global};
 use std::net::{Net, SocketAddr};
@@ -113,6 +114,16 @@ impl<'a> Named<'_, 'a> {
             }
         }
         refused_address(self.local, &[], self.watchers, self.may_learn)
+    }
+
+    /// Where the first of these words stands that is this one.
+    pub(crate) fn place_of(&self, word: &str) -> Place {
+        let is_remote = self.remotes.unwrap_or(&[]).iter().any(|it| *it == word);
+        if word != self.local && (is_remote || self.relay == Some(word)) {
+            Place::Host
+        } else {
+            Place::Number
+        }
     }
 }
 
