@@ -11,7 +11,7 @@ use c8_command::Status;
 use c8_front::{System, is_explained, word_of};
 use c8_game::{Game, Player};
 use c8_net::{Asked, Fault, PeerError, game_at, perform_given, refuse};
-use c8_play::{Live, Tempo, Terminal};
+use c8_play::{Live, Tempo, Terminal, keys_at};
 use c8_udp::{SocketError, address_at};
 use clap::ArgMatches;
 use std::alloc::{AllocError, Global};
@@ -171,7 +171,12 @@ where
     };
     let hold = given.get_one::<u8>("hold").unwrap_or(9).max(1);
     let pace = Tempo { rate: RATE, hold };
-    play_asked(rt, &asked, Live { console, pace }, out, refused)
+    let live = Live {
+        console,
+        pace,
+        keys: keys_at(rt, asked.game, asked.player),
+    };
+    play_asked(rt, &asked, live, out, refused)
 }
 
 /// Plays as `play` does, and says how a match with a journal is seen again.

@@ -8,10 +8,12 @@ use crate::alone::play_alone;
 use crate::arguments::{Who, pace_of, who_of};
 use crate::chime::Chime;
 use crate::desk::{Desk, Tempo};
+use crate::key_words::KeyWords;
 use crate::live::{Live, tell_lateness};
 use crate::terminal::Terminal;
-use c8_command::Status;
+use c8_command::{Status, read_file};
 use c8_front::{System, is_explained, word_of};
+use c8_game::Player;
 use c8_keys::write_report;
 use c8_net::{Asked, asked_for, game_at, number_of, perform_given, refuse};
 use clap::ArgMatches;
@@ -52,9 +54,22 @@ where
                 is_muted: given.get_flag("mute"),
                 ..asked_for(given, player)
             };
-            let live = Live { console, pace };
+            let keys = keys_at(rt, asked.game, player);
+            let live = Live {
+                console,
+                pace,
+                keys,
+            };
             perform_given(rt, &asked, live, out, refused)
         }
+    }
+}
+
+/// The keys of a player, in the words of the game's text; none if that cannot be read.
+pub fn keys_at<R: System>(rt: &R, game: &str, player: Player) -> KeyWords {
+    match read_file(rt, game) {
+        Ok(text) => KeyWords::in_text(&text, player),
+        Err(_) => KeyWords::none(),
     }
 }
 

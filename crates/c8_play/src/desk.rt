@@ -51,6 +51,8 @@ pub struct Desk<C> {
     is_spoilt: bool,
     /// Whether the person has asked by control-D to give another player up.
     gives_up: bool,
+    /// Whether the person has asked by F1 for the own keys.
+    wants_help: bool,
 }
 
 impl<C: Console> Desk<C> {
@@ -69,6 +71,7 @@ impl<C: Console> Desk<C> {
             has_left,
             is_spoilt: false,
             gives_up: false,
+            wants_help: false,
         }
     }
 
@@ -77,6 +80,11 @@ impl<C: Console> Desk<C> {
         ensures { IsSameDesk C.Console self.old self.new }
     {
         self.console.wake_at(source);
+    }
+
+    /// Returns how many columns the screen has.
+    pub fn columns(&self) -> usize {
+        self.console.columns()
     }
 
     /// Returns the time by the console's clock.
@@ -225,6 +233,7 @@ impl<C: Console> Desk<C> {
                 self.is_spoilt = true;
             }
             Signal::GiveUp => self.gives_up = true,
+            Signal::Help => self.wants_help = true,
             _ => {}
         }
         self.held.note(signal);
@@ -247,6 +256,15 @@ impl<C: Console> Desk<C> {
         let gives_up = self.gives_up;
         self.gives_up = false;
         gives_up
+    }
+
+    /// Returns whether the person has asked for the own keys. Then resets this.
+    pub fn take_wants_help(&mut self) -> bool
+        ensures { IsSameDesk C.Console self.old self.new }
+    {
+        let wants_help = self.wants_help;
+        self.wants_help = false;
+        wants_help
     }
 
     /// Paints a screen, then writes `row`, which must not change the screen's rows.

@@ -11,6 +11,7 @@ ghost use Rattle.c8_play.specs.Lead.{window_of, patience_of, frames_of};
 use crate::chime::Chime;
 use crate::console::Console;
 use crate::desk::{Desk, Tempo};
+use crate::key_words::KeyWords;
 use crate::lead::{Lead, hindmost};
 use crate::status::StatusRow;
 use c8_disk::Disk;
@@ -39,6 +40,8 @@ const MOST_RESTS: u16 = 1000;
 pub struct Live<C> {
     pub console: C,
     pub pace: Tempo,
+    /// The own keys; without words their letters are shown.
+    pub keys: KeyWords,
 }
 
 impl<C: Console + Drop> Performance for Live<C> {
@@ -55,14 +58,23 @@ impl<C: Console + Drop> Performance for Live<C> {
             Ok(udp) => udp,
             Err(error) => return Err(Unopened::Socket(error)),
         };
-        let Live { console, pace } = self;
+        let Live {
+            console,
+            pace,
+            keys,
+        } = self;
+        let keys = keys.or_letters(game, asked.player);
         let mut desk = Desk::new(console, pace);
         desk.wake_at(&mut udp);
         match line.sealing {
-            None => Ok(play_over(udp, desk, session, game, pace.rate, asked, progress)),
+            None => Ok(play_over(
+                udp, desk, session, game, pace.rate, asked, keys, progress,
+            )),
             Some(sealing) => {
                 let sealed = Sealed::over(udp, sealer_of(sealing.seal, &session));
-                Ok(play_over(sealed, desk, session, game, pace.rate, asked, progress))
+                Ok(play_over(
+                    sealed, desk, session, game, pace.rate, asked, keys, progress,
+                ))
             }
         }
     }
@@ -77,13 +89,14 @@ fn play_over<'g, D: Disk, W: Wire + Drop, C: Console + Drop, E: Write>(
     game: &Game,
     rate: u8,
     asked: &Asked<'_, '_>,
+    keys: KeyWords,
     progress: &mut E,
 ) -> Ended<'g, D>
     requires { session.peer.rules ≡ game.now }
     ensures { HasEnded D.Disk session.entry.peer result.session.peer result.turns }
 {
     let (mut session, mut wire, mut desk) = (session, wire, desk);
-    let turns = play_frames(&mut session, &mut wire, &mut desk, game, rate, asked);
+    let turns = play_frames(&mut session, &mut wire, &mut desk, game, rate, asked, keys);
     let has_left = desk.has_left();
     let lateness = desk.end();
     if asked.says_end && has_left {
@@ -127,8 +140,8 @@ fn tell_turned_away<E: Write>(out: &mut E, losses: Losses) -> io::Result<()> {
 
 /// Plays a session of this game at a desk, one turn a frame. It ends when the session is over, its turns are made,
 /// `--stop` frames are confirmed, the person leaves, or three seconds after it showed that the journal was lost. Between
-/// two frames the peer listens. A player that was ahead for a second, `rate` frames, leaves out a tick. Returns how many
-/// turns were made. The error is the disk's or the wire's.
+/// two frames the peer listens. A player that was ahead for a second, `rate` frames, leaves out a tick. The row below the
+/// picture names the own keys by `keys`. Returns how many turns were made. The error is the disk's or the wire's.
 pub fn play_frames<D: Disk, W: Wire, C: Console>(
     session: &mut Session<'_, D>,
     wire: &mut W,
@@ -136,6 +149,7 @@ pub fn play_frames<D: Disk, W: Wire, C: Console>(
     game: &Game,
     rate: u8,
     asked: &Asked<'_, '_>,
+    keys: KeyWords,
 ) -> Result<u64, SessionError>
     requires { session.old.peer.rules ≡ game.now }
     ensures ran { HasRunOn D.Disk session.old.peer session.new.peer }
@@ -152,6 +166,8 @@ pub fn play_frames<D: Disk, W: Wire, C: Console>(
     let mut lead = Lead::new(game.window(), rate);
     let mut status = StatusRow::new(desk.now(), asked.player, session.peer().players());
     status.begin(Chime::new(asked.is_muted));
+    status.widen(desk.columns());
+    status.name_keys(keys);
     let mut made: u64 = 0;
     let mut lost: u16 = 0;
     for turn in 0..asked.turns {
@@ -288,9 +304,13 @@ fn show<D: Disk, C: Console>(
     if desk.take_spoilt() {
         status.forget();
     }
+    status.follow(session.peer());
     consider(session, desk, status, waits);
     sound(session, status);
     let now = desk.now();
+    if desk.take_wants_help() {
+        status.remind(now);
+    }
     let peer = session.peer();
     desk.show(
         peer.shown().screen(),

@@ -9,7 +9,7 @@ use c8_disk::MemDisk;
 use c8_game::{Game, Player};
 use c8_net::Asked;
 use c8_peer::Peer;
-use c8_play::{Desk, Tempo, play_frames};
+use c8_play::{Desk, KeyWords, Tempo, play_frames};
 use c8_session::Session;
 use c8_transport::{Wire, WireFailed};
 use c8_wire::Seat;
@@ -145,7 +145,8 @@ fn played(
     console.longest_rest = longest_rest;
     let mut desk = Desk::new(console, pace);
     let asked = asked_for(row.turns, row.stop, row.patience);
-    let made = play_frames(&mut session, &mut wire, &mut desk, game, RATE, &asked);
+    let keys = KeyWords::none();
+    let made = play_frames(&mut session, &mut wire, &mut desk, game, RATE, &asked, keys);
     let _lateness = desk.end();
     match made {
         Ok(made) => Some((made, session.peer().now(), wire.asked)),
