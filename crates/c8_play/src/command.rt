@@ -1,18 +1,19 @@
 //! `c8play play`: plays a game at the keyboard.
 
-ghost use Rattle.std.specs.Prelude.{◌≡◌, IfOk};
+ghost use Rattle.std.specs.Prelude.{◌≡◌, Bool, false, IfOk};
 ghost use Rattle.c8_command.specs.declared.status.Status.TheVariants as statuses;
-ghost use Rattle.c8_play.specs.Answers.{HasReportedAlone, EndsPlay};
+ghost use Rattle.c8_play.specs.Answers.{HasReportedAlone, EndsPlay, EndsPlayBy};
 
 use crate::alone::play_alone;
 use crate::arguments::{Who, pace_of, who_of};
 use crate::chime::Chime;
 use crate::desk::{Desk, Tempo};
+use crate::ending::{Ending, tell_ending};
 use crate::key_words::KeyWords;
 use crate::live::{Live, tell_lateness};
 use crate::terminal::Terminal;
 use c8_command::{Status, read_file};
-use c8_front::{System, is_explained, word_of};
+use c8_front::{System, Terminals, is_explained, word_of};
 use c8_game::Player;
 use c8_keys::write_report;
 use c8_net::{Asked, asked_for, game_at, number_of, perform_given, refuse};
@@ -20,12 +21,13 @@ use clap::ArgMatches;
 use std::io;
 use std::io::Write;
 
-/// Runs `play` as the command line asks. It draws the screen on the terminal of the process, and writes the report of
-/// the machine at the end to `out`. The line of a refusal goes to `refused`. Without a terminal it refuses the command
-/// line. The error is a writer's.
+/// Runs `play` as the command line asks. It draws the screen on the terminal of the process. At the end it writes the report
+/// of the machine to `out`, if `--report` is given or `out` is no terminal; and to `refused` how it ended. The line of a
+/// refusal goes there too. Without a terminal it refuses the command line. The error is a writer's, or that memory ran out.
 pub fn play_given<R, W, E>(
     rt: &R,
     given: &ArgMatches<'_>,
+    terminals: Terminals,
     out: &mut W,
     refused: &mut E,
 ) -> io::Result<Status>
@@ -33,7 +35,10 @@ where
     R: System,
     W: Write,
     E: Write,
-    ensures { IfOk result (EndsPlay (W.contents out.old) (W.contents out.new)) }
+    ensures told { IfOk result (λ status. (reports : Bool)
+        × EndsPlayBy reports (W.contents out.old) (W.contents out.new) status) }
+    ensures report { terminals.output ≡ false
+        → IfOk result (EndsPlay (W.contents out.old) (W.contents out.new)) }
 {
     let Some(who) = who_of(given) else {
         writeln!(
@@ -46,21 +51,49 @@ where
         writeln!(refused, "error: play wants a terminal")?;
         return Ok(Status::CommandLine);
     };
+    if given.get_flag("report") || !terminals.output {
+        return play_by(rt, given, who, console, out, refused);
+    }
+    let mut unread = Vec::new(rt.alloc());
+    play_by(rt, given, who, console, &mut unread, refused)
+}
+
+/// Plays alone or with others, and writes the report to `out`.
+fn play_by<R, W, E>(
+    rt: &R,
+    given: &ArgMatches<'_>,
+    who: Who,
+    console: Terminal<'_, R>,
+    out: &mut W,
+    refused: &mut E,
+) -> io::Result<Status>
+where
+    R: System,
+    W: Write,
+    E: Write,
+    ensures { IfOk result (EndsPlay (W.contents out.old) (W.contents out.new)) }
+{
     let pace = pace_of(given);
     match who {
         Who::Alone => alone(rt, given, console, pace, out, refused),
         Who::Player(player) => {
             let asked = Asked {
                 is_muted: given.get_flag("mute"),
+                says_end: false,
                 ..asked_for(given, player)
             };
-            let keys = keys_at(rt, asked.game, player);
+            let mut ending = Ending::NONE;
             let live = Live {
                 console,
                 pace,
-                keys,
+                keys: keys_at(rt, asked.game, player),
+                ending: &mut ending,
             };
-            perform_given(rt, &asked, live, out, refused)
+            let status = perform_given(rt, &asked, live, out, refused)?;
+            if status == Status::Done {
+                tell_ending(rt.alloc(), refused, &asked, ending, None)?;
+            }
+            Ok(status)
         }
     }
 }
@@ -103,5 +136,11 @@ where
         tell_lateness(refused, &lateness)?;
     }
     write_report(out, &played)?;
+    writeln!(
+        refused,
+        "{} of {} frames played",
+        played.frames,
+        game.frames()
+    )?;
     Ok(Status::Done)
 }

@@ -18,8 +18,9 @@ at once when the game waits for a player:
   423/421  waits for 2  2: 16 ms  back 3, longest 5
 423 frames are ticked and 421 confirmed. The game waits for player 2, whose last datagram came 16 ms
 ago. In the last second the peer rolled back 3 times, over 5 frames at most. Once a player has been silent
-for three seconds, player 1 may drop it: control-D, and control-D again. When the game ends, the machine
-after the confirmed frames is printed.
+for three seconds, player 1 may drop it: control-D, and control-D again. At the end a line says how the game
+ended; with --report, and where standard output is no terminal, the machine after the confirmed frames is
+printed before it.
 
 Alone, two players, each in a terminal of their own, and player 2 through a relay:
   ./c8play play games/rally.game alone

@@ -11,9 +11,11 @@ ghost use Rattle.c8_play.specs.Lead.{window_of, patience_of, frames_of};
 use crate::chime::Chime;
 use crate::console::Console;
 use crate::desk::{Desk, Tempo};
+use crate::ending::Ending;
 use crate::key_words::KeyWords;
 use crate::lead::{Lead, hindmost};
-use crate::status::StatusRow;
+use crate::status::{CLEAR, LONGEST_ROW, StatusRow};
+use arrayvec::ArrayVec;
 use c8_disk::Disk;
 use c8_game::{Game, Player};
 use c8_live::laws::{hearings_join, sessions_end};
@@ -37,14 +39,16 @@ const MOST_RESTS: u16 = 1000;
 
 /// Performs a match at a console: each frame makes one turn, which enters the held keys.
 #[derive(Drop)]
-pub struct Live<C> {
+pub struct Live<'e, C> {
     pub console: C,
     pub pace: Tempo,
     /// The own keys; without words their letters are shown.
     pub keys: KeyWords,
+    /// Where to note how the match ended.
+    pub ending: &'e mut Ending,
 }
 
-impl<C: Console + Drop> Performance for Live<C> {
+impl<'e, C: Console + Drop> Performance for Live<'e, C> {
     fn perform<'g, R: Net + Clock, D: Disk + Drop, E: Write>(
         self,
         rt: &R,
@@ -62,26 +66,27 @@ impl<C: Console + Drop> Performance for Live<C> {
             console,
             pace,
             keys,
+            ending,
         } = self;
         let keys = keys.or_letters(game, asked.player);
         let mut desk = Desk::new(console, pace);
         desk.wake_at(&mut udp);
         match line.sealing {
             None => Ok(play_over(
-                udp, desk, session, game, pace.rate, asked, keys, progress,
+                udp, desk, session, game, pace.rate, asked, keys, ending, progress,
             )),
             Some(sealing) => {
                 let sealed = Sealed::over(udp, sealer_of(sealing.seal, &session));
                 Ok(play_over(
-                    sealed, desk, session, game, pace.rate, asked, keys, progress,
+                    sealed, desk, session, game, pace.rate, asked, keys, ending, progress,
                 ))
             }
         }
     }
 }
 
-/// Plays a session over a wire at a desk. With `--progress` it writes at the end how late frames were, and how many
-/// packets it rejected.
+/// Plays a session over a wire at a desk, and notes how it ended. With `--progress` it writes at the end how late frames
+/// were, and how many packets it rejected.
 fn play_over<'g, D: Disk, W: Wire + Drop, C: Console + Drop, E: Write>(
     wire: W,
     desk: Desk<C>,
@@ -90,6 +95,7 @@ fn play_over<'g, D: Disk, W: Wire + Drop, C: Console + Drop, E: Write>(
     rate: u8,
     asked: &Asked<'_, '_>,
     keys: KeyWords,
+    ending: &mut Ending,
     progress: &mut E,
 ) -> Ended<'g, D>
     requires { session.peer.rules ≡ game.now }
@@ -97,16 +103,24 @@ fn play_over<'g, D: Disk, W: Wire + Drop, C: Console + Drop, E: Write>(
 {
     let (mut session, mut wire, mut desk) = (session, wire, desk);
     let turns = play_frames(&mut session, &mut wire, &mut desk, game, rate, asked, keys);
-    let has_left = desk.has_left();
-    let lateness = desk.end();
-    if asked.says_end && has_left {
-        let _ = writeln!(progress, "you left the match");
+    *ending = Ending::of(&session, desk.has_left());
+    if ending.is_final() && turns.is_ok() {
+        linger(&mut desk, *ending);
     }
+    let lateness = desk.end();
     if asked.progress {
         let _ = tell_lateness(progress, &lateness);
         let _ = tell_turned_away(progress, wire.losses());
     }
     Ended { session, turns }
+}
+
+/// Shows for two seconds how a match ended, or until the person leaves.
+fn linger<C: Console + Drop>(desk: &mut Desk<C>, ending: Ending) {
+    let mut row = ArrayVec::<u8, LONGEST_ROW>::new();
+    let _ = row.write_all(CLEAR);
+    let _ = ending.write(&mut row);
+    desk.linger(&row);
 }
 
 /// Writes how late frames were.

@@ -29,7 +29,7 @@ const LONGEST_WRITTEN: usize = LONGEST_ROW + 1;
 
 /// Moves the cursor to the first column of row 17, below the screen, and clears the row. It comes before the text,
 /// because after a text up to the last column the cursor would still be on that column.
-const CLEAR: &[u8] = b"\x1b[17;1H\x1b[K";
+pub(crate) const CLEAR: &[u8] = b"\x1b[17;1H\x1b[K";
 
 /// The numbers of the row.
 #[derive(Clone, Copy, Default)]

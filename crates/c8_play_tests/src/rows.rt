@@ -145,14 +145,11 @@ fn a_row_tells_all_that_fits(rt: HostRuntime) {
 
 /// What stands about player 2 after it has been silent for three seconds: at player 1, then after player 1 has asked to drop
 /// it, and where it never was here.
-const DROPS: &[u8] =
-    b"\x1b[17;1H\x1b[K0/7  waits for 2: 3 s  control-D drops 2  2: 3500 ms";
+const DROPS: &[u8] = b"\x1b[17;1H\x1b[K0/7  waits for 2: 3 s  control-D drops 2  2: 3500 ms";
 
-const AGAIN: &[u8] =
-    b"\x1b[17;1H\x1b[K0/7  waits for 2: 3 s  control-D again drops 2  2: 3500 ms";
+const AGAIN: &[u8] = b"\x1b[17;1H\x1b[K0/7  waits for 2: 3 s  control-D again drops 2  2: 3500 ms";
 
-const NEVER_HERE: &[u8] =
-    b"\x1b[17;1H\x1b[K0/7  waits for 2: 3 s  2: 3500 ms  back 0, longest 0";
+const NEVER_HERE: &[u8] = b"\x1b[17;1H\x1b[K0/7  waits for 2: 3 s  2: 3500 ms  back 0, longest 0";
 
 /// A peer of which only player 2 was heard, this often.
 fn standing_of(heard: u64) -> Standing {

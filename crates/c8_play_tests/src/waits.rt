@@ -221,6 +221,34 @@ fn ends() -> &'static [Row] {
     &ENDS
 }
 
+/// Player 1 drops player 2 in turn 3, and plays on.
+static DROPS: Row = Row {
+    typed: Typed::Nothing,
+    turns: 20,
+    stop: None,
+    patience: Some(3),
+    made: 20,
+    ticked: 20,
+};
+
+/// The row below the picture after that.
+const DROPPED: &[u8] = b"\x1b[17;1H\x1b[K1/0  2 dropped  back 0, longest 0";
+
+/// Whether the row says from the drop on that player 2 is dropped.
+fn tells_of_the_drop(alloc: Global) -> bool {
+    let Ok(game) = Game::read(alloc, DRAWS) else {
+        return false;
+    };
+    let mut log = Log::new(alloc);
+    let made = played(alloc, &game, DROPS, Duration::MAX, &mut log);
+    made.is_some() && log.drawn.ends_with(DROPPED)
+}
+
+#[test]
+fn the_row_says_who_is_dropped(rt: HostRuntime) {
+    assert!(rt; tells_of_the_drop(rt.alloc()));
+}
+
 /// Whether a match ends as a row says.
 fn ends_so(alloc: Global, row: Row) -> bool {
     let Ok(game) = Game::read(alloc, DRAWS) else {

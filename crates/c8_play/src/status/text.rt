@@ -84,7 +84,11 @@ impl StatusRow {
     ) -> io::Result<()> {
         match (part, waits) {
             (Part::Count, _) => {
-                let Numbers { ticked, confirmed, .. } = self.numbers;
+                let Numbers {
+                    ticked,
+                    confirmed,
+                    ..
+                } = self.numbers;
                 write!(out, "{ticked}/{confirmed}")
             }
             (Part::Lost, _) if self.is_lost => {
@@ -101,7 +105,11 @@ impl StatusRow {
             (Part::Keys, _) if self.shows_keys => self.write_keys(out),
             (Part::Silence(place), _) => self.write_silence(out, place),
             (Part::Rollbacks, _) => {
-                let Reading { rollbacks, longest, .. } = self.numbers.last;
+                let Reading {
+                    rollbacks,
+                    longest,
+                    ..
+                } = self.numbers.last;
                 write!(out, "  back {rollbacks}, longest {longest}")
             }
             _ => Ok(()),
