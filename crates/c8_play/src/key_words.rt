@@ -2,7 +2,6 @@
 
 use arrayvec::ArrayVec;
 use c8_game::{Game, Player};
-use c8_terminal::letter_of;
 use std::io::Write;
 
 /// How the line of a game text begins that has the keys of a player, before the player's number. Such a line is a comment.
@@ -14,8 +13,8 @@ const BEHIND: &[u8] = b": ";
 /// The most bytes of the words.
 pub const LONGEST_WORDS: usize = 48;
 
-/// How many keys the keypad has.
-const KEYS: u8 = 16;
+/// The letters on the keyboard of the keys 0 to 15 of the keypad, by their places.
+const LETTERS: &[u8; 16] = b"x123qweasdzc4rfv";
 
 /// The keys of a player, in words; none if nothing is known.
 #[derive(Drop)]
@@ -71,7 +70,7 @@ impl KeyWords {
 fn words_in(line: &[u8], player: Player) -> Option<&[u8]> {
     let line = line.strip_suffix(b"\r").unwrap_or(line);
     let (number, rest) = line.strip_prefix(BEGIN)?.split_first()?;
-    if *number == b'0' + player.number {
+    if number.checked_sub(b'0') == Some(player.number) {
         rest.strip_prefix(BEHIND)
     } else {
         None
@@ -89,9 +88,9 @@ fn letters_of(mask: u16) -> KeyWords {
     if mask > 0 {
         let _ = bytes.write_all(b"keys");
     }
-    for key in 0..KEYS {
+    for key in 0..LETTERS.len() {
         if mask >> key & 1 == 1 {
-            let _ = bytes.write_all(&[b' ', letter_of(key)]);
+            let _ = bytes.write_all(&[b' ', LETTERS[key]]);
         }
     }
     KeyWords { bytes }

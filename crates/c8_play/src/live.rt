@@ -300,7 +300,7 @@ fn enter<D: Disk, W: Wire, C: Console>(
     }
 }
 
-/// Shows the picture of a frame. At the window's limit the row says that the match waits for the player with the fewest
+/// Shows the picture of a frame; after control-L all of it again, with the own keys. At the window's limit the row says that the match waits for the player with the fewest
 /// known inputs, and player 1 may give that player up.
 fn show<D: Disk, C: Console>(
     session: &mut Session<'_, D>,
@@ -315,16 +315,14 @@ fn show<D: Disk, C: Console>(
     if session.is_lost() {
         status.lose();
     }
+    let now = desk.now();
     if desk.take_spoilt() {
         status.forget();
+        status.remind(now);
     }
     status.follow(session.peer());
     consider(session, desk, status, waits);
     sound(session, status);
-    let now = desk.now();
-    if desk.take_wants_help() {
-        status.remind(now);
-    }
     let peer = session.peer();
     desk.show(
         peer.shown().screen(),

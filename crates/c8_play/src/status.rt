@@ -116,7 +116,7 @@ impl StatusRow {
 
     /// Uses this many columns from now on, at least 64 and at most 200.
     pub fn widen(&mut self, columns: usize) {
-        self.columns = columns.clamp(NARROWEST, WIDEST);
+        self.columns = columns.max(NARROWEST).min(WIDEST);
     }
 
     /// Takes the tone timer of the frame that is shown next.
@@ -190,7 +190,7 @@ impl StatusRow {
     ///   changes at once. If no datagram of that player ever came, it says after ten seconds what may be wrong, or at once
     ///   that packets come with another secret;
     /// - how player 1 drops that player, if it was here before;
-    /// - the own keys, as `you are player 2: 4 up, r down, f serve`, at first and for ten seconds after F1;
+    /// - the own keys, as `you are player 2: 4 up, r down, f serve`, at first and for ten seconds after control-L;
     /// - how long each other player has been silent; or, for three seconds after a first datagram that was waited for,
     ///   `2 is here`; or, for good, `2 dropped`;
     /// - how often the peer rolled back in the last second, and the most frames that one rollback simulated again.

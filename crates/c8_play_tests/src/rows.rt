@@ -305,10 +305,10 @@ fn a_game_names_the_keys(rt: HostRuntime) {
     assert!(rt; are_letters(rt.alloc()));
 }
 
-/// The time, how many frames are confirmed, whether F1 was pressed, and what is shown of the keys.
+/// The time, how many frames are confirmed, whether the person has asked for the keys, and whether they are shown.
 type Shown = (u64, u32, bool, bool);
 
-/// The keys stand there until ten seconds after the first confirmed frame, and for ten seconds after F1.
+/// The keys stand there until ten seconds after the first confirmed frame, and for ten seconds after the person asks.
 #[rattlefmt::skip]
 static SHOWN: [Shown; 7] = [
     (0, 0, false, true),

@@ -1,5 +1,5 @@
 //! Maps keys of the keyboard to keys of the keypad.
-ghost use Rattle.std.specs.Prelude.{◌≡◌, ◌<◌, Some};
+ghost use Rattle.std.specs.Prelude.{◌≡◌, ◌<◌};
 ghost use Rattle.c8_terminal.specs.Keyboard.{key_in, places, small, key_of, arrow_key};
 
 /// Returns the key of a character, by its place on the left block of the keyboard.
@@ -34,31 +34,6 @@ fn key_at(character: u8) -> Option<u8>
         b'c' => Some(0xb),
         b'v' => Some(0xf),
         _ => None,
-    }
-}
-
-/// Returns the character at the place of a key of the keypad.
-#[tactic(auto, unfolding(crate::specs::Keyboard::key_of))]
-pub fn letter_of(key: u8) -> u8
-    ensures { key < 16 → key_of result ≡ Some key }
-{
-    match key {
-        0x1 => b'1',
-        0x2 => b'2',
-        0x3 => b'3',
-        0xc => b'4',
-        0x4 => b'q',
-        0x5 => b'w',
-        0x6 => b'e',
-        0xd => b'r',
-        0x7 => b'a',
-        0x8 => b's',
-        0x9 => b'd',
-        0xe => b'f',
-        0xa => b'z',
-        0x0 => b'x',
-        0xb => b'c',
-        _ => b'v',
     }
 }
 

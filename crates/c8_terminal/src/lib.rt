@@ -28,7 +28,6 @@ mod signal;
 pub use beat::{Beat, Lateness};
 pub use decoder::Decoder;
 pub use held::Held;
-pub use keyboard::letter_of;
 pub use line::{LONGEST_LINE, LONGEST_PAINTING, TEXT_ROWS};
 pub use painter::Painter;
 pub use signal::Signal;

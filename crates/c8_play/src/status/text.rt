@@ -38,8 +38,8 @@ enum Part {
     Offer,
     /// The own keys.
     Keys,
-    /// How long the player at this place has been silent.
-    Silence(usize),
+    /// How long the player with this number has been silent.
+    Silence(u8),
     Rollbacks,
 }
 
@@ -53,10 +53,10 @@ const PARTS: [Part; 13] = [
     Part::Why,
     Part::Offer,
     Part::Keys,
-    Part::Silence(0),
     Part::Silence(1),
     Part::Silence(2),
     Part::Silence(3),
+    Part::Silence(4),
     Part::Rollbacks,
 ];
 
@@ -103,7 +103,7 @@ impl StatusRow {
             }
             (Part::Offer, Some(player)) => self.write_offer(out, player),
             (Part::Keys, _) if self.shows_keys => self.write_keys(out),
-            (Part::Silence(place), _) => self.write_silence(out, place),
+            (Part::Silence(number), _) => self.write_silence(out, number),
             (Part::Rollbacks, _) => {
                 let Reading {
                     rollbacks,
@@ -172,16 +172,18 @@ impl StatusRow {
     }
 
     /// Writes how long another player has been silent, or that it is dropped.
-    fn write_silence<E: Write>(&self, out: &mut E, place: usize) -> io::Result<()> {
-        let number = place + 1;
-        if number > usize::from(self.players) || number == usize::from(self.me.number) {
+    fn write_silence<E: Write>(&self, out: &mut E, number: u8) -> io::Result<()> {
+        let other = Player::new(number).filter(|player| *player != self.me);
+        let Some(player) = other.filter(|player| player.number <= self.players) else {
             return Ok(());
+        };
+        let (place, last) = (player.place(), &self.numbers.last);
+        if self.dropped[place] {
+            return write!(out, "  {number} dropped");
         }
-        let Reading { silent, met, .. } = self.numbers.last;
-        match met[place] {
-            _ if self.dropped[place] => write!(out, "  {number} dropped"),
+        match last.met[place] {
             Some(ago) if ago < GREETING => write!(out, "  {number} is here"),
-            _ => write!(out, "  {number}: {} ms", silent[place]),
+            _ => write!(out, "  {number}: {} ms", last.silent[place]),
         }
     }
 }
