@@ -11,7 +11,7 @@ use c8_command::Status;
 use c8_front::{System, Terminals, is_explained, word_of};
 use c8_game::{Game, Player};
 use c8_net::{Asked, Fault, PeerError, game_at, perform_given, refuse};
-use c8_play::{Ending, Live, Tempo, Terminal, keys_at, tell_ending};
+use c8_play::{Drawn, Ending, Live, Tempo, Terminal, keys_at, tell_ending};
 use c8_udp::{SocketError, address_at};
 use clap::ArgMatches;
 use std::alloc::{AllocError, Global};
@@ -208,8 +208,11 @@ where
     };
     let status = perform_given(rt, &asked, live, out, refused)?;
     if status == Status::Done {
-        let room = wanted.is_drawn.then_some(wanted.room);
-        tell_ending(rt.alloc(), refused, &asked, ending, room)?;
+        let drawn = Drawn {
+            room: wanted.is_drawn.then_some(wanted.room),
+            word: given.get_str("relay").zip(asked.relay),
+        };
+        tell_ending(rt.alloc(), refused, &asked, ending, drawn)?;
     }
     Ok(status)
 }

@@ -182,14 +182,13 @@ where
         )?;
     }
     let mut input = input;
-    let line = digits_in(rt.alloc(), &mut input)?;
-    let digits = line.trim_ascii();
+    let digits = digits_in(rt.alloc(), &mut input)?;
     let is_told = is_explained(given);
-    if !is_secret(digits) {
+    if !is_secret(&digits) {
         let site = is_told.then_some(Site::File("standard input"));
         return Ok(Some(BAD.tell_at(site, &"not 64 hexadecimal digits", refused)?));
     }
-    match write_secret(rt, secret, digits) {
+    match write_secret(rt, secret, &digits) {
         Ok(()) => Ok(None),
         Err(error) => {
             let site = is_told.then_some(Site::File(secret));

@@ -4,6 +4,7 @@ ghost use Rattle.std.specs.Prelude.{◌≡◌, Bool, false, IfOk};
 ghost use Rattle.c8_command.specs.declared.status.Status.TheVariants as statuses;
 ghost use Rattle.c8_play.specs.Answers.{HasReportedAlone, EndsPlay, EndsPlayBy};
 
+use crate::again::Drawn;
 use crate::alone::play_alone;
 use crate::arguments::{Who, pace_of, who_of};
 use crate::chime::Chime;
@@ -91,7 +92,7 @@ where
             };
             let status = perform_given(rt, &asked, live, out, refused)?;
             if status == Status::Done {
-                tell_ending(rt.alloc(), refused, &asked, ending, None)?;
+                tell_ending(rt.alloc(), refused, &asked, ending, Drawn::NOTHING)?;
             }
             Ok(status)
         }

@@ -1,6 +1,6 @@
 //! How a match ended, in words.
 
-use crate::again::{quoted, write_again};
+use crate::again::{Drawn, quoted, write_again};
 use c8_disk::Disk;
 use c8_net::Asked;
 use c8_session::Session;
@@ -90,13 +90,13 @@ impl Ending {
 }
 
 /// Writes after a match how it is seen again, how it ended, and how the player comes back, each where it applies. The line
-/// to come back is that of the process, with `--room` behind it if a room is given here.
+/// to come back is that of the process, with what was drawn.
 pub fn tell_ending<E: Write>(
     alloc: Global,
     out: &mut E,
     asked: &Asked<'_, '_>,
     ending: Ending,
-    room: Option<u64>,
+    drawn: Drawn<'_>,
 ) -> io::Result<()> {
     let has_journal = !asked.has_no_journal();
     if has_journal {
@@ -114,9 +114,5 @@ pub fn tell_ending<E: Write>(
         return writeln!(out, "; you cannot come back, since you kept no journal");
     }
     writeln!(out, "; to go on:")?;
-    write_again(alloc, out)?;
-    if let Some(room) = room {
-        write!(out, " --room {room}")?;
-    }
-    writeln!(out)
+    write_again(alloc, out, drawn)
 }

@@ -22,7 +22,7 @@ mod live;
 mod status;
 mod terminal;
 
-pub use again::quoted;
+pub use again::{Drawn, quoted};
 pub use alone::play_alone;
 pub use arguments::{HOLD, MUTE, PLAY, REPORT};
 pub use chime::Chime;

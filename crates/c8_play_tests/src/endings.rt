@@ -2,7 +2,7 @@
 
 use c8_game::Player;
 use c8_net::Asked;
-use c8_play::{Cause, Ending, quoted, tell_ending};
+use c8_play::{Cause, Drawn, Ending, quoted, tell_ending};
 use std::alloc::Global;
 
 /// What ended a match after how many of 36,000 frames, and the words.
@@ -98,7 +98,11 @@ fn asked_with(journal: &'static str) -> Asked<'static, 'static> {
 fn tells(alloc: Global, journal: &'static str, ending: Ending, wanted: (&str, &str)) -> bool {
     let (begin, end) = wanted;
     let mut told = Vec::new(alloc);
-    tell_ending(alloc, &mut told, &asked_with(journal), ending, Some(77)).is_ok()
+    let drawn = Drawn {
+        room: Some(77),
+        word: None,
+    };
+    tell_ending(alloc, &mut told, &asked_with(journal), ending, drawn).is_ok()
         && told.starts_with(begin.as_bytes())
         && told.ends_with(end.as_bytes())
 }

@@ -56,6 +56,7 @@ fn one_line_of_digits_is_read(rt: HostRuntime) {
     assert!(rt; reads(alloc, b"12ab\nrest", b"12ab", b"rest"));
     assert!(rt; reads(alloc, b"12ab\rrest", b"12ab", b"rest"));
     assert!(rt; reads(alloc, b"12ab", b"12ab", b""));
+    assert!(rt; reads(alloc, b" 12 ab\t\r\nrest", b"12ab", b"\nrest"));
     assert!(rt; reads(alloc, &[b'1'; 90], &[b'1'; 80], &[b'1'; 10]));
 }
 
