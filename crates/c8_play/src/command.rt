@@ -2,6 +2,7 @@
 
 ghost use Rattle.std.specs.Prelude.{◌≡◌, Bool, false, IfOk};
 ghost use Rattle.c8_command.specs.declared.status.Status.TheVariants as statuses;
+ghost use Rattle.c8_net.specs.Answers.{EndsMatch};
 ghost use Rattle.c8_play.specs.Answers.{HasReportedAlone, EndsPlay, EndsPlayBy};
 
 use crate::again::Drawn;
@@ -9,7 +10,7 @@ use crate::alone::play_alone;
 use crate::arguments::{Who, pace_of, who_of};
 use crate::chime::Chime;
 use crate::desk::{Desk, Tempo};
-use crate::ending::{Ending, tell_ending};
+use crate::ending::{Cause, Ending, tell_ending};
 use crate::key_words::KeyWords;
 use crate::live::{Live, tell_lateness};
 use crate::terminal::Terminal;
@@ -76,27 +77,69 @@ where
 {
     let pace = pace_of(given);
     match who {
-        Who::Alone => alone(rt, given, console, pace, out, refused),
-        Who::Player(player) => {
-            let asked = Asked {
-                is_muted: given.get_flag("mute"),
-                says_end: false,
-                ..asked_for(given, player)
-            };
-            let mut ending = Ending::NONE;
-            let live = Live {
-                console,
-                pace,
-                keys: keys_at(rt, asked.game, player),
-                ending: &mut ending,
-            };
-            let status = perform_given(rt, &asked, live, out, refused)?;
-            if status == Status::Done {
-                tell_ending(rt.alloc(), refused, &asked, ending, Drawn::NOTHING)?;
-            }
-            Ok(status)
-        }
+        Who::Alone => alone_to_the_end(rt, given, console, pace, out, refused),
+        Who::Player(player) => in_a_match(rt, given, player, console, pace, out, refused),
     }
+}
+
+/// Plays in a match, and says at last how it ended.
+fn in_a_match<R, W, E>(
+    rt: &R,
+    given: &ArgMatches<'_>,
+    player: Player,
+    console: Terminal<'_, R>,
+    pace: Tempo,
+    out: &mut W,
+    refused: &mut E,
+) -> io::Result<Status>
+where
+    R: System,
+    W: Write,
+    E: Write,
+    ensures { IfOk result (EndsMatch (W.contents out.old) (W.contents out.new)) }
+{
+    let asked = Asked {
+        is_muted: given.get_flag("mute"),
+        says_end: false,
+        ..asked_for(given, player)
+    };
+    let mut ending = Ending::NONE;
+    let live = Live {
+        console,
+        pace,
+        keys: keys_at(rt, asked.game, player),
+        ending: &mut ending,
+    };
+    let status = perform_given(rt, &asked, live, out, refused)?;
+    if status == Status::Done {
+        tell_ending(rt.alloc(), refused, &asked, ending, Drawn::NOTHING)?;
+    }
+    Ok(status)
+}
+
+/// Plays alone, and says at last how many frames were played.
+fn alone_to_the_end<R, W, E>(
+    rt: &R,
+    given: &ArgMatches<'_>,
+    console: Terminal<'_, R>,
+    pace: Tempo,
+    out: &mut W,
+    refused: &mut E,
+) -> io::Result<Status>
+where
+    R: System,
+    W: Write,
+    E: Write,
+    ensures { IfOk result (λ status. status ≡ statuses.Done
+        → HasReportedAlone (W.contents out.old) (W.contents out.new)) }
+{
+    let mut ending = Ending::NONE;
+    let status = alone(rt, given, console, pace, &mut ending, out, refused)?;
+    if status == Status::Done {
+        ending.write(refused)?;
+        writeln!(refused)?;
+    }
+    Ok(status)
 }
 
 /// The keys of a player, in the words of the game's text; none if that cannot be read.
@@ -107,12 +150,13 @@ pub fn keys_at<R: System>(rt: &R, game: &str, player: Player) -> KeyWords {
     }
 }
 
-/// Plays a game alone. The game's file may be refused.
+/// Plays a game alone, and notes how many frames were played. The game's file may be refused.
 fn alone<R, W, E>(
     rt: &R,
     given: &ArgMatches<'_>,
     console: Terminal<'_, R>,
     pace: Tempo,
+    ending: &mut Ending,
     out: &mut W,
     refused: &mut E,
 ) -> io::Result<Status>

@@ -21,6 +21,8 @@ pub enum Cause {
     Left,
     /// The turns or the frames that were asked for are done.
     Stopped,
+    /// A game of one person, without a match: its frames count as confirmed.
+    Alone,
 }
 
 /// How a match ended, and after how many of its frames.
@@ -84,6 +86,7 @@ impl Ending {
                 out,
                 "you left the match after {confirmed} of {frames} frames"
             ),
+            Cause::Alone => write!(out, "{confirmed} of {frames} frames played"),
             Cause::Stopped => write!(out, "{confirmed} of {frames} frames are confirmed"),
         }
     }

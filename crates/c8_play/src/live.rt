@@ -315,14 +315,14 @@ fn show<D: Disk, C: Console>(
     if session.is_lost() {
         status.lose();
     }
-    let now = desk.now();
     if desk.take_spoilt() {
         status.forget();
-        status.remind(now);
+        status.remind();
     }
     status.follow(session.peer());
     consider(session, desk, status, waits);
     sound(session, status);
+    let now = desk.now();
     let peer = session.peer();
     desk.show(
         peer.shown().screen(),

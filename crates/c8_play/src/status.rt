@@ -65,6 +65,8 @@ pub struct StatusRow {
     keys: KeyWords,
     keys_until: Option<Duration>,
     shows_keys: bool,
+    /// Whether the person has asked for the keys.
+    is_due: bool,
     /// The bell, if it rings in this frame.
     bell: &'static [u8],
     /// What the terminal shows in the row.
@@ -93,6 +95,7 @@ impl StatusRow {
             keys: KeyWords::none(),
             keys_until: None,
             shows_keys: true,
+            is_due: false,
             bell: &[],
             shown: ArrayVec::new(),
             written: ArrayVec::new(),
@@ -109,9 +112,9 @@ impl StatusRow {
         self.keys = keys;
     }
 
-    /// Shows the own keys for ten seconds from now on.
-    pub fn remind(&mut self, now: Duration) {
-        self.keys_until = Some(now.saturating_add(Duration::from_secs(REMINDER)));
+    /// Shows the own keys for ten seconds from the next row on.
+    pub fn remind(&mut self) {
+        self.is_due = true;
     }
 
     /// Uses this many columns from now on, at least 64 and at most 200.
@@ -214,13 +217,7 @@ impl StatusRow {
         if self.asked != waits {
             self.asked = None;
         }
-        if confirmed > 0 && self.keys_until.is_none() {
-            self.remind(now);
-        }
-        self.shows_keys = match self.keys_until {
-            Some(until) => now < until,
-            None => true,
-        };
+        self.name_keys_at(now, confirmed);
         let row = self.composed(waits);
         self.written.clear();
         if row.as_slice() != self.shown.as_slice() {
@@ -230,5 +227,17 @@ impl StatusRow {
         let _ = self.written.write_all(self.bell);
         self.bell = &[];
         self.written.as_slice()
+    }
+
+    /// Decides whether the own keys are shown now.
+    fn name_keys_at(&mut self, now: Duration, confirmed: u32) {
+        if self.is_due || confirmed > 0 && self.keys_until.is_none() {
+            self.keys_until = Some(now.saturating_add(Duration::from_secs(REMINDER)));
+            self.is_due = false;
+        }
+        self.shows_keys = match self.keys_until {
+            Some(until) => now < until,
+            None => true,
+        };
     }
 }

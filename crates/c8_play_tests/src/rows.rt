@@ -328,7 +328,7 @@ fn shows_keys() -> bool {
     for (millis, confirmed, is_asked, wanted) in &SHOWN {
         let now = Duration::from_millis(*millis);
         if *is_asked {
-            status.remind(now);
+            status.remind();
         }
         status.forget();
         let row = status.row(now, *confirmed, None);
