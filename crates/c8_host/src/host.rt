@@ -12,7 +12,7 @@ use crate::checks::refuse_start;
 use crate::friends::{
     Begun, Found, Match, NONE, game_for, met_at, play, refuse_relay, secret_path,
 };
-use crate::inviting::{invitation, note};
+use crate::inviting::{invitation, kept, note};
 use crate::journals::journal_for;
 use crate::meeting::{Invitation, Meeting, invitation_over};
 use c8_command::{Refusal, Site, Status};
@@ -71,6 +71,11 @@ where
     };
     let Invitation { lines, fits } = invitation_to(rt, given, &game, &wanted)?;
     refused.write_all(lines.as_bytes())?;
+    if wanted.relay.is_some() {
+        // Below the picture there is no room for it.
+        let kept = kept(rt.alloc(), wanted.journal.as_str())?;
+        refused.write_all(kept.as_bytes())?;
+    }
     let note = note(rt.alloc(), if fits { lines.as_str() } else { "" })?;
     if !fits {
         writeln!(refused, "Press a key to begin.")?;
