@@ -35,8 +35,8 @@
 
 /* The version of the library that this header is for; as a number, a byte for each part. docs/EMBEDDING.md says what may
  * change between versions. */
-#define C8_VERSION "0.2.0"
-#define C8_VERSION_NUMBER 0x000200
+#define C8_VERSION "0.2.1"
+#define C8_VERSION_NUMBER 0x000201
 
 #ifdef __cplusplus
 extern "C" {
@@ -51,6 +51,8 @@ enum {
     C8_ROW = 4,        /* the words of a row */
     C8_ROWS = 16       /* rows that one step needs room for at most, once the engine is up to date */
 };
+
+#define C8_UNCUT UINT32_MAX /* `cut` of a player whose inputs have no known end */
 
 typedef uint32_t c8_answer;
 
@@ -92,11 +94,20 @@ typedef struct {
     uint32_t acknowledged; /* own inputs that it has acknowledged since the opening, with those of the delay */
     bool linked;           /* its link is open: inputs can be sent */
     bool dropped;          /* player 1 has dropped it, as far as is known here */
+    uint32_t cut;          /* the frame from which on its inputs are empty, once it is known; else C8_UNCUT */
 } c8_player_state;
+
 /* Who is ahead: the own ticks that reached a player are `acknowledged` - delay, its ticks that came here `held` - delay.
  * The own player is ahead of it by about (ticked + delay - held) - (ticked + delay - acknowledged) / 2 frames. If that
  * stays above 1, leave out a tick now and then: it is always allowed, and the other one has fewer rollbacks. With several
  * players the one with the fewest `held` counts, among those that are not `dropped`. */
+
+/* What an input of a row is. */
+enum {
+    C8_PREDICTED = 0, /* a guess, which may change */
+    C8_HELD = 1,      /* its player entered it: it is final */
+    C8_EMPTY = 2      /* the empty one of a dropped player, from its cut on: it is final */
+};
 
 /* ---- opening and closing */
 
@@ -186,6 +197,11 @@ bool c8_is_lost(c8_session *);
  * frame. The next `from` is at least c8_confirmed as it is now, or as many rows as were given if these are fewer: older
  * states may go, and window + 1 states suffice. After an opening `from` is 0, also over a journal with frames in it. */
 uint32_t c8_step(c8_session *, uint32_t *from, uint16_t *rows, size_t words);
+
+/* Writes for each of the four players what its input in the best row of a frame is: C8_PREDICTED, C8_HELD or C8_EMPTY. A
+ * player that the game has not is C8_PREDICTED. A machine that treats a dropped player otherwise than one with an input of
+ * 0 goes back to its `cut` by itself, once that is known, if c8_step gives no earlier frame: its states are still there. */
+c8_answer c8_status(c8_session *, uint32_t frame, uint8_t out[C8_ROW]);
 
 /* For a test of an engine's machine: from now on each step goes back by `depth` frames, as far as they were not
  * confirmed, so that an engine can compare its states: as long as a row equals the one that was kept for its frame, the

@@ -134,6 +134,12 @@ public:
     std::uint32_t ticked() const { return c8_ticked(&handle); }
     std::uint32_t confirmed() const { return c8_confirmed(&handle); }
     std::uint32_t epoch() const { return c8_epoch(&handle); }
+    // What the input of each player in the best row of a frame is.
+    std::array<std::uint8_t, C8_ROW> status(std::uint32_t frame) const {
+        std::array<std::uint8_t, C8_ROW> out;
+        done(c8_status(&handle, frame, out.data()));
+        return out;
+    }
     c8_player_state player(std::uint8_t player) const {
         c8_player_state state{};
         done(c8_player(&handle, player, &state));

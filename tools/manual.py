@@ -67,7 +67,8 @@ def item(line: str) -> Item:
     """An item of a list of the help: two spaces or more stand before its text."""
     shown, _, text = line.strip().partition("  ")
     named = re.search(r"--[\w-]+", shown)
-    value = re.search(r"[<\[]([^>\]]*)[>\]]", shown)
+    # a value that may be left out stands behind an equals sign: shells complete the option alone
+    value = re.search(r"(?<!\[=)[<\[]([^>\]=]*)[>\]]", shown)
     return Item(shown, named[0] if named else "", value[1] if value else "", text.strip())
 
 

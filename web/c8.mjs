@@ -17,7 +17,7 @@
  */
 
 /** The version of this file. A module has to have the same first two numbers, and no smaller third. */
-export const VERSION = '0.2.0';
+export const VERSION = '0.2.1';
 
 /** The sizes of c8.h, in bytes; ROW is in words, ROWS in rows. */
 export const DATAGRAM = 174, PACKET = 198, PICTURE = 256, STATE = 4419, RULES = 256, ROW = 4, ROWS = 16;
@@ -28,6 +28,12 @@ export const CLOSED = 101, NOT_SEALED = 103, SEEN_BEFORE = 104, BAD_SECRET = 105
 
 /** The kinds of `say`. */
 export const HELLO = 0, WELCOME = 1, DATA = 2, FREEZE = 3, FROZEN = 4, CUT = 5;
+
+/** What an input of a row is, for `status`. */
+export const PREDICTED = 0, HELD = 1, EMPTY = 2;
+
+/** The `cut` of a player whose inputs have no known end. */
+export const UNCUT = 2 ** 32 - 1;
 
 /** Where a call finds its bytes: one block of the module's memory, cut into an input, an output and two small results. */
 const INPUT = 0, OUTPUT = 512, SMALL = OUTPUT + 4480, SECOND = SMALL + 32, BLOCK = SECOND + 32;
@@ -264,7 +270,7 @@ export class C8 {
 
 /**
  * What a session knows of a player, as `c8_player_state`.
- * @typedef {{ silent: number, held: number, acknowledged: number, linked: boolean, dropped: boolean }} PlayerState
+ * @typedef {{ silent: number, held: number, acknowledged: number, linked: boolean, dropped: boolean, cut: number }} PlayerState
  */
 
 /** A session that is open. */
@@ -329,6 +335,14 @@ export class Session {
     return this.#calls.c8_watched(this.#at, watcher);
   }
 
+  /** What the input of each player in the best row of a frame is.
+   * @param {number} frame
+   */
+  status(frame) {
+    this.#calls.c8_status(this.#at, frame, this.#c8.output);
+    return this.#c8.copy(OUTPUT, ROW);
+  }
+
   isOver() {
     return this.#calls.c8_is_over(this.#at) !== 0;
   }
@@ -382,6 +396,7 @@ export class Session {
       acknowledged: words.getUint32(OUTPUT + 12, true),
       linked: words.getUint8(OUTPUT + 16) !== 0,
       dropped: words.getUint8(OUTPUT + 17) !== 0,
+      cut: words.getUint32(OUTPUT + 20, true),
     };
   }
 

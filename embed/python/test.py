@@ -6,7 +6,8 @@ import tempfile
 import unittest
 
 import example
-from c8play import (Closed, DiskLocked, Kind, NotSealed, Refusal, SealedAlready, SeenBefore, Session, Threshold, calls, explain, rules, version)
+from c8play import (Closed, DiskLocked, Kind, NotSealed, Refusal, SealedAlready, SeenBefore, Session, Status, Threshold, calls,
+                    explain, rules, version)
 
 HERE = os.path.dirname(os.path.realpath(__file__))
 TEXT = rules(2, 100, 1, 8, b"test 1")
@@ -18,6 +19,17 @@ def greet(one: Session, two: Session) -> None:
     for kind in (Kind.HELLO, Kind.WELCOME):
         two.deliver(one.say(2, kind))
         one.deliver(two.say(1, kind))
+
+
+def play(sessions: dict[int, Session], frames: int) -> None:
+    """Plays frames of a match with those players alone: what is for others is lost."""
+    for _ in range(frames):
+        for session in sessions.values():
+            session.tick(session.ticked())
+            session.turn()
+            for to, packet in list(session.packets()):
+                if to in sessions:
+                    sessions[to].deliver(packet)
 
 
 class Tests(unittest.TestCase):
@@ -40,10 +52,22 @@ class Tests(unittest.TestCase):
             self.assertTrue(two.tick(7))
             self.assertEqual(two.step(), (1, [(5, 6, 0, 0)]))
             self.assertEqual((two.ticked(), two.confirmed(), two.epoch(), two.is_over(), two.is_lost()), (2, 2, 1, False, False))
-            self.assertEqual(two.player(1)[1:], (2, 1, True, False))
+            self.assertEqual(two.player(1)[1:], (2, 1, True, False, None))
             two.turn()
             self.assertEqual({it for it, _ in two.packets()}, {1})
             self.assertEqual(list(two.packets()), [])
+
+    def test_cut(self) -> None:
+        text = rules(3, 1000, 0, 8, b"test 2")
+        with Session(text, 1, 7, 20) as one, Session(text, 2, 7) as two, Session(text, 3, 7) as three:
+            play({1: one, 2: two, 3: three}, 10)
+            self.assertIsNone(two.player(3).cut)
+            play({1: one, 2: two}, 40)
+            cut = two.player(3).cut or 0
+            self.assertEqual((one.player(3).cut, cut > 0), (cut, True))
+            held = (Status.HELD, Status.HELD)
+            self.assertEqual([two.status(it)[:3] for it in (cut - 1, cut)], [(*held, Status.HELD), (*held, Status.EMPTY)])
+            self.assertEqual(two.status(999)[:3], (Status.PREDICTED, Status.PREDICTED, Status.EMPTY))
 
     def test_machine(self) -> None:
         with Session(TEXT, 1, 7) as session:
@@ -101,7 +125,7 @@ class Tests(unittest.TestCase):
 
     def test_version(self) -> None:
         self.assertEqual(version(), calls.VERSION)
-        self.assertEqual([it for it in ("0.1.9", "0.2.0", "0.2.7", "0.3.0", "1.2.0") if calls.fits(it)], ["0.2.0", "0.2.7"])
+        self.assertEqual([it for it in ("0.1.9", "0.2.0", "0.2.1", "0.2.7", "0.3.0", "1.2.1") if calls.fits(it)], ["0.2.1", "0.2.7"])
 
     def test_hand(self) -> None:
         with Session(TEXT, 1, 7) as session:

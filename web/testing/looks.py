@@ -36,16 +36,8 @@ class Looks:
         page.darken(False)
 
 
-def looks(bench):
-    """Each view: contrast, names and sizes of controls, headings, and that nothing is cut or covered."""
-    look, root = Looks(bench), f"http://127.0.0.1:{bench.port}/"
-    page = bench.browser.page(root)
-    bench.shown.append(page)
-    page.until("document.querySelectorAll('#games li').length === 3", 10)
-    look.at(page, "home")
-    page.go(f"{root}?wrong#abc")
-    says(page, "ended", "This link is damaged.")
-    look.at(page, "wrong")
+def looks_at_a_match(look, bench):
+    """A page that invites, plays and ends; and what it asks before a player is dropped."""
     bench.next_room()
     one = bench.open(1)
     says(one, "state", "Waiting for player 2 to open the link.")
@@ -65,7 +57,10 @@ def looks(bench):
     look.at(one, "drop")
     one.value("document.getElementById('sure').showModal()")
     look.at(one, "dialog", ("phone", "laptop"))
-    # a game whose keys have no names has buttons as they lie on the keypad; three players at one keyboard have a pad each
+
+
+def looks_at_pads(look, page, root):
+    """A game whose keys have no names has buttons as they lie on the keypad; three players at one keyboard have a pad each."""
     text = b"players 2\nipf 10\nframes 36000\ndelay 0\nwindow 8\nseed 0\nmask1 ffff\nmask2 8001\ncode 1200\n"
     page.go(f"{root}?keypad#{spelt(bytes([1, 1]) + (5).to_bytes(8, 'big') + SECRET + text)}")
     says(page, "who", "You are player 1 of 2.")
@@ -75,6 +70,20 @@ def looks(bench):
     page.value("document.querySelectorAll('#games li')[2].querySelectorAll('button')[1].click()")
     says(page, "state", "Playing here.")
     look.at(page, "three")
+
+
+def looks(bench):
+    """Each view: contrast, names and sizes of controls, headings, and that nothing is cut or covered."""
+    look, root = Looks(bench), f"http://127.0.0.1:{bench.port}/"
+    page = bench.browser.page(root)
+    bench.shown.append(page)
+    page.until("document.querySelectorAll('#games li').length === 3", 10)
+    look.at(page, "home")
+    page.go(f"{root}?wrong#abc")
+    says(page, "ended", "This link is damaged.")
+    look.at(page, "wrong")
+    looks_at_a_match(look, bench)
+    looks_at_pads(look, page, root)
     page.go(f"file://{ROLLBACK}")
     page.until("/Frame (\\d\\d\\d)/.test(document.querySelector('.said')?.textContent)", 20)
     look.at(page, "rollback")

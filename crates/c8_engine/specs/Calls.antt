@@ -1,5 +1,6 @@
 -- What the calls of a handle do to its session.
 use Rattle.std.specs.Prelude.{ℕ, ◌≡◌, ◌≢◌, ◌⊎◌, ◌/◌, min, Bool, true, false, List, [], ◌∷◌, ◌++◌, length, map, Option, None, Some, Result, Err, IfErr}
+use Rattle.std.specs.Prelude.{nat_lt, if◌then◌else◌}
 use Rattle.c8_disk.specs.declared.error.DiskError.{DiskError}
 use Rattle.c8_disk.specs.declared.file.FileDisk.{FileDisk}
 use Rattle.c8_game.specs.Rules.{Rules, session_of}
@@ -25,6 +26,8 @@ use Rattle.c8_session.specs.Turns.{HasTurned}
 use Rattle.c8_embed.specs.Endpoint.{EngineOf, HasCalled, HasSealing, HasDelivered, HasSent, HasNext, IsAsBefore}
 use Rattle.c8_embed.specs.declared.endpoint.Undelivered.{Undelivered}
 use Rattle.c8_transport.specs.declared.keys.Secrets.{Secrets}
+use Rattle.c8_known.specs.Known.{PlayerValue, KnownValue, player_in}
+use Rattle.c8_known.specs.Confirmed.{past_cut, has_value}
 use Rattle.c8_embed.specs.Journal.{disk}
 use Rattle.c8_engine.specs.Codes.{delivered_code, bad_secret_code, sealed_already_code, tick_code, leave_code, decide_code, check_code}
 use Rattle.c8_engine.specs.Codes.{turn_code, say_code}
@@ -88,6 +91,21 @@ pub record HasMadeTurn (old new : EngineOf) (code : ℕ) : Type 0 where
   pub steps : new.steps ≡ old.steps
   pub depth : new.depth ≡ old.depth
   pub code_is : code ≡ turn_code reply
+
+-- what an input of a row is: 1 for one that its player entered, 2 for the empty one from a cut on, 0 for a guess
+abbrev pub status_of : PlayerValue → ℕ → ℕ
+status_of p frame = if nat_lt frame (length p.held) then 1 else (if has_value (past_cut p.cut frame) then 2 else 0)
+
+abbrev pub status_in : KnownValue → ℕ → ℕ → ℕ
+status_in k frame player = status_of (player_in k player) frame
+
+abbrev pub statuses : KnownValue → ℕ → List ℕ
+statuses k frame = status_in k frame 1 ∷ status_in k frame 2 ∷ status_in k frame 3 ∷ status_in k frame 4 ∷ []
+
+-- where a player's inputs are cut, as C reads it
+abbrev pub cut_code : Option ℕ → ℕ
+cut_code None = 4294967295
+cut_code (Some length) = length
 
 -- the first `size` bytes are the packet of a datagram that the peer says to this seat; or there are none, and nothing changed
 abbrev pub HasSaid : Endpoint → ℕ → ℕ → List ℕ → Endpoint → Type 0

@@ -26,7 +26,7 @@ pub use handle::Handle;
 pub use opening::{c8_close, c8_open, c8_open_journal};
 pub use reading::{
     PlayerState, c8_confirmed, c8_epoch, c8_is_lost, c8_is_over, c8_mark, c8_player, c8_screen,
-    c8_state, c8_ticked, c8_tone,
+    c8_state, c8_status, c8_ticked, c8_tone,
 };
 pub use rules::c8_rules;
 pub use saying::{c8_next, c8_say};

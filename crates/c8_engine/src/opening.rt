@@ -1,7 +1,10 @@
 //! Opening and closing a session.
-ghost use Rattle.std.specs.Prelude.{◌≡◌, ◌<◌, ℕ, List, None, IfErr};
+ghost use Rattle.std.specs.Prelude.{◌≡◌, ◌<◌, ◌⊎◌, ℕ, List, None, IfErr};
 ghost use Rattle.c8_game.specs.GameText.{Spells};
+ghost use Rattle.c8_refusals.specs.declared.error.OpenError.TheVariants as opens;
 ghost use Rattle.c8_engine.specs.Calls.{IsOpenWith};
+ghost use Rattle.c8_engine.specs.Codes.{open_code};
+ghost use Rattle.c8_engine.specs.Refused.{IsNoJournal, IsRefusedAs};
 
 use crate::codes::{file_code, game_code, nobody_code, open_code};
 use crate::handle::Handle;
@@ -33,6 +36,7 @@ pub extern "C" fn c8_open(
 ) -> u32
     ensures opened { result ≡ 0 → IsOpenWith text.now player room handle.new.value }
     ensures refused { 0 < result → handle.new ≡ handle.old }
+    ensures why { 0 < result → IsRefusedAs text.now player room result }
 {
     open_over(alloc, text, player, room, patience, Medium::Memory, handle)
 }
@@ -52,6 +56,7 @@ pub extern "C" fn c8_open_journal(
 ) -> u32
     ensures opened { result ≡ 0 → IsOpenWith text.now player room handle.new.value }
     ensures refused { 0 < result → handle.new ≡ handle.old }
+    ensures why { 0 < result → IsRefusedAs text.now player room result }
 {
     match Medium::take(file, folder) {
         Some(medium) => open_over(alloc, text, player, room, patience, medium, handle),
@@ -71,6 +76,7 @@ fn open_over(
 ) -> u32
     ensures opened { result ≡ 0 → IsOpenWith text.now player room handle.new.value }
     ensures refused { 0 < result → handle.new ≡ handle.old }
+    ensures why { 0 < result → IsRefusedAs text.now player room result }
 {
     let game = match Game::read(alloc, text) {
         Ok(game) => game,
@@ -91,7 +97,8 @@ fn open_over(
 
 /// The disk of a journal with room for a match. The error is a code.
 fn disk_for(alloc: Global, game: &Game, medium: Medium) -> Result<FileDisk<Medium>, u32>
-    ensures { IfErr result (λ code. 0 < code) }
+    ensures some { IfErr result (λ code. 0 < code) }
+    ensures why { IfErr result (λ code. IsNoJournal code ⊎ (code ≡ open_code opens.Memory)) }
 {
     let capacity = capacity_of(game);
     let Ok(bytes) = Vec::with_capacity(alloc, capacity as usize) else {
@@ -116,6 +123,8 @@ fn open_on(
     ensures opened { result ≡ 0 → (text : List ℕ) → Spells text game.now
         → IsOpenWith text me.number room handle.new.value }
     ensures refused { 0 < result → handle.new ≡ handle.old }
+    ensures why { 0 < result → (text : List ℕ) → Spells text game.now
+        → IsRefusedAs text me.number room result }
 {
     let patience = if patience == 0 {
         None

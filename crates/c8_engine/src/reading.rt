@@ -4,15 +4,19 @@ ghost use Rattle.c8_digest.specs.StateBytes.{mark_of, state_bytes};
 ghost use Rattle.c8_digest.specs.Origin.{run_since};
 ghost use Rattle.c8_known.specs.Confirmed.{confirmed, best_rows};
 ghost use Rattle.c8_known.specs.Journal.{ticks, epoch};
-ghost use Rattle.c8_known.specs.Known.{count_in};
+ghost use Rattle.c8_known.specs.Known.{count_in, player_in, is_frozen_in};
+ghost use Rattle.c8_hand.specs.Links.{link_to};
+ghost use Rattle.c8_window.specs.Window.{acked_of};
 ghost use Rattle.c8_peer.specs.Peer.{known_by, begun_by};
 ghost use Rattle.c8_engine.specs.Codes.{closed_code};
-ghost use Rattle.c8_engine.specs.Calls.{IfOpen};
+ghost use Rattle.c8_engine.specs.Calls.{IfOpen, cut_code, statuses, status_in};
 
 use crate::codes::{closed_code, nobody_code};
 use crate::handle::Handle;
 use c8_digest::{STATE_LENGTH, mark, state_bytes};
+use c8_disk::Disk;
 use c8_game::Player;
+use c8_peer::Peer;
 
 /// Where the 256 bytes of the picture are in the bytes of a state.
 const SCREEN_AT: usize = 4149;
@@ -31,6 +35,8 @@ pub struct PlayerState {
     pub linked: bool,
     /// Whether the peer knows that player 1 has dropped it.
     pub dropped: bool,
+    /// From which frame on its inputs are empty; the greatest number if that is not known.
+    pub cut: u32,
 }
 
 /// How many ticks the own player has made; 0 at a closed handle.
@@ -104,6 +110,14 @@ pub extern "C" fn c8_player(handle: &mut Handle, player: u8, state: &mut PlayerS
     ensures closed { handle.old.value ≡ None → result ≡ closed_code }
     ensures held { result ≡ 0 → IfOpen handle.old.value handle.new.value (λ e f.
         state.new.held ≡ count_in (known_by e.peer) player) }
+    ensures acknowledged { result ≡ 0 → IfOpen handle.old.value handle.new.value (λ e f.
+        state.new.acknowledged ≡ acked_of e.peer.state.memory.acks player) }
+    ensures linked { result ≡ 0 → IfOpen handle.old.value handle.new.value (λ e f.
+        state.new.linked ≡ (link_to e.peer.state.memory.links player).is_open) }
+    ensures dropped { result ≡ 0 → IfOpen handle.old.value handle.new.value (λ e f.
+        state.new.dropped ≡ is_frozen_in (known_by e.peer) player) }
+    ensures cut { result ≡ 0 → IfOpen handle.old.value handle.new.value (λ e f.
+        state.new.cut ≡ cut_code (player_in (known_by e.peer) player).cut) }
 {
     if !handle.is_open() {
         return closed_code();
@@ -118,9 +132,56 @@ pub extern "C" fn c8_player(handle: &mut Handle, player: u8, state: &mut PlayerS
         held: peer.count(player),
         acknowledged: peer.acked(player),
         linked: peer.is_linked(player),
-        dropped: peer.leaving(player) || peer.frozen(player),
+        dropped: peer.frozen(player),
+        cut: cut_code(peer.cut_of(player)),
     };
     0
+}
+
+/// Where a player's inputs are cut, as C reads it.
+fn cut_code(cut: Option<u32>) -> u32
+    ensures { result ≡ cut_code cut }
+{
+    match cut {
+        Some(length) => length,
+        None => u32::MAX,
+    }
+}
+
+/// Writes of each player what its input in the best row of a frame is: 1 for one that it entered, 2 for the empty one from its
+/// cut on, 0 for a guess, which may change.
+#[unsafe(no_mangle)]
+pub extern "C" fn c8_status(handle: &mut Handle, frame: u32, out: &mut [u8; 4]) -> u32
+    ensures same { handle.new.value ≡ handle.old.value }
+    ensures closed { handle.old.value ≡ None → (result ≡ closed_code) × (out.new ≡ out.old) }
+    ensures statuses { IfOpen handle.old.value handle.new.value (λ e f. (result ≡ 0)
+        × (out.new ≡ statuses (known_by e.peer) frame)) }
+{
+    if !handle.is_open() {
+        return closed_code();
+    }
+    let engine = &handle.session().engine;
+    let peer = engine.peer();
+    *out = [
+        status(peer, Player { number: 1 }, frame),
+        status(peer, Player { number: 2 }, frame),
+        status(peer, Player { number: 3 }, frame),
+        status(peer, Player { number: 4 }, frame),
+    ];
+    0
+}
+
+/// What the input of a player in the best row of a frame is.
+fn status<D: Disk>(peer: &Peer<'_, D>, player: Player, frame: u32) -> u8
+    ensures { result ≡ status_in (known_by peer.now) frame player.number }
+{
+    if frame < peer.count(player) {
+        return 1;
+    }
+    match peer.cut_of(player) {
+        Some(cut) if cut <= frame => 2,
+        _ => 0,
+    }
 }
 
 /// Writes the picture that the player sees to `out`: 32 rows of 8 bytes, the leftmost point in the highest bit.

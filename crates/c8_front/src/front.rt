@@ -1,12 +1,14 @@
 //! What all command lines share: their words, the parser's messages, and the exit status.
 
-ghost use Rattle.std.specs.Prelude.{◌≡◌, ◌≢◌, ◌⊎◌, IfOk, IfErr};
+ghost use Rattle.std.specs.Prelude.{◌≡◌, ◌≢◌, ◌⊎◌, ◌↔◌, IfOk, IfErr, IsTrue, Some, codes};
 ghost use Rattle.std.specs.IoError.{error_kind};
 ghost use Rattle.std.specs.declared.io.ErrorKind.TheVariants as kinds;
 ghost use Rattle.clap.specs.Values.{kind_of};
+ghost use Rattle.clap.specs.Matches.{found_of, first_value};
 ghost use Rattle.c8_command.specs.declared.refusal.Part.TheVariants as parts;
 ghost use Rattle.c8_command.specs.declared.status.Status.TheVariants as statuses;
 
+use crate::outline::YES;
 use c8_command::{Refusal, Status};
 use clap::ArgMatches;
 use clap::error::ErrorKind;
@@ -32,9 +34,12 @@ impl Terminals {
     };
 }
 
-/// The status with which the program ends. If output cannot be written, that is the fault of a disk.
+/// The status with which the program ends. If output cannot be written, that is the fault of a disk, and it writes the
+/// line of the refusal. If nobody reads the output any more, as behind `head`, it writes nothing, and the status is the same.
 pub fn status_at<E: Write>(ended: io::Result<Status>, refused: &mut E) -> Status
     ensures told { IfOk ended (λ status. result ≡ status) }
+    ensures quiet { IfErr ended (λ e. error_kind e ≡ kinds.BrokenPipe
+        → E.contents refused.new ≡ E.contents refused.old) }
     ensures memory { IfErr ended
         (λ e. error_kind e ≡ kinds.OutOfMemory → result ≡ statuses.Refused) }
     ensures disk { IfErr ended
@@ -44,8 +49,10 @@ pub fn status_at<E: Write>(ended: io::Result<Status>, refused: &mut E) -> Status
         Ok(status) => status,
         Err(error) => {
             let refusal = refusal_at(&error);
-            // If this cannot be written either, only the status tells it.
-            let _ = refusal.tell(refused);
+            if error.kind() != io::ErrorKind::BrokenPipe {
+                // If this cannot be written either, only the status tells it.
+                let _ = refusal.tell(refused);
+            }
             refusal.status()
         }
     }
@@ -63,9 +70,12 @@ fn refusal_at(error: &io::Error) -> Refusal
     }
 }
 
-/// Whether `--explain` was given.
-pub fn is_explained(given: &ArgMatches<'_>) -> bool {
-    given.get_flag("explain")
+/// Whether refusals are explained: `--explain` is `yes`, because it was given or because the command line has that default.
+pub fn is_explained(given: &ArgMatches<'_>) -> bool
+    ensures { IsTrue result ↔
+        first_value (found_of given.now) (codes "explain") ≡ Some (codes "yes") }
+{
+    given.get_str("explain") == Some(YES)
 }
 
 /// The word that was given for a required argument.

@@ -46,7 +46,18 @@ pub enum Form {
     Option(&'static str),
     /// An option with a value that may be given more than once.
     Repeated(&'static str),
+    /// An option that is on (`--explain`, or with `=yes`) or off (`=no`). If it is not given, the command line decides.
+    Switch,
 }
+
+/// The value of a switch that is on.
+pub(crate) const YES: &str = "yes";
+
+/// The value of a switch that is off.
+const NO: &str = "no";
+
+/// The values of a switch.
+static STATES: &[&str] = &[YES, NO];
 
 impl Argument {
     /// A word that has to be given.
@@ -81,48 +92,59 @@ impl Argument {
     /// The option `--explain`.
     pub const EXPLAIN: Argument = Argument {
         name: "explain",
-        help: "Says what is wrong, and where, in a second line after a refusal",
-        ..Argument::FLAG
+        help: "Adds a line to a refusal: what is wrong, and where [default: yes on a terminal]",
+        form: Form::Switch,
+        ..Argument::NEEDED
     };
 }
 
-/// The command line of a program that has these commands.
-pub fn line_of<'a>(alloc: Global, commands: &[&Outline]) -> Result<Command<'a>, AllocError> {
+/// The command line of a program that has these commands. `is_on`: whether switches that are not given are on.
+pub fn line_of<'a>(
+    alloc: Global,
+    commands: &[&Outline],
+    is_on: bool,
+) -> Result<Command<'a>, AllocError> {
     let line = Command::new(alloc, "c8play").subcommand_required(true);
-    with_commands(alloc, line, commands)
+    with_commands(alloc, line, commands, is_on)
 }
 
-/// Adds commands to a command line.
+/// Adds commands to a command line. `is_on`: whether switches that are not given are on.
 pub fn with_commands<'a>(
     alloc: Global,
     line: Command<'a>,
     commands: &[&Outline],
+    is_on: bool,
 ) -> Result<Command<'a>, AllocError> {
     let mut line = line;
     for outline in commands {
-        line = line.subcommand(command_of(alloc, outline)?)?;
+        line = line.subcommand(switched(alloc, outline, is_on)?)?;
     }
     Ok(line)
 }
 
-/// A command with its arguments.
+/// A command with its arguments. Switches that are not given are off.
 pub fn command_of<'a>(alloc: Global, outline: &Outline) -> Result<Command<'a>, AllocError> {
+    switched(alloc, outline, false)
+}
+
+/// A command with its arguments. `is_on`: whether switches that are not given are on.
+fn switched<'a>(alloc: Global, outline: &Outline, is_on: bool) -> Result<Command<'a>, AllocError> {
     let mut command = Command::new(alloc, outline.name)
         .about(outline.about)
         .after_help(outline.ending);
     for argument in outline.takes {
-        command = command.arg(arg_of(alloc, argument)?)?;
+        command = command.arg(arg_of(alloc, argument, is_on)?)?;
     }
     Ok(command)
 }
 
-fn arg_of<'a>(alloc: Global, argument: &Argument) -> Result<Arg<'a>, AllocError> {
+fn arg_of<'a>(alloc: Global, argument: &Argument, is_on: bool) -> Result<Arg<'a>, AllocError> {
     let arg = Arg::new(alloc, argument.name).help(argument.help);
-    let arg = with_value(formed(arg, argument), argument);
+    let arg = with_value(formed(arg, argument, is_on), argument);
     arg.conflicts_with_all(argument.excludes)
 }
 
-fn formed<'a>(arg: Arg<'a>, argument: &Argument) -> Arg<'a> {
+fn formed<'a>(arg: Arg<'a>, argument: &Argument, is_on: bool) -> Arg<'a> {
     match argument.form {
         Form::Needed => arg.required(true),
         Form::Optional => arg,
@@ -133,7 +155,20 @@ fn formed<'a>(arg: Arg<'a>, argument: &Argument) -> Arg<'a> {
             .long(argument.name)
             .value_name(value)
             .action(ArgAction::Append),
+        Form::Switch => switch(arg.long(argument.name), is_on),
     }
+}
+
+/// An option that takes `yes` or `no` behind an equals sign, and is `yes` without.
+fn switch<'a>(arg: Arg<'a>, is_on: bool) -> Arg<'a> {
+    arg.value_name("yes|no")
+        .value_parser(ValueParser::Names(STATES))
+        .num_args(0usize..=1)
+        .require_equals(true)
+        .default_missing_value(YES)
+        .default_value(if is_on { YES } else { NO })
+        .hide_possible_values(true)
+        .hide_default_value(true)
 }
 
 fn with_value<'a>(arg: Arg<'a>, argument: &Argument) -> Arg<'a> {

@@ -1,1 +1,1 @@
--- No lemmas.
+mod SummaryLemmas

@@ -1,21 +1,52 @@
--- Whose journal some bodies are.
-use Rattle.std.specs.Prelude.{◌≡◌, ◌⊎◌, ℕ, List, Some}
-use Rattle.std.specs.List.{slice_get}
+-- What the bodies of a journal's file say of it, and why there may be no summary.
+use Rattle.std.specs.Prelude.{◌≡◌, ◌⊎◌, ◌<◌, ◌+◌, ◌-◌, ℕ, List, [], ◌∷◌, length, take, slice_index, get_or, Some, false}
+use Rattle.std.specs.List.{slice_get, flat_map, All}
 use Rattle.c8_audit.specs.Journal.{HasNoHead}
 use Rattle.c8_audit.specs.declared.error.JournalError.{JournalError}
 use Rattle.c8_audit.specs.declared.error.JournalError.TheVariants.{WrongGame, BadRecord, Memory}
 use Rattle.c8_journals.specs.declared.summary.Summary.{Summary}
-use Rattle.c8_known.specs.Journal.{Record}
-use Rattle.c8_record.specs.Body.{Spells}
+use Rattle.c8_known.specs.Journal.{Record, Head, Epoch, Own, Got, Freeze, Leave, Cut, State, Check, ticks, epochs, has_leave}
+use Rattle.c8_record.specs.Body.{Spells, record_of, records_of}
 use Rattle.c8_record.specs.Replay.{BeginsWithHead}
 
 -- the first body is the HEAD of this player, this room and this game
 abbrev pub IsOf : List (List ℕ) → Summary → Type 0
 IsOf bodies s = BeginsWithHead bodies s.player.number s.id s.room
 
--- Why there is no summary: the first body is no HEAD, or body n spells no record.
+-- the form that a record names, if it names one
+abbrev pub forms_of : Record → List ℕ
+forms_of (Head player form id room) = form ∷ []
+forms_of (Epoch player number form) = form ∷ []
+forms_of (Own player start word) = []
+forms_of (Got player start words) = []
+forms_of (Freeze player) = []
+forms_of (Leave player) = []
+forms_of (Cut player length start words) = []
+forms_of (State player frames piece bytes) = []
+forms_of (Check player frames digest) = []
+
+-- the forms that records name in turn
+unfoldable pub forms : List Record → List ℕ
+forms records = flat_map forms_of records
+
+-- What a summary has of records: the key sets that were entered, how often the peer was opened, the last form, and who has a LEAVE.
+pub record Sums (records : List Record) (s : Summary) : Type 0 where
+  pub entered : s.entered ≡ ticks records
+  pub epochs : s.epochs ≡ length (epochs records)
+  pub form : s.form ≡ slice_index (forms records) (length (forms records) - 1)
+  pub dropped : (place : ℕ) → place < 4 → get_or s.dropped place false ≡ has_leave (place + 1) records
+
+-- Each body spells a record, the first is the HEAD, and the summary has what the records say.
+pub record IsSummed (bodies : List (List ℕ)) (s : Summary) : Type 0 where
+  pub head : IsOf bodies s
+  pub spelled : All (λ body. Spells body (record_of body)) bodies
+  pub sums : Sums (records_of bodies) s
+
+-- Why there is no summary: the first body is no HEAD, or body n is the first that spells no record.
 abbrev pub IsUnsummed : List (List ℕ) → JournalError → Type 0
 IsUnsummed bodies WrongGame = ⊥
 IsUnsummed bodies (BadRecord n why) =
-    ((n ≡ 0) × HasNoHead bodies) ⊎ ((body : List ℕ) × (slice_get bodies n ≡ Some body) × ((r : Record) → Spells body r → ⊥))
+    ((n ≡ 0) × HasNoHead bodies)
+    ⊎ (All (λ body. Spells body (record_of body)) (take n bodies) × (body : List ℕ) × (slice_get bodies n ≡ Some body)
+    × ((r : Record) → Spells body r → ⊥))
 IsUnsummed bodies Memory = ⊥

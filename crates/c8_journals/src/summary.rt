@@ -1,8 +1,10 @@
 //! What a journal is, by its records alone.
 
-ghost use Rattle.std.specs.Prelude.{◌≡◌, MatchResult};
+ghost use Rattle.std.specs.Prelude.{◌<◌, ◌+◌, ◌^◌, MatchResult};
 ghost use Rattle.c8_log.specs.Slots.{kept};
-ghost use Rattle.c8_journals.specs.Summary.{IsOf, IsUnsummed};
+ghost use Rattle.c8_record.specs.Lent.{value_of};
+ghost use Rattle.c8_journals.specs.Counted.{Counts, IsSummedTo};
+ghost use Rattle.c8_journals.specs.Summary.{IsSummed, IsUnsummed};
 
 use c8_audit::{JournalError, Unfit};
 use c8_game::{MOST_PLAYERS, Player};
@@ -29,7 +31,7 @@ pub struct Summary {
 /// Reads what a journal is from the bytes of its file. `BadRecord` if the first record is no HEAD, or for the first bytes
 /// that spell no record. It does not check whether the records may stand where they do.
 pub fn summary_of(image: &[u8]) -> Result<Summary, JournalError>
-    ensures { MatchResult result (IsOf (kept image.now)) (IsUnsummed (kept image.now)) }
+    ensures { MatchResult result (IsSummed (kept image.now)) (IsUnsummed (kept image.now)) }
 {
     let mut summary = begun(image)?;
     for n in 1..kept_len(image) {
@@ -43,7 +45,7 @@ pub fn summary_of(image: &[u8]) -> Result<Summary, JournalError>
 
 /// Reads the HEAD of a journal.
 fn begun(image: &[u8]) -> Result<Summary, JournalError>
-    ensures { MatchResult result (IsOf (kept image.now)) (IsUnsummed (kept image.now)) }
+    ensures { MatchResult result (IsSummedTo (kept image.now) 1) (IsUnsummed (kept image.now)) }
 {
     if kept_len(image) == 0 {
         return Err(JournalError::BadRecord(0, Unfit::Nothing));
@@ -74,16 +76,16 @@ fn begun(image: &[u8]) -> Result<Summary, JournalError>
 impl Summary {
     /// Counts one more record.
     fn add(&mut self, record: &Record<'_>)
-        ensures player { self.new.player ≡ self.old.player }
-        ensures room { self.new.room ≡ self.old.room }
-        ensures id { self.new.id ≡ self.old.id }
+        requires few { self.old.entered + 1 < 2 ^ 64 }
+        requires rare { self.old.epochs + 1 < 2 ^ 64 }
+        ensures { Counts (value_of record.now) self.old self.new }
     {
         match *record {
             Record::Head { form, .. } | Record::Epoch { form, .. } => {
                 self.form = form;
-                self.epochs = self.epochs.saturating_add(1);
+                self.epochs += 1;
             }
-            Record::Own { .. } => self.entered = self.entered.saturating_add(1),
+            Record::Own { .. } => self.entered += 1,
             Record::Leave { player } => self.dropped[player.place()] = true,
             _ => {}
         }

@@ -279,6 +279,27 @@ acked_more_said : (rules : Rules) (said new : List Packet) (p q n : ℕ) → IsH
 acked_more_said rules said new p q n is =
     ⊎_elim (λ none. inl none) (λ some. inr (some.0, among_more said new some.0 some.1, some.2, some.3, some.4)) is
 
+-- no call lowers an acknowledgement
+pub acks_rise : (rules : Rules) (t : Told) (k : KnownValue) (m : Memory) (call : Call) (q : ℕ) → 1 ≤ q → q ≤ 4
+    → acked_of m.acks q ≤ acked_of (outcome rules t k m call).memory.acks q
+acks_rise rules t k m call q from to =
+    ⊎_elim
+    (λ same. omega (arith, ap (λ (w : WindowValue). acked_of w q) same))
+    (λ a.
+    let sender : ℕ = a.packet.head.from in
+    let new : ℕ = max (acked_of m.acks sender) a.count in
+    let is : acked_of (outcome rules t k m call).memory.acks q ≡ acked_of (with_acked m.acks sender new) q =
+    ap (λ (w : WindowValue). acked_of w q) a.acks in
+    elim (cases_eq q sender) [
+      | inl at ↦
+          let here : acked_of (with_acked m.acks sender new) q ≡ new =
+          ap (λ (x : ℕ). acked_of (with_acked m.acks x new) q) (sym at) ∙ acked_at m.acks q new from to in
+          let was = ap (λ (x : ℕ). acked_of m.acks x) at in
+          omega (arith, is, here, was)
+      | inr other ↦ omega (arith, is, acked_with m.acks sender new q other from to)
+    ])
+    (call_acks rules t k m call)
+
 -- ---- in every reached world
 
 abbrev KeepsAcks : Rules → List Packet → ℕ → Memory → Type 0

@@ -259,7 +259,7 @@ pub record HasBrought (rules : Rules) (room : ℕ) (out : ℕ → Bool) (w v : W
   pub holds : answered.n ≤ count rules L (journal_of v 1)
   pub uncut : cut_of L (journal_of v 1) ≡ None
 
-within_limit : (rules : Rules) (room : ℕ) (w : World) (L q : ℕ) → AreInRange rules → Laws rules room → IsReached rules room w → IsPlayer rules L
+pub within_limit : (rules : Rules) (room : ℕ) (w : World) (L q : ℕ) → AreInRange rules → Laws rules room → IsReached rules room w → IsPlayer rules L
     → IsPlayer rules q → count rules L (journal_of w q) ≤ limit_of rules
 within_limit rules room w L q range laws reached leaver plays =
     let journal = (laws w reached).journals q plays in
@@ -344,7 +344,7 @@ cut_grown : (L : ℕ) (t u : State) → HasCutBy L t u → HasGrown t.journal u.
 cut_grown L t u is = inr (records.Cut L is.grows.0 is.grows.1 is.grows.2, (λ q. refl), is.grows.3)
 
 -- the length of a cut list
-cut_count : (rules : Rules) (room : ℕ) (w : World) (L K : ℕ) → AreInRange rules → Laws rules room → IsReached rules room w → IsPlayer rules L
+pub cut_count : (rules : Rules) (room : ℕ) (w : World) (L K : ℕ) → AreInRange rules → Laws rules room → IsReached rules room w → IsPlayer rules L
     → cut_of L (journal_of w 1) ≡ Some K → count rules L (journal_of w 1) ≡ K
 cut_count rules room w L K range laws reached leaver cut =
     let one = player_one rules range in

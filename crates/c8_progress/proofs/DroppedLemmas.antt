@@ -12,7 +12,7 @@ use Rattle.c8_known.specs.Journal.{Record, has_freeze, has_leave, cut_of}
 use Rattle.c8_known.specs.Known.{PlayerValue, KnownValue, nobody, player_in, known_of}
 use Rattle.c8_known.specs.Growth.{Begins}
 use Rattle.c8_known.specs.checked.BeginsLaws.{begins_same, begins_more, begins_append}
-use Rattle.c8_known.specs.checked.JournalLaws.{leave_stays}
+use Rattle.c8_known.specs.checked.JournalLaws.{leave_stays, cut_stays}
 use Rattle.c8_known.specs.checked.OneMore.{player_known}
 use Rattle.c8_known.specs.checked.StartLaws.{players_known}
 use Rattle.c8_known.specs.checked.ConfirmedLaws.{nobody_past}
@@ -36,23 +36,37 @@ use Rattle.c8_progress.proofs.SteppingLemmas.{IsWorldly, said_nothing}
 use Rattle.c8_progress.proofs.LawLemmas.{HasLaws, Laws}
 use Rattle.c8_progress.proofs.ReachedLemmas.{plays_if, if_player, world_if, peer_at_start, reached_well}
 use Rattle.c8_progress.proofs.SayingLemmas.{reached_more}
-use Rattle.c8_progress.proofs.OrderLemmas.{IsOrdered, AreOrdered, ordered_more, Keeps, IsBacked, CallIsBacked, call_keeps}
+use Rattle.c8_progress.proofs.OrderLemmas.{IsCut, IsOrdered, AreOrdered, ordered_more, Keeps, IsBacked, CallIsBacked, call_keeps}
 
 pub record AreAllOrdered (rules : Rules) (w : World) : Type 0 where
   pub journals : (q : ℕ) → IsPlayer rules q → AreOrdered (journal_of w 1) q (journal_of w q)
   pub pending : (q : ℕ) (r : Record) → IsPlayer rules q → (peer_of w q).pending ≡ Some r → IsOrdered (journal_of w 1) q r
 
+cut_more : (p : ℕ) (one later : List Record) → Begins one later → IsCut p one → IsCut p later
+cut_more p one later begins is =
+    (is.0, subst (λ (j : List Record). cut_of p j ≡ Some is.0) (sym begins.is) (cut_stays p is.0 one begins.rest is.1))
+
 ordered_later : (one later : List Record) (q : ℕ) (journal : List Record) → Begins one later → AreOrdered one q journal → AreOrdered later q journal
 ordered_later one later q journal begins is =
     let more : (p : ℕ) → has_leave p one ≡ true → has_leave p later ≡ true =
     λ p e. subst (λ (j : List Record). has_leave p j ≡ true) (sym begins.is) (leave_stays p one begins.rest e) in
-    record { frozen = λ p e. more p (is.frozen p e); left = λ apart p e. more p (is.left apart p e); cut = λ p K e. more p (is.cut p K e) }
+    record {
+      frozen = λ p e. more p (is.frozen p e);
+      left = λ apart p e. more p (is.left apart p e);
+      cut = λ p K e. more p (is.cut p K e);
+      ended = λ apart p K e. cut_more p one later begins (is.ended apart p K e);
+    }
 
 record_later : (one later : List Record) (q : ℕ) (r : Record) → Begins one later → IsOrdered one q r → IsOrdered later q r
 record_later one later q r begins is =
     let more : (p : ℕ) → has_leave p one ≡ true → has_leave p later ≡ true =
     λ p e. subst (λ (j : List Record). has_leave p j ≡ true) (sym begins.is) (leave_stays p one begins.rest e) in
-    record { frozen = λ p e. more p (is.frozen p e); left = λ apart p e. more p (is.left apart p e); cut = λ p K e. more p (is.cut p K e) }
+    record {
+      frozen = λ p e. more p (is.frozen p e);
+      left = λ apart p e. more p (is.left apart p e);
+      cut = λ p K e. more p (is.cut p K e);
+      ended = λ apart p K e. cut_more p one later begins (is.ended apart p K e);
+    }
 
 player_one : (rules : Rules) → AreInRange rules → IsPlayer rules 1
 player_one rules range = let two = range.at_least_two in record { from_one = omega arith; in_game = omega (arith, two) }
@@ -123,7 +137,9 @@ backed_by rules w x (packets.Cut c) all is told =
     let by = subst (λ (heard : Option ℕ). IsTrueBy rules w x heard) (ap seen_in is) told in
     let truth : IsTrueMessage rules x.head.from x.head.to (journal_of w x.head.from) (packets.Cut c) =
     subst (IsTrueMessage rules x.head.from x.head.to (journal_of w x.head.from)) is by.message in
-    all.cut c.leaver c.length (subst (λ (q : ℕ). cut_of c.leaver (journal_of w q) ≡ Some c.length) truth.0 truth.1)
+    let cut : cut_of c.leaver (journal_of w 1) ≡ Some c.length = subst (λ (q : ℕ). cut_of c.leaver (journal_of w q) ≡ Some c.length) truth.0 truth.1
+    in
+    (all.cut c.leaver c.length cut, (c.length, cut))
 backed_by rules w x (packets.Show m) all is told = tt
 backed_by rules w x (packets.Seen ack) all is told = tt
 
@@ -178,8 +194,18 @@ given_ordered rules room w p number on_disk (Some packet) range well laws all e 
 
 opening_ordered : (one : List Record) (q : ℕ) (rules : Rules) (room p : ℕ) (journal : List Record)
     → IsOrdered one q (opening_record rules room p journal)
-opening_ordered one q rules room p [] = record { frozen = λ x e. absurd cc; left = λ apart x e. absurd cc; cut = λ x K e. absurd cc }
-opening_ordered one q rules room p (r ∷ rest) = record { frozen = λ x e. absurd cc; left = λ apart x e. absurd cc; cut = λ x K e. absurd cc }
+opening_ordered one q rules room p [] = record {
+  frozen = λ x e. absurd cc;
+  left = λ apart x e. absurd cc;
+  cut = λ x K e. absurd cc;
+  ended = λ apart x K e. absurd cc;
+}
+opening_ordered one q rules room p (r ∷ rest) = record {
+  frozen = λ x e. absurd cc;
+  left = λ apart x e. absurd cc;
+  cut = λ x K e. absurd cc;
+  ended = λ apart x K e. absurd cc;
+}
 
 record IsFoundWell (rules : Rules) (w : World) (p : ℕ) (journal : List Record) : Type 0 where
   begins : Begins (journal_of w p) journal
@@ -309,6 +335,7 @@ start_ordered rules room = record {
     frozen = λ p e. absurd (both_ways (has_freeze p []) (none_of p).0 e);
     left = λ apart p e. absurd (both_ways (has_leave p []) (none_of p).1 e);
     cut = λ p K e. absurd (let none = (none_of p).2 in cc (none, e));
+    ended = λ apart p K e. absurd (let none = (none_of p).2 in cc (none, e));
   });
   pending =
       λ q r plays e. absurd (let none : never_opened.pending ≡ Some r = ap (λ (s : State). s.pending) (sym (peer_at_start rules q)) ∙ e in cc none);

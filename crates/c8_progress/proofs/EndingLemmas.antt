@@ -31,7 +31,7 @@ cut_settled p K frame cut long =
     ]
 
 -- Who has m inputs of each player, or that player's list to its cut, has confirmed m frames.
-ends_confirmed : (k : KnownValue) (m : ℕ) → IsKnown k → m ≤ k.ticks
+pub ends_confirmed : (k : KnownValue) (m : ℕ) → IsKnown k → m ≤ k.ticks
     → ((q : ℕ) → Plays k q → (m ≤ count_in k q) ⊎ ((K : ℕ) × ((player_in k q).cut ≡ Some K))) → m ≤ confirmed k
 ends_confirmed k m sound ticked holds = (confirmed_is k).no_greater m ticked (λ frame q less plays. ⊎_elim
     (λ all. held_settled (player_in k q) frame (omega (arith, less, all)))

@@ -39,11 +39,12 @@ whenever true x y e = refl
 whenever false x y e = absurd cc
 
 -- a tick is refused only at the end and at the window's limit
-abbrev TickIs : Rules → KnownValue → ℕ → Outcome → Type 0
+abbrev pub TickIs : Rules → KnownValue → ℕ → Outcome → Type 0
 TickIs rules k keys o = ((o.keeps ≡ None) × ((rules.frames ≤ k.ticks) ⊎ (confirmed k + rules.window ≤ k.ticks))) ⊎
     (o.keeps ≡ Some (Own k.me (count_in k k.me) keys))
 
-tick_is : (rules : Rules) (k : KnownValue) (m : Memory) (keys : ℕ) → (player_in k k.me).leaving ≡ false → TickIs rules k keys (tick rules k m keys)
+pub tick_is : (rules : Rules) (k : KnownValue) (m : Memory) (keys : ℕ) → (player_in k k.me).leaving ≡ false
+    → TickIs rules k keys (tick rules k m keys)
 unfolding tick
 tick_is rules k m keys stays =
     subst (TickIs rules k keys) (sym (otherwise (player_in k k.me).leaving _ _ stays))
@@ -58,11 +59,11 @@ tick_is rules k m keys stays =
           ])
     ])
 
-record IsDone (s t : State) (kept : Option Record) : Type 0 where
-  journal : t.journal ≡ s.journal ++ option_to_list kept
-  mode : t.mode ≡ s.mode
+pub record IsDone (s t : State) (kept : Option Record) : Type 0 where
+  pub journal : t.journal ≡ s.journal ++ option_to_list kept
+  pub mode : t.mode ≡ s.mode
 
-done_is : (s : State) (call : Call) (o : Outcome) (kept : Option Record) → IsDone s (done s call o kept Works).state kept
+pub done_is : (s : State) (call : Call) (o : Outcome) (kept : Option Record) → IsDone s (done s call o kept Works).state kept
 done_is s call o None = record { journal = sym (append-nil s.journal); mode = refl }
 done_is s call o (Some r) = record { journal = refl; mode = refl }
 
@@ -80,11 +81,11 @@ longer_by rules k keys o old new is longer =
     is
 
 -- after a tick the player has entered more than m key sets, if it had confirmed m
-entered_count : (rules : Rules) (room p : ℕ) (o : Outcome) (old new : List Record) → AreInRange rules → IsPlayer rules p → IsJournal rules p room old
-    → TickIs rules (known_of rules p old) 0 o → new ≡ old ++ option_to_list o.keeps
+pub entered_count : (rules : Rules) (room p keys : ℕ) (o : Outcome) (old new : List Record) → AreInRange rules → IsPlayer rules p
+    → IsJournal rules p room old → TickIs rules (known_of rules p old) keys o → new ≡ old ++ option_to_list o.keeps
     → (m : ℕ) → m ≤ confirmed (known_of rules p old) → m < rules.frames → rules.delay + m + 1 ≤ count rules p new
 unfolding known_of
-entered_count rules room p o old new range plays journal is longer m low less =
+entered_count rules room p keys o old new range plays journal is longer m low less =
     let k : KnownValue = known_of rules p old in
     let own = (journal_known rules p room old range plays.from_one plays.in_game journal).own in
     let same = count_known rules p p old plays.from_one plays.in_game in
@@ -96,11 +97,11 @@ entered_count rules room p o old new range plays journal is longer m low less =
     let counts = ap (count rules p) unchanged in
     ⊎_elim (λ over. omega (arith, own, same, counts, over, less)) (λ limit. omega (arith, own, same, counts, limit, window, low)) none.1)
     (λ some.
-    let more : new ≡ old ++ Own p (count_in k p) 0 ∷ [] = longer ∙ ap (λ (x : Option Record). old ++ option_to_list x) some in
-    let added : words_of p (Own p (count_in k p) 0) ≡ 0 ∷ [] = rw (eq-eqb p p refl) refl in
+    let more : new ≡ old ++ Own p (count_in k p) keys ∷ [] = longer ∙ ap (λ (x : Option Record). old ++ option_to_list x) some in
+    let added : words_of p (Own p (count_in k p) keys) ≡ keys ∷ [] = rw (eq-eqb p p refl) refl in
     let counts : count rules p new ≡ count rules p old + 1 =
-    ap (count rules p) more ∙ ap length (held_next rules p old (Own p (count_in k p) 0))
-    ∙ length-append (held rules p old) (words_of p (Own p (count_in k p) 0)) ∙ ap (λ (ws : List ℕ). count rules p old + length ws) added in
+    ap (count rules p) more ∙ ap length (held_next rules p old (Own p (count_in k p) keys))
+    ∙ length-append (held rules p old) (words_of p (Own p (count_in k p) keys)) ∙ ap (λ (ws : List ℕ). count rules p old + length ws) added in
     omega (arith, own, same, counts, low, ticked))
     is
 
@@ -153,7 +154,7 @@ enters rules room out w p range laws on plays stays =
             there = λ r r_plays other. ap (λ (x : State). x.journal) (there r r_plays other);
           });
       there = λ r r_plays other. ap (λ (x : State). x.journal) (there r r_plays other);
-      counts = entered_count rules room p o (journal_of w p) (journal_of v p) range plays ((laws w on.reached).journals p plays) told journal;
+      counts = entered_count rules room p 0 o (journal_of w p) (journal_of v p) range plays ((laws w on.reached).journals p plays) told journal;
     }
 
 -- players 1 to n enter one each

@@ -65,7 +65,7 @@ pub record HasGotOn (rules : Rules) (w v : World) (p q : ℕ) : Type 0 where
 -- ---- what each of two knows of the other's inputs
 
 -- nobody knows more acknowledged than the other holds
-acked_within : (rules : Rules) (room : ℕ) (w : World) (p q : ℕ) → AreInRange rules → IsReached rules room w → HasLaws rules room w
+pub acked_within : (rules : Rules) (room : ℕ) (w : World) (p q : ℕ) → AreInRange rules → IsReached rules room w → HasLaws rules room w
     → ArePair rules w p q → acked_of (peer_of w p).memory.acks q ≤ count rules p (journal_of w q)
 unfolding held
 acked_within rules room w p q range reached laws are =
@@ -84,7 +84,7 @@ acked_within rules room w p q range reached laws are =
     ((reached_acked rules room w range reached).all p are.plays (awake_of rules w p q are) q from (omega (arith, to, four)))
 
 -- a player's own list is within the limit
-own_within : (rules : Rules) (room p : ℕ) (journal : List Record) → AreInRange rules → IsPlayer rules p → IsJournal rules p room journal
+pub own_within : (rules : Rules) (room p : ℕ) (journal : List Record) → AreInRange rules → IsPlayer rules p → IsJournal rules p room journal
     → count rules p journal ≤ limit_of rules
 own_within rules room p journal range plays is =
     let from = plays.from_one in
@@ -164,6 +164,8 @@ data_told rules room w p q range reached laws laws_then are takes fresh back =
     let linked : not (link_to (links_of w p) q).is_open ≡ false = ap not open_there in
     let says = say_ok rules p s q Data are.plays are.also are.apart are.up are.stays refl refl linked in
     let is = exchange_is rules room w p q Data told well.nodes are.plays are.also are.apart are.up are.also_up says in
+    let within = own_within rules room p (journal_of w p) range are.plays (laws.journals p are.plays) in
+    let fewer = begins_length (held rules p (journal_of w q)) (held rules p (journal_of w p)) (laws.begins p q are.plays are.also) in
     let may : MayTell rules p s q t = record {
       one = are.plays.from_one;
       one_plays = are.plays.in_game;
@@ -181,9 +183,10 @@ data_told rules room w p q range reached laws laws_then are takes fresh back =
       stays = are.also_stays;
       unfrozen = takes.unfrozen;
       unleft = takes.unleft;
-      begins = laws.begins p q are.plays are.also;
+      begins = inl (laws.begins p q are.plays are.also);
       counts = begins_length (held rules q (journal_of w p)) (held rules q (journal_of w q)) (laws.begins q p are.also are.plays);
-      within = own_within rules room p (journal_of w p) range are.plays (laws.journals p are.plays);
+      within = within;
+      also_within = omega (arith, fewer, within);
       acked = acked_within rules room w p q range reached laws are;
     } in
     let done_it = data_is_told rules p s q t may (same_marks rules room w p q reached laws_then well.nodes are may says) in

@@ -9,7 +9,7 @@ use Rattle.c8_peer.specs.Hearing.{seen_in}
 use Rattle.c8_peer.specs.Opening.{found}
 use Rattle.c8_peer.specs.Truth.{IsTrueMessage}
 use Rattle.c8_world.specs.World.{World, IsReached, Event, Answer, Chain, peer_of, journal_of, Give, Do, CanHappen}
-use Rattle.c8_world.specs.Agreement.{IsPlayer, IsTrueBy, IsAmong, IsUndropped, IsTrueSaid, HasFrozen, IsBounded, AreLinked, refused_for}
+use Rattle.c8_world.specs.Agreement.{IsPlayer, IsTrueBy, IsAmong, IsUndropped, IsTrueSaid, HasFrozen, IsBounded, AreReports, AreLinked, refused_for}
 use Rattle.c8_world.specs.Headline.{IsHeadline}
 use Rattle.std.specs.Prelude.{◌≢◌, true}
 use Rattle.c8_peer.specs.State.{Hello, Welcome, Data}
@@ -40,6 +40,7 @@ pub record HasLaws (rules : Rules) (room : ℕ) (w : World) : Type 0 where
       → CanHappen rules room w (Do (Give number q)) answer v → answer ≢ refused_for Desync
   pub frozen : (p : ℕ) → IsPlayer rules p → HasFrozen w p
   pub bounded : (p : ℕ) → IsPlayer rules p → IsBounded rules w p
+  pub reports : (p : ℕ) → IsPlayer rules p → AreReports rules w p
   pub linked : (p q : ℕ) → IsPlayer rules p → AreLinked w p q
 
 -- each reached world has them
@@ -76,6 +77,7 @@ has_laws rules room w h journals = record {
   marks = λ v q number packet answer also is from can. h.marks q number packet answer v also is from can;
   frozen = h.frozen;
   bounded = h.bounded;
+  reports = h.reports;
   linked = h.linked;
 }
 

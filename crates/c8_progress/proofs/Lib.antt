@@ -1,4 +1,5 @@
--- Links open and stay open, drop rounds end, rounds end a match; begin at `match_can_always_end` (OpeningLemmas).
+-- Links open and stay open, drop rounds end, rounds end a match; begin at `match_can_always_end` (OpeningLemmas)
+-- and `rounds_end` (RoundLemmas).
 
 pub mod LawLemmas
 pub mod MeetingLemmas
@@ -27,3 +28,12 @@ pub mod BroughtLemmas
 pub mod EnteringLemmas
 pub mod EndingLemmas
 pub mod OpeningLemmas
+pub mod EventLemmas
+pub mod CalmLemmas
+pub mod ArrivingLemmas
+pub mod FourLemmas
+pub mod RoundLemmas
+pub mod OneLemmas
+pub mod SteadyLemmas
+pub mod PassingLemmas
+pub mod LeavingLemmas

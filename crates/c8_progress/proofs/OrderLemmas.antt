@@ -27,17 +27,23 @@ use Rattle.c8_peer.specs.Hearing.{is_desync, unless_misfit, got, hear_data, hear
 use Rattle.c8_peer.specs.Hearing.{is_of_other_wire, unless_hand, hear_seen, hear_from, seen_in}
 use Rattle.c8_peer.specs.Saying.{is_not_mine, lacks_record, lacks_link, say, show}
 
+-- the journal has a cut of the player
+abbrev pub IsCut : ℕ → List Record → Type 0
+IsCut p journal = (K : ℕ) × (cut_of p journal ≡ Some K)
+
 -- a record in the journal of q, by player 1's journal
 pub record IsOrdered (one : List Record) (q : ℕ) (r : Record) : Type 0 where
   pub frozen : (p : ℕ) → freezes p r ≡ true → has_leave p one ≡ true
   pub left : q ≢ 1 → (p : ℕ) → lets_go p r ≡ true → has_leave p one ≡ true
   pub cut : (p K : ℕ) → slice_get (cuts_of p r) 0 ≡ Some K → has_leave p one ≡ true
+  pub ended : q ≢ 1 → (p K : ℕ) → slice_get (cuts_of p r) 0 ≡ Some K → IsCut p one
 
 -- the same of a whole journal
 pub record AreOrdered (one : List Record) (q : ℕ) (journal : List Record) : Type 0 where
   pub frozen : (p : ℕ) → has_freeze p journal ≡ true → has_leave p one ≡ true
   pub left : q ≢ 1 → (p : ℕ) → has_leave p journal ≡ true → has_leave p one ≡ true
   pub cut : (p K : ℕ) → cut_of p journal ≡ Some K → has_leave p one ≡ true
+  pub ended : q ≢ 1 → (p K : ℕ) → cut_of p journal ≡ Some K → IsCut p one
 
 pub ordered_more : (one : List Record) (q : ℕ) (journal : List Record) (r : Record) → AreOrdered one q journal → IsOrdered one q r
     → AreOrdered one q (journal ++ r ∷ [])
@@ -49,6 +55,7 @@ ordered_more one q journal r all is = record {
       λ apart p e. ⊎_elim (λ old. all.left apart p old) (λ new. is.left apart p new)
       (or_cases (has_leave p journal) (lets_go p r) (sym (leave_next p journal r) ∙ e));
   cut = λ p K e. ⊎_elim (λ old. all.cut p K old) (λ new. is.cut p K new) (cut_next p K journal r e);
+  ended = λ apart p K e. ⊎_elim (λ old. all.ended apart p K old) (λ new. is.ended apart p K new) (cut_next p K journal r e);
 }
 
 -- a kept record is ordered
@@ -62,16 +69,36 @@ this_one : (one : List Record) (q : ℕ) (o : Outcome) (r : Record) → o.keeps 
 this_one one q o r some is = record { kept = λ t e. let same : r ≡ t = cc (some, e) in subst (IsOrdered one q) same is }
 
 plain_own : (one : List Record) (q p start word : ℕ) → IsOrdered one q (records.Own p start word)
-plain_own one q p start word = record { frozen = λ x e. absurd cc; left = λ apart x e. absurd cc; cut = λ x K e. absurd cc }
+plain_own one q p start word = record {
+  frozen = λ x e. absurd cc;
+  left = λ apart x e. absurd cc;
+  cut = λ x K e. absurd cc;
+  ended = λ apart x K e. absurd cc;
+}
 
 plain_got : (one : List Record) (q p start : ℕ) (words : List ℕ) → IsOrdered one q (records.Got p start words)
-plain_got one q p start words = record { frozen = λ x e. absurd cc; left = λ apart x e. absurd cc; cut = λ x K e. absurd cc }
+plain_got one q p start words = record {
+  frozen = λ x e. absurd cc;
+  left = λ apart x e. absurd cc;
+  cut = λ x K e. absurd cc;
+  ended = λ apart x K e. absurd cc;
+}
 
 plain_state : (one : List Record) (q p frames piece : ℕ) (words : List ℕ) → IsOrdered one q (records.State p frames piece words)
-plain_state one q p frames piece words = record { frozen = λ x e. absurd cc; left = λ apart x e. absurd cc; cut = λ x K e. absurd cc }
+plain_state one q p frames piece words = record {
+  frozen = λ x e. absurd cc;
+  left = λ apart x e. absurd cc;
+  cut = λ x K e. absurd cc;
+  ended = λ apart x K e. absurd cc;
+}
 
 plain_check : (one : List Record) (q p frames : ℕ) (words : List ℕ) → IsOrdered one q (records.Check p frames words)
-plain_check one q p frames words = record { frozen = λ x e. absurd cc; left = λ apart x e. absurd cc; cut = λ x K e. absurd cc }
+plain_check one q p frames words = record {
+  frozen = λ x e. absurd cc;
+  left = λ apart x e. absurd cc;
+  cut = λ x K e. absurd cc;
+  ended = λ apart x K e. absurd cc;
+}
 
 first_if : (b : Bool) (n K : ℕ) → slice_get (cond b (n ∷ []) []) 0 ≡ Some K → b ≡ true
 first_if true n K e = refl
@@ -82,13 +109,16 @@ ordered_freeze one q L was = record {
   frozen = λ p e. subst (λ (x : ℕ). has_leave x one ≡ true) (eqb-true L p e) was;
   left = λ apart p e. absurd cc;
   cut = λ p K e. absurd cc;
+  ended = λ apart p K e. absurd cc;
 }
 
-ordered_cut : (one : List Record) (q L n start : ℕ) (words : List ℕ) → has_leave L one ≡ true → IsOrdered one q (records.Cut L n start words)
-ordered_cut one q L n start words was = record {
+ordered_cut : (one : List Record) (q L n start : ℕ) (words : List ℕ) → has_leave L one ≡ true → (q ≢ 1 → IsCut L one)
+    → IsOrdered one q (records.Cut L n start words)
+ordered_cut one q L n start words was cut = record {
   frozen = λ p e. absurd cc;
   left = λ apart p e. absurd cc;
   cut = λ p K e. subst (λ (x : ℕ). has_leave x one ≡ true) (eqb-true L p (first_if (L == p) n K e)) was;
+  ended = λ apart p K e. subst (λ (x : ℕ). IsCut x one) (eqb-true L p (first_if (L == p) n K e)) (cut apart);
 }
 
 ordered_leave : (one : List Record) (q L : ℕ) → (q ≢ 1 → has_leave L one ≡ true) → IsOrdered one q (records.Leave L)
@@ -96,6 +126,7 @@ ordered_leave one q L was = record {
   frozen = λ p e. absurd cc;
   left = λ apart p e. subst (λ (x : ℕ). has_leave x one ≡ true) (eqb-true L p e) (was apart);
   cut = λ p K e. absurd cc;
+  ended = λ apart p K e. absurd cc;
 }
 
 whenever : {A : Type 0} (b : Bool) (x y : A) → b ≡ true → cond b x y ≡ x
@@ -145,7 +176,8 @@ decide_keeps one k m L own =
     (λ c. let both = or_left (not (k.me == 1)) (not (player_in k L).leaving) a in
     this_one one k.me _ (records.Cut L (count_in k L) (count_in k L) []) refl
     (ordered_cut one k.me L (count_in k L) (count_in k L) []
-    (own (eqb-true k.me 1 (not-false (k.me == 1) both.0)) (not-false (player_in k L).leaving both.1))))))
+    (own (eqb-true k.me 1 (not-false (k.me == 1) both.0)) (not-false (player_in k L).leaving both.1))
+    (λ apart. absurd (apart (eqb-true k.me 1 (not-false (k.me == 1) both.0))))))))
 
 misfit_keeps : (one : List Record) (q : ℕ) (m : Memory) (o : Option KnownError) (x : Outcome) → Keeps one q x → Keeps one q (unless_misfit m o x)
 misfit_keeps one q m None x is = is
@@ -189,21 +221,21 @@ frozen_keeps one k m q f =
     (got_keeps one k.me k (record m { chair = with_report m.chair f.leaver q f.length }) f.leaver (fresh_words k f.leaver f.start f.words)))))))
 
 end_keeps : (one : List Record) (k : KnownValue) (m : Memory) (c : LeaverMessage) (cut : Option ℕ) → has_leave c.leaver one ≡ true
-    → Keeps one k.me (hear_end k m c cut)
-end_keeps one k m c (Some K) was = by_test (Keeps one k.me) (K == c.length) _ _ (nothing one k.me _ refl) (λ a. nothing one k.me _ refl)
-end_keeps one k m c None was =
+    → IsCut c.leaver one → Keeps one k.me (hear_end k m c cut)
+end_keeps one k m c (Some K) was ends = by_test (Keeps one k.me) (K == c.length) _ _ (nothing one k.me _ refl) (λ a. nothing one k.me _ refl)
+end_keeps one k m c None was ends =
     let M : Outcome → Type 0 = Keeps one k.me in
     let words : List ℕ = fresh_words k c.leaver c.start c.words in
     by_test M (nat_lt c.length (count_in k c.leaver)) _ _ (nothing one k.me _ refl)
     (λ a. misfit_keeps one k.me m (misfit k c.leaver c.start c.words) _
     (by_test M (count_in k c.leaver + length words == c.length) _ _
     (this_one one k.me _ (records.Cut c.leaver c.length (count_in k c.leaver) words) refl
-    (ordered_cut one k.me c.leaver c.length (count_in k c.leaver) words was)) (λ b. got_keeps one k.me k m c.leaver words)))
+    (ordered_cut one k.me c.leaver c.length (count_in k c.leaver) words was (λ apart. ends))) (λ b. got_keeps one k.me k m c.leaver words)))
 
-cut_keeps : (one : List Record) (k : KnownValue) (m : Memory) (q : ℕ) (c : LeaverMessage) → has_leave c.leaver one ≡ true
+cut_keeps : (one : List Record) (k : KnownValue) (m : Memory) (q : ℕ) (c : LeaverMessage) → has_leave c.leaver one ≡ true → IsCut c.leaver one
     → Keeps one k.me (hear_cut k m q c)
 unfolding hear_cut
-cut_keeps one k m q c was =
+cut_keeps one k m q c was ends =
     let M : Outcome → Type 0 = Keeps one k.me in
     by_test M (not (q == 1)) _ _ (nothing one k.me _ refl) (λ a. elim (cases_Bool (c.leaver == k.me)) [
       | inl mine ↦ subst M (sym (whenever (c.leaver == k.me) _ _ mine))
@@ -212,7 +244,7 @@ cut_keeps one k m q c was =
       | inr other ↦ subst M (sym (otherwise (c.leaver == k.me) _ _ other))
           (by_test M (not (plays_in k c.leaver)) _ _ (nothing one k.me _ refl)
           (λ b. by_test M (not (player_in k c.leaver).frozen) _ _ (nothing one k.me _ refl)
-          (λ d. end_keeps one k m c (player_in k c.leaver).cut was)))
+          (λ d. end_keeps one k m c (player_in k c.leaver).cut was ends)))
     ])
 
 -- what a delivered datagram of a drop round must tell
@@ -222,7 +254,7 @@ IsBacked one (packets.Welcome ack) = Unit {0}
 IsBacked one (packets.Data d) = Unit {0}
 IsBacked one (packets.Freeze f) = has_leave f.leaver one ≡ true
 IsBacked one (packets.Frozen f) = Unit {0}
-IsBacked one (packets.Cut c) = has_leave c.leaver one ≡ true
+IsBacked one (packets.Cut c) = (has_leave c.leaver one ≡ true) × IsCut c.leaver one
 IsBacked one (packets.Show shown) = Unit {0}
 IsBacked one (packets.Seen ack) = Unit {0}
 
@@ -241,7 +273,7 @@ message_keeps one rules t k m head (packets.Welcome ack) is = welcome_keeps one 
 message_keeps one rules t k m head (packets.Data d) is = data_keeps one t k m head.from d
 message_keeps one rules t k m head (packets.Freeze f) is = freeze_keeps one k m head.from f is
 message_keeps one rules t k m head (packets.Frozen f) is = frozen_keeps one k m head.from f
-message_keeps one rules t k m head (packets.Cut c) is = cut_keeps one k m head.from c is
+message_keeps one rules t k m head (packets.Cut c) is = cut_keeps one k m head.from c is.0 is.1
 message_keeps one rules t k m head (packets.Show shown) is = nothing one k.me _ refl
 message_keeps one rules t k m head (packets.Seen ack) is = nothing one k.me _ refl
 

@@ -32,7 +32,7 @@ raised_is (Some before) held n e =
     ]
 
 -- an entry of a table after one was set
-set_is : {X : Type 0} (xs : List X) (place other : ℕ) (x d : X) → (slice_index_or (slice_set xs place x) other d ≡ slice_index_or xs other d)
+pub set_is : {X : Type 0} (xs : List X) (place other : ℕ) (x d : X) → (slice_index_or (slice_set xs place x) other d ≡ slice_index_or xs other d)
     ⊎ ((other ≡ place) × (slice_index_or (slice_set xs place x) other d ≡ x))
 set_is xs place other x d =
     elim (cases_eq other place) [

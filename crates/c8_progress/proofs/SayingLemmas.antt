@@ -19,7 +19,7 @@ use Rattle.c8_peer.specs.declared.heard.Heard.TheVariants as heards
 use Rattle.c8_peer.specs.Told.{Told, told_of}
 use Rattle.c8_peer.specs.State as states
 use Rattle.c8_peer.specs.State.{Memory, State, Saying, Hello, Welcome, Call, Deliver, Said, Outcome, answered}
-use Rattle.c8_peer.specs.Steps.{outcome, Works, done, at_mode, step}
+use Rattle.c8_peer.specs.Steps.{outcome, DiskOutcome, Works, done, at_mode, step}
 use Rattle.c8_peer.specs.Hearing.{taken, unless_hand, hear_from, hear_message, hear_welcome, is_of_other_wire, seen_in}
 use Rattle.c8_peer.specs.Saying.{is_not_mine, lacks_record, lacks_link, message, packet, say}
 use Rattle.c8_world.specs.World as worlds
@@ -126,16 +126,16 @@ pub otherwise : {A : Type 0} (b : Bool) (x y : A) → b ≡ false → cond b x y
 otherwise true x y e = absurd cc
 otherwise false x y e = refl
 
-pub say_ok : (rules : Rules) (p : ℕ) (s : State) (q : ℕ) (what : Saying) → IsPlayer rules p → IsPlayer rules q → p ≢ q → s.mode ≡ states.Open
-    → has_leave p s.journal ≡ false
+pub say_on : (rules : Rules) (p : ℕ) (s : State) (q : ℕ) (what : Saying) (on_disk : DiskOutcome) → IsPlayer rules p → IsPlayer rules q → p ≢ q
+    → s.mode ≡ states.Open → has_leave p s.journal ≡ false
     → is_not_mine (known_of rules p s.journal) q what ≡ false → lacks_record (known_of rules p s.journal) what ≡ false
     → lacks_link s.memory q what ≡ false
-    → step rules p s (states.Say q what) Works ≡ record {
+    → step rules p s (states.Say q what) on_disk ≡ record {
       reply = Said (Ok (packet rules (told_of rules p s.journal) (known_of rules p s.journal) s.memory q what));
       state = s;
     }
 unfolding say known_of
-say_ok rules p s q what plays also apart up stays mine has linked =
+say_on rules p s q what on_disk plays also apart up stays mine has linked =
     let k : KnownValue = known_of rules p s.journal in
     let own : (player_in k p).leaving ≡ false =
     ap (λ (v : PlayerValue). v.leaving) (player_known rules p p s.journal plays.from_one plays.in_game) ∙ stays in
@@ -152,8 +152,18 @@ say_ok rules p s q what plays also apart up stays mine has linked =
     let is : outcome rules told k s.memory (states.Say q what) ≡ result =
     otherwise (player_in k k.me).leaving _ _ own ∙ otherwise (q == k.me || not (nat_le 1 q && nat_le q (length k.players))) _ _ to_player
     ∙ otherwise (is_not_mine k q what) _ _ mine ∙ otherwise (lacks_record k what) _ _ has ∙ otherwise (lacks_link s.memory q what) _ _ linked in
-    ap (λ (m : states.Mode). at_mode s (states.Say q what) (outcome rules told k s.memory (states.Say q what)) m Works) up
-    ∙ ap (λ (o : Outcome). done s (states.Say q what) o o.keeps Works) is
+    ap (λ (m : states.Mode). at_mode s (states.Say q what) (outcome rules told k s.memory (states.Say q what)) m on_disk) up
+    ∙ ap (λ (o : Outcome). done s (states.Say q what) o o.keeps on_disk) is
+
+pub say_ok : (rules : Rules) (p : ℕ) (s : State) (q : ℕ) (what : Saying) → IsPlayer rules p → IsPlayer rules q → p ≢ q → s.mode ≡ states.Open
+    → has_leave p s.journal ≡ false
+    → is_not_mine (known_of rules p s.journal) q what ≡ false → lacks_record (known_of rules p s.journal) what ≡ false
+    → lacks_link s.memory q what ≡ false
+    → step rules p s (states.Say q what) Works ≡ record {
+      reply = Said (Ok (packet rules (told_of rules p s.journal) (known_of rules p s.journal) s.memory q what));
+      state = s;
+    }
+say_ok rules p s q what plays also apart up stays mine has linked = say_on rules p s q what Works plays also apart up stays mine has linked
 
 -- ---- what is heard
 

@@ -26,10 +26,10 @@ use Rattle.c8_progress.proofs.GoingLemmas.{IsOn, IsLater, later_same, later_more
 -- ---- all who stay answer
 
 -- q has answered with no more than player 1 holds
-record HasTold (rules : Rules) (w : World) (L q : ℕ) : Type 0 where
-  n : ℕ
-  reported : report_of (peer_of w 1).memory.chair L q ≡ Some n
-  holds : n ≤ count rules L (journal_of w 1)
+pub record HasTold (rules : Rules) (w : World) (L q : ℕ) : Type 0 where
+  pub n : ℕ
+  pub reported : report_of (peer_of w 1).memory.chair L q ≡ Some n
+  pub holds : n ≤ count rules L (journal_of w 1)
 
 record HaveAnswered (rules : Rules) (room : ℕ) (out : ℕ → Bool) (w : World) (L n : ℕ) : Type 0 where
   end : World
@@ -140,7 +140,7 @@ not_stayer k q one = rw (eq-eqb q 1 one) refl
 gone_stayer : (k : KnownValue) (q : ℕ) → (player_in k q).leaving ≡ true → not (is_stayer k q) ≡ true
 gone_stayer k q gone = rw gone (not_and (not (q == 1)))
 
-ready : (rules : Rules) (room : ℕ) (out : ℕ → Bool) (w : World) (L : ℕ) → AreInRange rules → IsOn rules room out w → IsPlayer rules L
+pub ready : (rules : Rules) (room : ℕ) (out : ℕ → Bool) (w : World) (L : ℕ) → AreInRange rules → IsOn rules room out w → IsPlayer rules L
     → out L ≡ true → ((q : ℕ) → IsPlayer rules q → q ≢ 1 → out q ≡ false → HasTold rules w L q)
     → is_ready (peer_of w 1).memory.chair (known_of rules 1 (journal_of w 1)) L ≡ true
 unfolding is_ready

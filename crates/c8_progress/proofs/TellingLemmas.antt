@@ -69,9 +69,10 @@ pub record MayTell (rules : Rules) (p : ℕ) (s : State) (q : ℕ) (t : State) :
   pub stays : has_leave q t.journal ≡ false
   pub unfrozen : has_freeze p t.journal ≡ false
   pub unleft : has_leave p t.journal ≡ false
-  pub begins : Begins (held rules p t.journal) (held rules p s.journal)
+  pub begins : Begins (held rules p t.journal) (held rules p s.journal) ⊎ Begins (held rules p s.journal) (held rules p t.journal)
   pub counts : count rules q s.journal ≤ count rules q t.journal
   pub within : count rules p s.journal ≤ limit_of rules
+  pub also_within : count rules p t.journal ≤ limit_of rules
   pub acked : acked_of s.memory.acks q ≤ count rules p t.journal
 
 -- a record that freezes, drops and cuts nobody
@@ -161,14 +162,17 @@ take_parts rules p s q t may =
     let words : List ℕ = carried rules.wire (take 64 (drop start mine)) in
     let begin_words : Begins words (drop start mine) = words_begin rules.wire mine start in
     let longer = begins_length words (drop start mine) begin_words in
-    let fewer = begins_length theirs mine may.begins in
     let is_words : (data_of rules p s q).words ≡ words = ap (λ (v : PlayerValue). carried rules.wire (take 64 (drop start v.held))) one in
     let fits : misfit (known_of rules q t.journal) p start words ≡ None =
     fits_of (known_of rules q t.journal) p start words
-    (omega (arith, longer, fewer, length-drop start mine, may.within, may.acked))
+    (omega (arith, longer, length-drop start mine, may.within, may.also_within, may.acked))
     (omega (arith, may.acked, count_known rules q p t.journal may.one may.one_plays))
     (subst (λ (v : PlayerValue). differ (drop start v.held) words ≡ false) (sym other)
-    (begin_one (drop start theirs) words (drop start mine) (begins_drop start theirs mine may.begins) begin_words)) in
+    (⊎_elim
+    (λ less. begin_one (drop start theirs) words (drop start mine) (begins_drop start theirs mine less) begin_words)
+    (λ more. begin_one (drop start theirs) words (drop start theirs) (begins_same (drop start theirs))
+    (begins_more words (drop start mine) (drop start theirs) begin_words (begins_drop start mine theirs more)))
+    may.begins)) in
     record {
       unfrozen = subst (λ (v : PlayerValue). (v.frozen || v.leaving) ≡ false) (sym other) (rw (may.unfrozen, may.unleft) refl);
       acked = omega (arith, own, his, may.counts);

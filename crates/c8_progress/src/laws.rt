@@ -1,16 +1,18 @@
 //! Laws of progress. Each is the contract of a function that only calls laws of c8_world, or does nothing.
-ghost use Rattle.std.specs.Prelude.{◌≡◌, ◌≢◌, ◌≤◌, ◌<◌, ◌^◌, ℕ, None};
+ghost use Rattle.std.specs.Prelude.{◌≡◌, ◌≢◌, ◌≤◌, ◌<◌, ◌^◌, ◌+◌, ◌*◌, ℕ, None};
 ghost use Rattle.c8_game.specs.Rules.{Rules, AreInRange};
 ghost use Rattle.c8_wire.specs.Packet.{HeadValue};
 ghost use Rattle.c8_hand.specs.Links.{LinksValue, refusal, heard};
 ghost use Rattle.c8_known.specs.Journal.{epoch};
+ghost use Rattle.c8_known.specs.Confirmed.{confirmed};
 ghost use Rattle.c8_peer.specs.Opening.{last_epoch};
 ghost use Rattle.c8_peer.specs.State.{Open};
-ghost use Rattle.c8_world.specs.World.{World, IsReached, peer_of, journal_of};
+ghost use Rattle.c8_world.specs.World.{World, IsReached, peer_of, journal_of, known_by};
 ghost use Rattle.c8_world.specs.Agreement.{IsPlayer, IsUndropped};
 ghost use Rattle.c8_progress.specs.Ending.{CanAlwaysEnd};
 ghost use Rattle.c8_progress.specs.Exchange.{links_of, got_on, GetOn, Greets};
 ghost use Rattle.c8_progress.specs.Meeting.{AreMatched, IsFresh, Meets, met, met_in_turns};
+ghost use Rattle.c8_progress.specs.Rounds.{Run, IsCalm, FairRounds, DropsAreOver, IsKept, LinksAreOpen};
 
 use c8_world::laws::{any_two_moments_agree, openings_find_journals};
 
@@ -33,6 +35,8 @@ pub fn a_match_can_always_end()
 ///
 /// - `on`: after a HELLO of p, a WELCOME back, a WELCOME and a DATA, each delivered once, both links are open with the
 ///   present epochs, and q holds all that p had entered.
+/// - `reached`: the world after it is reached.
+/// - `stays`: the links stay open in every calm run from there on.
 /// - `greets`: unless both links are open with the present epochs, one of the two has no open link, so it says HELLO. So
 ///   two players never wait for each other's HELLO.
 pub fn two_players_get_on()
@@ -42,6 +46,15 @@ pub fn two_players_get_on()
         → (peer_of w p).mode ≡ Open → (peer_of w q).mode ≡ Open
         → IsUndropped w p → IsUndropped w q
         → GetOn rules w (got_on rules room w p q) p q }
+    ensures reached { (rules : Rules) (room : ℕ) (w : World) (p q : ℕ)
+        → IsReached rules room w → IsReached rules room (got_on rules room w p q) }
+    ensures stays { (rules : Rules) (room : ℕ) (w : World) (run : Run rules room) (p q t : ℕ)
+        → AreInRange rules → room < 2 ^ 64 → IsReached rules room w
+        → IsPlayer rules p → IsPlayer rules q → p ≢ q
+        → (peer_of w p).mode ≡ Open → (peer_of w q).mode ≡ Open
+        → IsUndropped w p → IsUndropped w q
+        → IsCalm rules room run → run.world 0 ≡ got_on rules room w p q
+        → LinksAreOpen (run.world t) p q }
     ensures greets { (rules : Rules) (room : ℕ) (w : World) (p q : ℕ)
         → AreInRange rules → room < 2 ^ 64 → IsReached rules room w
         → IsPlayer rules p → IsPlayer rules q → p ≢ q
@@ -64,3 +77,51 @@ pub fn two_players_meet()
         → refusal l head ≡ None → (head.from ≡ m.me → head.sender_epoch ≤ m.epoch)
         → IsFresh (heard l head) m }
 {}
+
+/// What two undropped players have in a calm run, they keep: confirmed frames, held inputs, frozen and cut lists, and links
+/// that are open with the present epochs. Whatever else happens in it changes nothing of that: old datagrams, the turns of
+/// dropped players, watchers.
+pub fn a_calm_run_keeps_what_holds()
+    ensures { (rules : Rules) (room : ℕ) (run : Run rules room) (p q t u : ℕ)
+        → AreInRange rules → room < 2 ^ 64 → IsReached rules room (run.world 0) → IsCalm rules room run
+        → IsPlayer rules p → IsPlayer rules q
+        → IsUndropped (run.world 0) p → IsUndropped (run.world 0) q
+        → t ≤ u → IsKept rules (run.world t) (run.world u) p q }
+{
+    any_two_moments_agree();
+    openings_find_journals();
+}
+
+/// Fair rounds open the links: after four of them any two undropped players have open links with their present epochs, for
+/// good, whatever happened before.
+pub fn four_fair_rounds_open_links()
+    ensures { (rules : Rules) (room : ℕ) (run : Run rules room) (rounds : FairRounds rules room run 4) (p q t : ℕ)
+        → AreInRange rules → room < 2 ^ 64 → IsReached rules room (run.world 0) → IsCalm rules room run
+        → IsPlayer rules p → IsPlayer rules q → p ≢ q
+        → IsUndropped (run.world 0) p → IsUndropped (run.world 0) q
+        → rounds.begin 4 ≤ t → LinksAreOpen (run.world t) p q }
+{
+    any_two_moments_agree();
+    openings_find_journals();
+}
+
+/// Fair rounds end a match: every undropped player has confirmed all frames, for good.
+///
+/// The run begins in any reached world in which every undropped peer is open, whatever happened before.
+///
+/// - `all`: after eight rounds and three a frame; drop rounds may be under way.
+/// - `over`: after three rounds and three a frame, if no drop round is under way, as in a match in which nobody was dropped.
+pub fn fair_rounds_end_a_match()
+    ensures all { (rules : Rules) (room : ℕ) (run : Run rules room) (rounds : FairRounds rules room run (8 + 3 * rules.frames)) (p t : ℕ)
+        → AreInRange rules → room < 2 ^ 64 → IsReached rules room (run.world 0) → IsCalm rules room run
+        → IsPlayer rules p → IsUndropped (run.world 0) p
+        → rounds.begin (8 + 3 * rules.frames) ≤ t → confirmed (known_by rules (run.world t) p) ≡ rules.frames }
+    ensures over { (rules : Rules) (room : ℕ) (run : Run rules room) (rounds : FairRounds rules room run (3 + 3 * rules.frames)) (p t : ℕ)
+        → AreInRange rules → room < 2 ^ 64 → IsReached rules room (run.world 0) → IsCalm rules room run
+        → DropsAreOver rules (run.world 0)
+        → IsPlayer rules p → IsUndropped (run.world 0) p
+        → rounds.begin (3 + 3 * rules.frames) ≤ t → confirmed (known_by rules (run.world t) p) ≡ rules.frames }
+{
+    any_two_moments_agree();
+    openings_find_journals();
+}

@@ -2,6 +2,8 @@ pub mod Budget
 pub mod Cookies
 pub mod Ether
 pub mod Honest
+pub mod Networks
 pub mod Reading
 pub mod Seating
 pub mod Standing
+pub mod Turns

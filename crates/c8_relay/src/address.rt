@@ -1,4 +1,6 @@
 //! Where packets come from, and who may sit where.
+ghost use Rattle.std.specs.Prelude.{◌≡◌};
+ghost use Rattle.c8_relay.specs.Networks.{host_of, network_of};
 
 /// Where a packet comes from. IPv4 hosts are mapped into IPv6.
 #[derive(Clone, Copy, PartialEq, Eq, Hash)]
@@ -17,7 +19,9 @@ const MAPPED: u128 = 0xffff;
 
 impl Address {
     /// Whose address it is, as far as limits go: the host with IPv4, and the network of 64 bits with IPv6.
-    pub fn network(self) -> u128 {
+    pub fn network(self) -> u128
+        ensures { result ≡ network_of (host_of self) }
+    {
         let host = match self {
             Address::Udp { host, .. } | Address::Connection { host, .. } => host,
         };

@@ -1,5 +1,5 @@
 //! What becomes of each packet.
-ghost use Rattle.std.specs.Prelude.{◌≡◌, ◌≤◌, ◌<◌, ◌+◌, ◌/◌, ◌^◌, ◌⊎◌, ◌↔◌, [], IfOk, IsSome, IsTrue, false, Some, None};
+ghost use Rattle.std.specs.Prelude.{◌≡◌, ◌≤◌, ◌<◌, ◌+◌, ◌/◌, ◌^◌, ◌⊎◌, ◌↔◌, [], IfOk, IsSome, IsTrue, length, false, Some, None};
 ghost use Rattle.c8_relay.specs.Cookies.{cookie_of, HasShown};
 ghost use Rattle.c8_relay.specs.Reading.{IsDatagram, IsJoin};
 ghost use Rattle.c8_relay.specs.Seating.{seat_of, Expels, IsTold, KeepsOthers, SeatsNobody, IsServed, IsHeard, origin};
@@ -85,7 +85,9 @@ impl Relay {
     }
 
     /// How many seats are taken.
-    pub fn seats(&self) -> usize {
+    pub fn seats(&self) -> usize
+        ensures { result ≡ length self.now.members }
+    {
         self.seats.len()
     }
 

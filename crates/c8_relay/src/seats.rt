@@ -1,5 +1,5 @@
 //! Who sits where.
-ghost use Rattle.std.specs.Prelude.{◌≡◌, ◌≤◌, ◌<◌, ◌+◌, ◌^◌, [], Some, None, IfOk, IfSome, IsSomeAnd, MatchBool, Bool, true, false};
+ghost use Rattle.std.specs.Prelude.{◌≡◌, ◌≤◌, ◌<◌, ◌+◌, ◌^◌, [], Some, None, IfOk, IfSome, IsSomeAnd, MatchBool, Bool, length, true, false};
 ghost use Rattle.c8_relay.specs.Seating.{seat_of, place_of, Changes, Stays, Expels, IsSilent, IsHolder};
 
 use crate::address::{Address, Lane, Place, Sender};
@@ -112,7 +112,9 @@ impl Seats {
     }
 
     /// How many seats are taken.
-    pub fn len(&self) -> usize {
+    pub fn len(&self) -> usize
+        ensures { result ≡ length self.now }
+    {
         self.members.len()
     }
 

@@ -1,8 +1,9 @@
 //! One packet through a relay.
 ghost use Rattle.std.specs.Prelude.{◌≡◌, ◌<◌, ◌^◌, List, ℕ, [], None};
 ghost use Rattle.c8_relay.specs.Honest.{IsHonest};
-ghost use Rattle.c8_relay.specs.Seating.{seat_of};
+ghost use Rattle.c8_relay.specs.Seating.{Expels, seat_of};
 ghost use Rattle.c8_relay.specs.Standing.{Standing};
+ghost use Rattle.c8_relay.specs.Turns.{IsTurn};
 ghost use Rattle.c8_relay.specs.declared.address.Lane.{Lane};
 ghost use Rattle.c8_relay.specs.declared.address.Sender.{Sender};
 ghost use Rattle.c8_relay.specs.declared.sitting.Cause.{Cause};
@@ -28,7 +29,8 @@ pub enum Turned {
 /// Begins a batch of at most [`crate::BATCH`] turns.
 pub fn begin<E: Ether>(relay: &mut Relay, ether: &E, now: u64)
     requires { IsHonest relay.old (E.received ether.now) (E.sent ether.now) }
-    ensures { IsHonest relay.new (E.received ether.now) (E.sent ether.now) }
+    ensures honest { IsHonest relay.new (E.received ether.now) (E.sent ether.now) }
+    ensures seats { Expels now relay.old.members relay.new.members }
 {
     relay.begin_batch(now);
 }
@@ -44,13 +46,14 @@ pub fn leave<E: Ether>(relay: &mut Relay, ether: &E, address: Address)
     relay.close(address);
 }
 
-/// Takes the next packet, and sends what it leads to. `Idle` if none had come; a dropped packet sends nothing.
+/// Takes the next packet, and sends what [`Relay::take`] says of it. `Idle` if none had come; a dropped packet sends nothing.
 pub fn turn<E: Ether>(relay: &mut Relay, ether: &mut E, now: u64) -> Turned
     requires now { now < 2 ^ 62 }
     requires honest { IsHonest relay.old (E.received ether.old) (E.sent ether.old) }
     ensures honest { IsHonest relay.new (E.received ether.new) (E.sent ether.new) }
     ensures idle { result ≡ Idle
         → (E.received ether.new ≡ E.received ether.old) × (E.sent ether.new ≡ E.sent ether.old) }
+    ensures turn { IsTurn now relay.old relay.new (E.received ether.old) (E.received ether.new) (E.sent ether.old) (E.sent ether.new) result }
     ensures quiet { (cause : Cause) → result ≡ Dropped cause → E.sent ether.new ≡ E.sent ether.old }
 {
     let mut packet = [0; LONGEST_READ];

@@ -1,4 +1,5 @@
 pub mod Rest
+pub mod Due
 pub mod Runs
 pub mod Turns
 pub mod checked

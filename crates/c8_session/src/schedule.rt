@@ -1,5 +1,8 @@
 //! The schedule of one peer's turns.
-ghost use Rattle.std.specs.Prelude.{◌≡◌, ◌<◌, ◌↔◌, IsTrue};
+ghost use Rattle.std.specs.Prelude.{◌≡◌, ◌<◌, ◌↔◌, ◌-◌, IsTrue, option_map};
+ghost use Rattle.c8_peer.specs.Asked.{saying_of};
+ghost use Rattle.c8_peer.specs.Peer.{known_by};
+ghost use Rattle.c8_session.specs.Due.{due_of_leaver, due_to, has};
 ghost use Rattle.c8_session.specs.Rest.{turns_of_rest};
 
 use crate::silence::{Life, Silence};
@@ -139,7 +142,11 @@ impl Schedule {
     /// Which datagram is due to another player at one of the places 0 to [`MOST_DUE`] - 1 of a turn, if any. HELLO if the
     /// link is not open, WELCOME if the player has greeted, DATA if the link is open, also beside a WELCOME; then, for each
     /// leaver, the datagram of its drop round.
-    pub fn due<D: Disk>(&self, peer: &Peer<'_, D>, to: Player, place: u8) -> Option<Kind> {
+    pub fn due<D: Disk>(&self, peer: &Peer<'_, D>, to: Player, place: u8) -> Option<Kind>
+        requires { place < MOST_DUE }
+        ensures { option_map saying_of result ≡ due_to peer.now.me (known_by peer.now) peer.now.state.memory
+            (has self.now.greeters (to.number - 1)) to.number place }
+    {
         let is_linked = peer.is_linked(to);
         let has_greeted = self.greeters[to.place()];
         match place {
@@ -187,10 +194,9 @@ impl Schedule {
 
 /// Which datagram of a leaver's drop round a player gets, if any. Player 1 sends FREEZE to the stayers until the cut, and
 /// CUT to all after it. The others send FROZEN to player 1 until they have the cut.
-fn round<D: Disk>(peer: &Peer<'_, D>, to: Player, leaver: Player) -> Option<Kind> {
-    if leaver.number > peer.players() {
-        return None;
-    }
+fn round<D: Disk>(peer: &Peer<'_, D>, to: Player, leaver: Player) -> Option<Kind>
+    ensures { option_map saying_of result ≡ due_of_leaver peer.now.me (known_by peer.now) to.number leaver.number }
+{
     let is_cut = peer.cut_of(leaver).is_some();
     if peer.me().is_chair() {
         if is_cut {

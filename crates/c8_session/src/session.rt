@@ -1,5 +1,5 @@
 //! The session of a peer.
-ghost use Rattle.std.specs.Prelude.{◌≡◌, ◌↔◌, IfSome, IsTrue};
+ghost use Rattle.std.specs.Prelude.{◌≡◌, ◌≢◌, ◌<◌, ◌⊎◌, ◌↔◌, IfNone, IfSome, IsTrue};
 ghost use Rattle.c8_peer.specs.Peer.{IsSound};
 ghost use Rattle.c8_session.specs.Rest.{IsOver};
 
@@ -144,7 +144,8 @@ impl<'g, D: Disk> Session<'g, D> {
 
     /// Returns the other player with this number: `None` for this peer's own number and for one that nobody has.
     pub(crate) fn other(&self, number: u8) -> Option<Player>
-        ensures { IfSome result (λ player. player.number ≡ number) }
+        ensures some { IfSome result (λ player. (player.number ≡ number) × (number ≢ self.now.peer.me)) }
+        ensures none { IfNone result ((number ≡ self.now.peer.me) ⊎ ((number < 1) ⊎ (4 < number))) }
     {
         if number == self.peer.me().number {
             None

@@ -1,7 +1,8 @@
 //! The datagrams of a turn, one after another.
-ghost use Rattle.std.specs.Prelude.{◌≡◌, ◌≤◌, ◌<◌, IfSome, take};
+ghost use Rattle.std.specs.Prelude.{◌≡◌, ◌≤◌, ◌<◌, ◌∷◌, [], IfSome, IfNone, take};
 ghost use Rattle.c8_peer.specs.Peer.{IsSaid};
 ghost use Rattle.c8_peer.specs.State.{Call};
+ghost use Rattle.c8_session.specs.Due.{has, shown_at, said_if_due, said_at, left_to_say};
 ghost use Rattle.c8_session.specs.Turns.{IsSayingTo};
 
 use crate::schedule::MOST_DUE;
@@ -38,7 +39,14 @@ impl<'g, D: Disk> Session<'g, D> {
         ensures peer { self.new.peer ≡ self.old.peer }
         ensures said { IfSome result (λ said. (call : Call) × IsSayingTo said.0.number call
             × IsSaid self.old.peer call (take said.1 out.new)) }
+        ensures due { IfSome result (λ said. (call : Call) × IsSayingTo said.0.number call
+            × IsSaid self.old.peer call (take said.1 out.new)
+            × (left_to_say self.old ≡ call ∷ left_to_say self.new)) }
+        ensures over { IfNone result (left_to_say self.old ≡ []) }
+        ensures stays_over { IfNone result (left_to_say self.new ≡ []) }
         ensures fits { IfSome result (λ said. said.1 ≤ LONGEST_DATAGRAM) }
+        ensures greeters { self.new.schedule.greeters ≡ self.old.schedule.greeters }
+        ensures shown { self.new.is_shown ≡ self.old.is_shown }
     {
         for place in self.place..MOST_DATAGRAMS {
             self.place = place + 1;
@@ -53,7 +61,10 @@ impl<'g, D: Disk> Session<'g, D> {
     fn say_at(&self, place: u8, out: &mut [u8; LONGEST_DATAGRAM]) -> Option<(Seat, usize)>
         requires { place < MOST_DATAGRAMS }
         ensures said { IfSome result (λ said. (call : Call) × IsSayingTo said.0.number call
-            × IsSaid self.now.peer call (take said.1 out.new)) }
+            × IsSaid self.now.peer call (take said.1 out.new)
+            × (said_at self.now.peer self.now.schedule.greeters self.now.is_shown place ≡ call ∷ [])) }
+        ensures silent { IfNone result
+            (said_at self.now.peer self.now.schedule.greeters self.now.is_shown place ≡ []) }
         ensures fits { IfSome result (λ said. said.1 ≤ LONGEST_DATAGRAM) }
     {
         if place >= PLACES_OF_PLAYERS {
@@ -71,10 +82,13 @@ impl<'g, D: Disk> Session<'g, D> {
     fn show_at(&self, place: u8, out: &mut [u8; LONGEST_DATAGRAM]) -> Option<(Seat, usize)>
         requires { place < MOST_WATCHERS }
         ensures said { IfSome result (λ said. (call : Call) × IsSayingTo said.0.number call
-            × IsSaid self.now.peer call (take said.1 out.new)) }
+            × IsSaid self.now.peer call (take said.1 out.new)
+            × (said_if_due self.now.peer (shown_at self.now.is_shown place) ≡ call ∷ [])) }
+        ensures silent { IfNone result
+            (said_if_due self.now.peer (shown_at self.now.is_shown place) ≡ []) }
         ensures fits { IfSome result (λ said. said.1 ≤ LONGEST_DATAGRAM) }
     {
-        if !self.is_shown[usize::from(place)] {
+        if !self.shows(place) {
             return None;
         }
         let watcher = Watcher::new(FIRST_WATCHER + place)?;
@@ -82,5 +96,13 @@ impl<'g, D: Disk> Session<'g, D> {
             Ok(size) => Some((Seat::from(watcher), size)),
             Err(_) => None,
         }
+    }
+
+    /// Whether this watcher, the first or the second, is shown the rows.
+    fn shows(&self, place: u8) -> bool
+        requires { place < MOST_WATCHERS }
+        ensures { result ≡ has self.now.is_shown place }
+    {
+        self.is_shown[usize::from(place)]
     }
 }

@@ -1,5 +1,6 @@
 //! The part of a turn between ticking and speaking.
-ghost use Rattle.std.specs.Prelude.{IfErr};
+ghost use Rattle.std.specs.Prelude.{◌≡◌, IfOk, IfErr};
+ghost use Rattle.c8_session.specs.Due.{left_to_say, said_in_turn};
 ghost use Rattle.c8_session.specs.Runs.{IsStopped};
 ghost use Rattle.c8_session.specs.Turns.{Drops, Cuts, Saves, HasCalled, HasCalledOnce, HasTurned};
 
@@ -15,6 +16,8 @@ impl<'g, D: Disk> Session<'g, D> {
     pub fn turn(&mut self) -> Result<(), DiskError>
         ensures turned { HasTurned D.Disk self.old.peer self.new.peer }
         ensures stopped { IfErr result (IsStopped D.Disk self.old.peer self.new.peer) }
+        ensures due { IfOk result (λ done. left_to_say self.new
+            ≡ said_in_turn self.new.peer self.new.schedule.greeters self.new.is_shown) }
     {
         // For the proof: a part that is not reached has done nothing, and what stops the second part stops both.
         doings_join::<D>();

@@ -17,18 +17,29 @@ fn main(rt: HostRuntime) -> ExitCode {
         input: input.is_terminal(),
         output: out.is_terminal(),
     };
+    let explains = rt.stderr().is_terminal();
     let mut refused = Unhurried { out: rt.stderr() };
-    let ended = obey(&rt, args, input, &mut out, terminals, &mut refused);
+    let ended = obey(
+        &rt,
+        args,
+        input,
+        &mut out,
+        terminals,
+        explains,
+        &mut refused,
+    );
     status_at(ended, &mut refused).into()
 }
 
-/// Does what the arguments ask for. The error is a writer's, or that memory ran out.
+/// Does what the arguments ask for. `explains`: whether refusals are explained where they do not say it. The error is a
+/// writer's, or that memory ran out.
 fn obey<R, I, W: Write, E: Write + Send>(
     rt: &R,
     args: io::Result<Args>,
     input: I,
     out: &mut W,
     terminals: Terminals,
+    explains: bool,
     refused: &mut E,
 ) -> io::Result<Status>
 where
@@ -39,7 +50,7 @@ where
     let Some(words) = words_in(alloc, args, refused)? else {
         return Ok(Status::CommandLine);
     };
-    let command = line_of(alloc, &match_commands())?;
+    let command = line_of(alloc, &match_commands(), explains)?;
     match command.try_get_matches_from(words.as_slice()) {
         Ok(matches) => match matches.subcommand() {
             Some((name, given)) => {

@@ -21,20 +21,21 @@ use std::io::{Read, Write};
 use std::random::RandomSource;
 
 /// Runs the program with these arguments, and returns its exit status. `input` is standard input. Output goes to `out`,
-/// and refusals to `refused`.
+/// and refusals to `refused`. `explains`: whether refusals are explained where the arguments do not say it.
 pub fn answer<R, I, W: Write, E: Write + Send>(
     rt: &R,
     args: io::Result<Args>,
     input: I,
     out: &mut W,
     terminals: Terminals,
+    explains: bool,
     refused: &mut E,
 ) -> Status
 where
     R: Threaded + RandomSource + Clone + Drop,
     I: Read + Drop,
 {
-    let ended = obey(rt, args, input, out, terminals, refused);
+    let ended = obey(rt, args, input, out, terminals, explains, refused);
     status_at(ended, refused)
 }
 
@@ -45,6 +46,7 @@ fn obey<R, I, W: Write, E: Write + Send>(
     input: I,
     out: &mut W,
     terminals: Terminals,
+    explains: bool,
     refused: &mut E,
 ) -> io::Result<Status>
 where
@@ -54,15 +56,15 @@ where
     let Some(words) = words_in(rt.alloc(), args, refused)? else {
         return Ok(Status::CommandLine);
     };
-    let command = command(rt.alloc())?;
+    let command = command(rt.alloc(), explains)?;
     match command.try_get_matches_from(words.as_slice()) {
         Ok(matches) => carry_out(rt, &matches, input, out, terminals, refused),
         Err(error) => tell(rt.alloc(), &error, out, refused),
     }
 }
 
-/// The command line of the program.
-fn command<'a>(alloc: Global) -> Result<Command<'a>, AllocError> {
+/// The command line of the program. `explains`: whether refusals are explained where it does not say it.
+fn command<'a>(alloc: Global, explains: bool) -> Result<Command<'a>, AllocError> {
     let line = Command::new(alloc, "c8play")
         .about("Plays CHIP-8 programs, alone or with others, and shows what a datagram says")
         .version("0.1.0")
@@ -87,7 +89,7 @@ fn command<'a>(alloc: Global) -> Result<Command<'a>, AllocError> {
         secret,
         game,
     ];
-    with_commands(alloc, line, &commands)
+    with_commands(alloc, line, &commands, explains)
 }
 
 /// Does what a command line without a mistake asks for.

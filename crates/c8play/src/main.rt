@@ -20,12 +20,14 @@ fn main(rt: HostRuntime) -> ExitCode {
         input: input.is_terminal(),
         output: out.is_terminal(),
     };
+    let explains = rt.stderr().is_terminal();
     answer(
         &rt,
         args,
         input,
         &mut out,
         terminals,
+        explains,
         &mut Unhurried { out: rt.stderr() },
     )
     .into()

@@ -5,7 +5,7 @@
 use c8_command::Status;
 use c8_front::{SHOW, is_explained, line_of, status_at, tell, word_of, words_in};
 use c8_show::show;
-use std::io::Write;
+use std::io::{IsTerminal, Write};
 use std::process::ExitCode;
 use std::{env, io};
 
@@ -20,7 +20,7 @@ fn obey<W: Write, E: Write>(rt: &HostRuntime, out: &mut W, refused: &mut E) -> i
     let Some(words) = words_in(alloc, env::args(rt), refused)? else {
         return Ok(Status::CommandLine);
     };
-    let command = line_of(alloc, &[&SHOW])?;
+    let command = line_of(alloc, &[&SHOW], rt.stderr().is_terminal())?;
     match command.try_get_matches_from(words.as_slice()) {
         Ok(matches) => match matches.subcommand() {
             Some(("show", given)) => {

@@ -5,7 +5,7 @@ import sys
 from typing import Any
 
 # The version of this package. A library has to have the same first two numbers, and no smaller third.
-VERSION = "0.2.0"
+VERSION = "0.2.1"
 DATAGRAM, PACKET, PICTURE, STATE, RULES, ROW, ROWS = 174, 198, 256, 4419, 256, 4, 16
 
 HERE = os.path.dirname(os.path.realpath(__file__))
@@ -19,7 +19,8 @@ class Handle(c.Structure):
 
 class State(c.Structure):
     """c8_player_state"""
-    _fields_ = [("silent", c.c_uint64), ("held", c.c_uint32), ("acknowledged", c.c_uint32), ("linked", c.c_bool), ("dropped", c.c_bool)]
+    _fields_ = [("silent", c.c_uint64), ("held", c.c_uint32), ("acknowledged", c.c_uint32), ("linked", c.c_bool), ("dropped", c.c_bool),
+                ("cut", c.c_uint32)]
 
 
 U8, U16, U32, U64, I32, SIZE, BYTES, FLAG = c.c_uint8, c.c_uint16, c.c_uint32, c.c_uint64, c.c_int32, c.c_size_t, c.c_char_p, c.c_bool
@@ -36,6 +37,7 @@ CALLS: dict[str, tuple[Any, ...]] = {
     "c8_turn": (U32, SESSION),
     "c8_next": (U32, SESSION, BYTES, c.POINTER(U8)),
     "c8_watched": (U32, SESSION, U8),
+    "c8_status": (U32, SESSION, U32, BYTES),
     "c8_is_over": (FLAG, SESSION),
     "c8_is_lost": (FLAG, SESSION),
     "c8_step": (U32, SESSION, c.POINTER(U32), c.POINTER(U16), SIZE),

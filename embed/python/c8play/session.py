@@ -13,6 +13,8 @@ from .refusals import Closed, Desync, DiskFailed, Dropped, End, Refusal, Thresho
 SECRET = 32
 # Answers of c8_deliver.
 KEPT, DROPPED = 1, 2
+# The cut of a player whose inputs have no known end.
+UNCUT = 2**32 - 1
 
 
 class Kind(enum.IntEnum):
@@ -32,6 +34,14 @@ class PlayerState(NamedTuple):
     acknowledged: int  # own inputs that it has acknowledged
     linked: bool       # inputs can be sent
     dropped: bool      # player 1 has dropped it
+    cut: int | None    # the frame from which on its inputs are empty, once it is known
+
+
+class Status(enum.IntEnum):
+    """What an input of a row is."""
+    PREDICTED = 0  # a guess, which may change
+    HELD = 1       # its player entered it: it is final
+    EMPTY = 2      # the empty one of a dropped player, from its cut on
 
 
 class Sender(NamedTuple):
@@ -165,7 +175,12 @@ class Session:
     def player(self, player: int) -> PlayerState:
         state = State()
         done(LIBRARY.c8_player(self._session, player, state))
-        return PlayerState(state.silent, state.held, state.acknowledged, state.linked, state.dropped)
+        cut = None if state.cut == UNCUT else state.cut
+        return PlayerState(state.silent, state.held, state.acknowledged, state.linked, state.dropped, cut)
+
+    def status(self, frame: int) -> tuple[Status, ...]:
+        """What the input of each player in the best row of a frame is."""
+        return tuple(Status(it) for it in self._read_at(frame))
 
     # ---- CHIP-8's own machine
 
@@ -212,6 +227,10 @@ class Session:
         """Who sealed the packet that the last delivery accepted; None if it accepted no sealed one."""
         seat = LIBRARY.c8_sender(self._session, self._newest)
         return Sender(seat, self._newest.value) if seat else None
+
+    def _read_at(self, frame: int) -> bytes:
+        done(LIBRARY.c8_status(self._session, frame, self._out))
+        return self._out.raw[:ROW]
 
     def _read(self, call: Any, size: int) -> bytes:
         done(call(self._session, self._out))

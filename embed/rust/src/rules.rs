@@ -28,8 +28,11 @@ pub struct Rules {
 }
 
 impl Rules {
-    /// The text of these rules, for [`crate::Session::open`]. Refused with [`Refusal::GameRange`] if a number is out of
-    /// its range.
+    /// The text of these rules, for [`crate::Session::open`].
+    ///
+    /// # Errors
+    ///
+    /// [`Refusal::GameRange`] if a number is out of its range.
     pub fn text(&self) -> Result<String, Refusal> {
         if !self.are_in_range() {
             return Err(Refusal::GameRange);

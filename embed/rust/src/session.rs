@@ -59,6 +59,17 @@ pub enum Kind {
     Cut(u8),
 }
 
+/// What an input of a row is.
+#[derive(Clone, Copy, Debug, PartialEq, Eq, Hash)]
+pub enum Status {
+    /// A guess, which may change; also of a player that the game has not.
+    Predicted,
+    /// Its player entered it: it is final.
+    Held,
+    /// The empty one of a dropped player, from its cut on: it is final.
+    Empty,
+}
+
 /// The file of a journal, and the folder that has its name.
 #[derive(Debug)]
 pub struct Journal {
@@ -68,6 +79,10 @@ pub struct Journal {
 
 impl Journal {
     /// Opens the file at this path to read and write, and makes it if there is none.
+    ///
+    /// # Errors
+    ///
+    /// The system's, if the file or its folder cannot be opened; `InvalidInput` if it is no regular file.
     pub fn open(path: impl AsRef<Path>) -> io::Result<Journal> {
         let file = OpenOptions::new().read(true).write(true).create(true).truncate(false).open(&path)?;
         if !file.metadata()?.is_file() {
@@ -101,6 +116,11 @@ impl Session {
     /// Opens the session of a player, 1 to 4, in a match: the text of a game ([`crate::Rules::text`]) and a room, a
     /// number that all players of the match share. Use a room once. The journal is in memory. Player 1 drops a player who
     /// was silent for `patience` turns; 0 never. The rules of the game, some hundred bytes, are never given back.
+    ///
+    /// # Errors
+    ///
+    /// `GameLine` to `GameMemory` if the text spells no game, [`Refusal::NoPlayer`] or [`Refusal::WrongPlayer`] if nobody
+    /// has the number, [`Refusal::OpenMemory`].
     pub fn open(rules: impl AsRef<[u8]>, player: u8, room: u64, patience: u32) -> Result<Session, Refusal> {
         let (answer, handle) = Handle::open(rules.as_ref(), player, room, patience);
         done(answer).map(|()| Session { handle })
@@ -108,6 +128,12 @@ impl Session {
 
     /// The same over a journal in a file, from which a crashed program goes on where it was: with the same rules, player
     /// and room. Ticks, deliveries and turns then wait for the disk.
+    ///
+    /// # Errors
+    ///
+    /// Those of [`open`](Session::open); [`Refusal::WrongGame`] if the journal is of another match or player,
+    /// [`Refusal::BadRecord`], [`Refusal::EpochsSpent`], [`Refusal::DiskFailed`], [`Refusal::DiskFull`], and
+    /// [`Refusal::DiskLocked`] if another session has it open.
     pub fn open_journal(
         rules: impl AsRef<[u8]>,
         player: u8,
@@ -126,6 +152,10 @@ impl Session {
     /// Nobody without the secret can make a packet, and each packet counts once: [`deliver`](Session::deliver) refuses
     /// others with [`Refusal::NotSealed`] and [`Refusal::SeenBefore`]. A player that starts again needs its journal, since
     /// the others refuse packets of its first opening as repeated. The secret does not hide what packets say.
+    ///
+    /// # Errors
+    ///
+    /// [`Refusal::BadSecret`] if the secrets are equal, [`Refusal::SealedAlready`].
     pub fn secret(&mut self, secret: &[u8; 32], watchers: Option<&[u8; 32]>) -> Result<(), Refusal> {
         done(self.handle.secrets(secret, watchers.map_or(&[], |watchers| &watchers[..])))
     }
@@ -141,6 +171,13 @@ impl Session {
 
     /// Processes a received packet: any bytes. Refusals are normal, since packets come late, twice or from strangers:
     /// only [`Refusal::DiskFailed`], [`Refusal::DiskFull`] and [`Refusal::Desync`] need an answer.
+    ///
+    /// # Errors
+    ///
+    /// Of the packet: [`Refusal::NotSealed`], [`Refusal::SeenBefore`], those from `WireShort` to `WirePairs`, from `NotOpen`
+    /// to `OtherSession`, from `Gap` to `InputsFull` and from `BadAck` to `WrongLeaver`, [`Refusal::Desync`],
+    /// [`Refusal::OtherWire`]. Of the session: [`Refusal::DiskFailed`], [`Refusal::DiskFull`], [`Refusal::HeardDown`],
+    /// [`Refusal::HeardDropped`].
     pub fn deliver(&mut self, bytes: &[u8]) -> Result<Heard, Refusal> {
         match self.handle.deliver(bytes) {
             0 => Ok(Heard::Nothing),
@@ -152,6 +189,11 @@ impl Session {
 
     /// Enters the own player's input for the next frame. After [`Refusal::Threshold`] the player is too far ahead: tick
     /// this frame again later. [`Refusal::End`] and [`Refusal::TickDropped`] are normal too.
+    ///
+    /// # Errors
+    ///
+    /// [`Refusal::Threshold`], [`Refusal::End`], [`Refusal::TickDropped`]; [`Refusal::DiskFailed`] or [`Refusal::DiskFull`],
+    /// and [`Refusal::TickDown`] after that.
     pub fn tick(&mut self, input: u16) -> Result<(), Refusal> {
         done(self.handle.tick(input))
     }
@@ -159,6 +201,10 @@ impl Session {
     /// Begins a turn: player 1 drops silent players and cuts their inputs, a journal gets a part of its checkpoint (one
     /// every 3,600 frames), and [`packets`](Session::packets) gives what the turn sends. Call it once a frame, also
     /// when the tick was refused.
+    ///
+    /// # Errors
+    ///
+    /// [`Refusal::DiskFailed`], [`Refusal::DiskFull`]: the session is down.
     pub fn turn(&mut self) -> Result<(), Refusal> {
         done(self.handle.turn())
     }
@@ -169,8 +215,23 @@ impl Session {
     }
 
     /// Shows watcher 5 or 6 the confirmed rows from now on: at player 1 each turn has a packet for it.
+    ///
+    /// # Errors
+    ///
+    /// [`Refusal::NoPlayer`] for any other number.
     pub fn show_to(&mut self, watcher: u8) -> Result<(), Refusal> {
         done(self.handle.watched(watcher))
+    }
+
+    /// What the input of each player in the best row of a frame is.
+    pub fn status(&self, frame: u32) -> [Status; 4] {
+        let mut out = [0; 4];
+        self.handle.status(frame, &mut out);
+        out.map(|status| match status {
+            0 => Status::Predicted,
+            1 => Status::Held,
+            _ => Status::Empty,
+        })
     }
 
     /// Whether the match is over for this session: it was dropped, or everything was confirmed and acknowledged for more
@@ -224,6 +285,10 @@ impl Session {
     }
 
     /// What is known of a player, 1 to 4.
+    ///
+    /// # Errors
+    ///
+    /// [`Refusal::NoPlayer`] for any other number.
     pub fn player(&self, player: u8) -> Result<PlayerState, Refusal> {
         let mut state = PlayerState::default();
         done(self.handle.player(player, &mut state))?;
@@ -257,6 +322,10 @@ impl Session {
     }
 
     /// A datagram of a kind to a player, for a schedule other than that of [`turn`](Session::turn).
+    ///
+    /// # Errors
+    ///
+    /// [`Refusal::NoPlayer`] for a number that nobody has, and those from `SayDown` to `NoLink`.
     pub fn say(&mut self, to: u8, kind: Kind) -> Result<Packet, Refusal> {
         let (number, leaver) = match kind {
             Kind::Hello => (0, 0),
@@ -272,16 +341,29 @@ impl Session {
     }
 
     /// Player 1 drops a player.
+    ///
+    /// # Errors
+    ///
+    /// [`Refusal::NoPlayer`], those from `LeaveNotChair` to `NotPlaying`, [`Refusal::DiskFailed`], [`Refusal::DiskFull`].
     pub fn leave(&mut self, leaver: u8) -> Result<(), Refusal> {
         done(self.handle.leave(leaver))
     }
 
     /// Player 1 cuts the inputs of a player that it has dropped, once all who stay have answered.
+    ///
+    /// # Errors
+    ///
+    /// [`Refusal::NoPlayer`], those from `NotLeaving` to `DecideDown`, [`Refusal::DiskFailed`], [`Refusal::DiskFull`].
     pub fn decide(&mut self, leaver: u8) -> Result<(), Refusal> {
         done(self.handle.decide(leaver))
     }
 
     /// Records the next part of a checkpoint. Returns whether it was the last one.
+    ///
+    /// # Errors
+    ///
+    /// [`Refusal::Nothing`] if no frame was confirmed since the last one, [`Refusal::CheckDropped`], [`Refusal::CheckDown`],
+    /// [`Refusal::DiskFailed`], [`Refusal::DiskFull`].
     pub fn checkpoint(&mut self) -> Result<bool, Refusal> {
         match self.handle.checkpoint() {
             0 => Ok(false),

@@ -11,8 +11,11 @@
 //!   Calls by shared references are calls of one thread, since a handle is not `Sync`.
 #![allow(unsafe_code)]
 
+use c8play_sys::*;
 use std::cell::UnsafeCell;
 use std::ptr;
+
+pub use c8play_sys::c8_player_state as PlayerState;
 
 #[cfg(unix)]
 use std::os::fd::{IntoRawFd, OwnedFd as Owned};
@@ -22,75 +25,6 @@ use std::os::windows::io::{IntoRawHandle, OwnedHandle as Owned};
 pub const PACKET: usize = 198;
 pub const PICTURE: usize = 256;
 pub const STATE: usize = 4419;
-
-/// `c8_session`.
-#[repr(C)]
-struct Raw {
-    at: *mut u8,
-}
-
-/// What a session knows of another player of its match. Of its own, only `held` and `dropped` mean something.
-#[repr(C)]
-#[derive(Clone, Copy, Debug, Default, PartialEq, Eq)]
-pub struct PlayerState {
-    /// Turns in a row without a datagram that its open link admitted, with the present one.
-    pub silent: u64,
-    /// Its inputs that are here, with the empty ones of the delay.
-    pub held: u32,
-    /// Own inputs that it has acknowledged since the opening, with those of the delay.
-    pub acknowledged: u32,
-    /// Whether its link is open: inputs can be sent.
-    pub linked: bool,
-    /// Whether player 1 has dropped it, as far as is known here.
-    pub dropped: bool,
-}
-
-#[cfg(c8_absent)]
-mod absent;
-#[cfg(c8_absent)]
-use absent::*;
-
-#[cfg(not(c8_absent))]
-extern "C" {
-    fn c8_open(text: *const u8, length: usize, player: u8, room: u64, patience: u32, session: *mut Raw) -> u32;
-    fn c8_open_journal(
-        text: *const u8,
-        length: usize,
-        player: u8,
-        room: u64,
-        patience: u32,
-        file: i32,
-        folder: i32,
-        session: *mut Raw,
-    ) -> u32;
-    fn c8_close(session: *mut Raw);
-    fn c8_deliver(session: *mut Raw, bytes: *const u8, length: usize) -> u32;
-    fn c8_tick(session: *mut Raw, input: u16) -> u32;
-    fn c8_turn(session: *mut Raw) -> u32;
-    fn c8_next(session: *mut Raw, out: *mut u8, to: *mut u8) -> u32;
-    fn c8_watched(session: *mut Raw, watcher: u8) -> u32;
-    fn c8_is_over(session: *mut Raw) -> bool;
-    fn c8_is_lost(session: *mut Raw) -> bool;
-    fn c8_step(session: *mut Raw, from: *mut u32, rows: *mut u16, words: usize) -> u32;
-    fn c8_check(session: *mut Raw, depth: u32) -> u32;
-    fn c8_rules(players: u8, frames: u32, delay: u8, window: u8, id: *const u8, out: *mut u8, length: usize) -> u32;
-    fn c8_ticked(session: *mut Raw) -> u32;
-    fn c8_confirmed(session: *mut Raw) -> u32;
-    fn c8_epoch(session: *mut Raw) -> u32;
-    fn c8_player(session: *mut Raw, player: u8, state: *mut PlayerState) -> u32;
-    fn c8_screen(session: *mut Raw, out: *mut u8) -> u32;
-    fn c8_tone(session: *mut Raw) -> u32;
-    fn c8_state(session: *mut Raw, out: *mut u8) -> u32;
-    fn c8_mark(session: *mut Raw, out: *mut u8) -> u32;
-    fn c8_say(session: *mut Raw, to: u8, kind: u8, leaver: u8, out: *mut u8, length: *mut u32) -> u32;
-    fn c8_leave(session: *mut Raw, leaver: u8) -> u32;
-    fn c8_decide(session: *mut Raw, leaver: u8) -> u32;
-    fn c8_checkpoint(session: *mut Raw) -> u32;
-    fn c8_secrets(session: *mut Raw, secret: *const u8, watchers: *const u8, length: usize) -> u32;
-    fn c8_sender(session: *mut Raw, newest: *mut bool) -> u8;
-    fn c8_explain(number: u32, out: *mut u8, length: usize) -> u32;
-    fn c8_version() -> u32;
-}
 
 /// The number by which the library knows a file, which it closes.
 #[cfg(unix)]
@@ -105,7 +39,7 @@ fn number(file: Owned) -> i32 {
 }
 
 /// A handle, which is closed when it is dropped.
-pub struct Handle(UnsafeCell<Raw>);
+pub struct Handle(UnsafeCell<c8_session>);
 
 unsafe impl Send for Handle {}
 
@@ -117,7 +51,7 @@ impl Drop for Handle {
 
 impl Handle {
     fn closed() -> Handle {
-        Handle(UnsafeCell::new(Raw { at: ptr::null_mut() }))
+        Handle(UnsafeCell::new(c8_session { at: ptr::null_mut() }))
     }
 
     pub fn open(text: &[u8], player: u8, room: u64, patience: u32) -> (u32, Handle) {
@@ -152,6 +86,10 @@ impl Handle {
 
     pub fn watched(&mut self, watcher: u8) -> u32 {
         unsafe { c8_watched(self.0.get(), watcher) }
+    }
+
+    pub fn status(&self, frame: u32, out: &mut [u8; 4]) -> u32 {
+        unsafe { c8_status(self.0.get(), frame, out.as_mut_ptr()) }
     }
 
     pub fn is_over(&self) -> bool {

@@ -1,5 +1,5 @@
 -- For any text that spells the game the session has the engine that was opened, without rows, test or secret.
-use Rattle.std.proofs.Common.{◌≡◌, ◌∙◌, Some, ap, sym, subst}
+use Rattle.std.proofs.Common.{◌≡◌, ◌∙◌, Some, inl, inr, ap, sym, subst}
 use Rattle.c8_embed.specs.Endpoint.{EngineOf}
 use Rattle.c8_embed.specs.declared.endpoint.Endpoint.{Endpoint}
 use Rattle.c8_embed.specs.Journal.{disk}
@@ -22,3 +22,15 @@ returns-in-Ok-new-clause-opened c = λ done text spells.
       sealer = c.new.ensures.sealer;
       sender = c.new.ensures.sender;
     })
+
+pub returns-in-Err-clause-why : goal.returns-in-Err-clause-why
+returns-in-Err-clause-why c = λ some text spells.
+    inr (inr (inr (inl (record {
+      rules = c.args.game.now;
+      game = spells;
+      kept = c.args.disk;
+      left = c.in-Err.field-0-1;
+      error = c.in-Err.error;
+      refused = c.in-Err.ensures.refused;
+      code_is = c.open_code.ensures;
+    }))))

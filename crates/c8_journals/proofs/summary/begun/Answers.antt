@@ -1,8 +1,9 @@
--- A first record of another kind is no HEAD, and then the journal begins with none.
+-- A first record of another kind is no HEAD, and then the journal begins with none. A HEAD begins the summary.
 use Rattle.std.proofs.Common.{inl, refl}
 use Rattle.c8_log.specs.Slots.{kept}
 use Rattle.c8_record.specs.Lent.{value_of}
 use Rattle.c8_audit.proofs.JournalLemmas.{not_head, other_kind}
+use Rattle.c8_journals.proofs.SummaryLemmas.{head_summed}
 use Rattle.c8_journals.proofs.summary.begun.Goals as goal
 
 pub returns-in_default-record : goal.returns-in_default-record
@@ -14,3 +15,8 @@ returns-in_default-record c =
       other_kind (kept c.args.image.now) c.kept_body.result.now (value_of lent) c.kept_body.ensures spells
           (not_head lent c.in_default-record.not-Head),
     )
+
+pub returns : goal.returns
+returns c =
+    let spells = rw (c.in-Head.is) at (rw (c.in-Some.is) at c.view.ensures.value) in
+    head_summed (kept c.args.image.now) c.kept_body.result.now _ c.kept_body.ensures spells refl refl refl

@@ -1,7 +1,7 @@
--- The summary is of the player, the room and the game that the HEAD names.
+-- The summary has the bodies before body n.
 use Rattle.c8_log.specs.Slots.{kept}
-use Rattle.c8_journals.specs.Summary.{IsOf}
+use Rattle.c8_journals.specs.Counted.{IsSummedTo}
 use Rattle.c8_journals.proofs.summary.summary_of.Given as goal
 
 abbrev pub invariant-loop-n : goal.invariant-loop-n
-invariant-loop-n l = IsOf (kept l.image) l.summary
+invariant-loop-n l = IsSummedTo (kept l.image) l.n l.summary

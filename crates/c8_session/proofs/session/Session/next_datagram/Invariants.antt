@@ -1,6 +1,13 @@
--- Looking at a place changes nothing of the peer.
+-- Looking at a place changes nothing of the peer, and what was passed over is not said.
 use Rattle.std.proofs.Common.{◌≡◌}
+use Rattle.c8_session.specs.Due.{left_to_say}
 use Rattle.c8_session.proofs.session.Session.next_datagram.Given as goal
 
 abbrev pub invariant-loop-place : goal.invariant-loop-place
-invariant-loop-place g l = record { same : l.self.peer ≡ l.initial.self.peer }
+invariant-loop-place g l = record {
+  same : l.self.peer ≡ l.initial.self.peer;
+  greeters : l.self.schedule.greeters ≡ l.initial.self.schedule.greeters;
+  shown : l.self.is_shown ≡ l.initial.self.is_shown;
+  here : l.self.place ≡ l.place;
+  left : left_to_say l.self ≡ left_to_say l.initial.self;
+}

@@ -1,6 +1,6 @@
-//! Finds the library of the session: in the folder that C8PLAY_LIB names, else in `lib` beside this file, where a packed crate has it.
+//! Finds the library of the session: in the folder that C8PLAY_LIB names, else in `lib` of the folder above, where a packed crate has it.
 //!
-//! Without a library the crate can be checked, documented and compiled, also its tests, but not run: `src/sys/absent.rs` stands in for it.
+//! Without a library the crate can be checked, documented and compiled, also its tests, but not run: `src/absent.rs` stands in for it.
 
 use std::env;
 use std::path::{Path, PathBuf};
@@ -8,10 +8,10 @@ use std::process::exit;
 
 fn main() {
     println!("cargo:rerun-if-changed=build.rs");
-    println!("cargo:rerun-if-changed=lib");
+    println!("cargo:rerun-if-changed=../lib");
     println!("cargo:rerun-if-env-changed=C8PLAY_LIB");
     println!("cargo:rustc-check-cfg=cfg(c8_absent)");
-    let beside = Path::new(&env::var_os("CARGO_MANIFEST_DIR").expect("cargo sets it")).join("lib");
+    let beside = Path::new(&env::var_os("CARGO_MANIFEST_DIR").expect("cargo sets it")).join("../lib");
     let folder = match env::var_os("C8PLAY_LIB") {
         Some(folder) => match PathBuf::from(folder).canonicalize() {
             Ok(folder) if has_library(&folder) => folder,
@@ -30,6 +30,6 @@ fn has_library(folder: &Path) -> bool {
 }
 
 fn fail(message: &str) -> ! {
-    eprintln!("c8play-session: {message}");
+    eprintln!("c8play-sys: {message}");
     exit(1)
 }

@@ -1,0 +1,69 @@
+//! Rows in the bytes of files.
+ghost use Rattle.std.specs.Prelude.{◌≡◌, ◌≤◌, ◌++◌, IfOk, OnOk};
+ghost use Rattle.c8_cast.specs.Spelling.{row_bytes, rows_bytes, tail_bytes};
+
+use crate::error::CastError;
+use crate::folder::Spelled;
+use c8_game::{MOST_PLAYERS, Row};
+use std::alloc::{AllocError, Global};
+
+/// How many rows a chunk has.
+pub const CHUNK_ROWS: usize = 600;
+
+/// How many bytes a tail has in front of its rows: the number of all rows.
+pub const TAIL_HEAD: usize = 4;
+
+/// Spells the rows of a chunk.
+pub(crate) fn chunk_of(alloc: Global, players: usize, rows: &[Row]) -> Result<Spelled, CastError>
+    requires { players ≤ MOST_PLAYERS }
+    ensures { IfOk result (λ chunk. chunk ≡ rows_bytes players rows.now) }
+{
+    let mut bytes = Vec::new(alloc);
+    add_rows(&mut bytes, players, rows)?;
+    Ok(Spelled { bytes })
+}
+
+/// Spells a tail: how many rows there are in all, and those that no chunk has.
+pub(crate) fn tail_of(
+    alloc: Global,
+    players: usize,
+    count: u32,
+    rows: &[Row],
+) -> Result<Spelled, CastError>
+    requires { players ≤ MOST_PLAYERS }
+    ensures { IfOk result (λ tail. tail ≡ tail_bytes players count rows.now) }
+{
+    let mut bytes = Vec::from_slice(alloc, &count.to_be_bytes())?;
+    add_rows(&mut bytes, players, rows)?;
+    Ok(Spelled { bytes })
+}
+
+/// Returns how many rows a tail has in all; `None` if it is too short to say.
+pub(crate) fn count_in(tail: &[u8]) -> Option<u32> {
+    match tail {
+        [one, two, three, four, ..] => Some(u32::from_be_bytes([*one, *two, *three, *four])),
+        _ => None,
+    }
+}
+
+/// Adds the bytes of rows.
+fn add_rows(bytes: &mut Vec<u8>, players: usize, rows: &[Row]) -> Result<(), AllocError>
+    requires { players ≤ MOST_PLAYERS }
+    ensures { OnOk result (bytes.new.items ≡ bytes.old.items ++ rows_bytes players rows.now) }
+{
+    for row in rows {
+        add_row(bytes, players, row)?;
+    }
+    Ok(())
+}
+
+/// Adds the bytes of a row: two for each player.
+fn add_row(bytes: &mut Vec<u8>, players: usize, row: &Row) -> Result<(), AllocError>
+    requires { players ≤ MOST_PLAYERS }
+    ensures { OnOk result (bytes.new.items ≡ bytes.old.items ++ row_bytes players row.now) }
+{
+    for keys in &row.sets[..players] {
+        bytes.extend_from_slice(&keys.0.to_be_bytes())?;
+    }
+    Ok(())
+}

@@ -1,0 +1,46 @@
+-- Why an opening is refused, and which number it answers.
+use Rattle.std.specs.Prelude.{ℕ, ◌≡◌, ◌⊎◌, ◌<◌, List}
+use Rattle.c8_disk.specs.declared.file.FileDisk.{FileDisk}
+use Rattle.c8_disk.specs.declared.error.FileError.{FileError}
+use Rattle.c8_game.specs.GameFaults.{IsRefused}
+use Rattle.c8_game.specs.GameText.{Spells}
+use Rattle.c8_game.specs.Rules.{Rules}
+use Rattle.c8_game.specs.declared.error.GameError.{GameError}
+use Rattle.c8_game.specs.declared.error.GameError.TheVariants as games
+use Rattle.c8_peer.specs.Opened.{IsRefusedOpening}
+use Rattle.c8_refusals.specs.declared.error.OpenError.{OpenError}
+use Rattle.c8_refusals.specs.declared.error.OpenError.TheVariants as opens
+use Rattle.c8_embed.specs.Journal.{disk}
+use Rattle.c8_embed.specs.declared.medium.Medium.{Medium}
+use Rattle.c8_engine.specs.Codes.{nobody_code, game_code, open_code, file_code}
+
+-- the text spells no game, for its first fault; or memory was refused
+pub record IsNoGame (text : List ℕ) (code : ℕ) : Type 0 where
+  pub error : GameError
+  pub cause : (error ≡ games.Memory) ⊎ IsRefused text error
+  pub code_is : code ≡ game_code error
+
+-- nobody has the number
+pub record IsNoPlayer (player code : ℕ) : Type 0 where
+  pub outside : (player < 1) ⊎ (4 < player)
+  pub code_is : code ≡ nobody_code
+
+-- the file cannot be a journal
+pub record IsNoJournal (code : ℕ) : Type 0 where
+  pub error : FileError
+  pub code_is : code ≡ file_code error
+
+-- The text spells a game, and no peer opens on the journal that was found.
+pub record IsNoPeer (text : List ℕ) (player room code : ℕ) : Type 0 where
+  pub rules : Rules
+  pub game : Spells text rules
+  pub kept : FileDisk Medium
+  pub left : FileDisk Medium
+  pub error : OpenError
+  pub refused : IsRefusedOpening disk kept rules room player error left
+  pub code_is : code ≡ open_code error
+
+-- one of these reasons, or memory was refused
+abbrev pub IsRefusedAs : List ℕ → ℕ → ℕ → ℕ → Type 0
+IsRefusedAs text player room code =
+    IsNoGame text code ⊎ (IsNoPlayer player code ⊎ (IsNoJournal code ⊎ (IsNoPeer text player room code ⊎ (code ≡ open_code opens.Memory))))

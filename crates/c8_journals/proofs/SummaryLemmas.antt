@@ -1,0 +1,162 @@
+-- A summary that counts each record in turn has what the records say: for the loop of `summary_of`, and its bounds.
+use Rattle.std.proofs.Common.{◌≡◌, ◌<◌, ◌≤◌, ◌+◌, ◌-◌, ◌++◌, ◌||◌, ℕ, zero, suc, List, [], ◌∷◌}
+use Rattle.std.proofs.Common.{length, take, get_or, slice_index, cond, Some, Bool, false, refl, sym, ap, subst, ◌∙◌, arith}
+use Rattle.std.specs.List.{slice_get, All, flat_map, list_any}
+use Rattle.std.proofs.Math.Bool.{or-false}
+use Rattle.std.proofs.Math.Seq.{take-length, get_or-append_seam}
+use Rattle.std.proofs.lemmas.Grind.{flat_map-append}
+use Rattle.std.proofs.lemmas.List.{append-nil, length-append, map-append, length-map, length-take-le, take_more}
+use Rattle.std.proofs.lemmas.List.Elements.{All-append}
+use Rattle.std.proofs.lemmas.List.Folds.{list_any-append}
+use Rattle.std.proofs.lemmas.List.Sums.{sum_by-append, count_by-le-length}
+use Rattle.std.proofs.lemmas.Option.{slice_get_within, get_or_from_slice_get}
+use Rattle.c8_journals.specs.declared.summary.Summary.{Summary}
+use Rattle.c8_journals.specs.Counted.{Counts, IsSummedTo, form_after}
+use Rattle.c8_journals.specs.Summary.{IsSummed, Sums, forms, forms_of}
+use Rattle.c8_known.specs.Journal.{Record, Head, Epoch, Own, Got, Freeze, Leave, Cut, State, Check}
+use Rattle.c8_known.specs.Journal.{is_own, epochs, epochs_of, has_leave, lets_go, ticks}
+use Rattle.c8_record.specs.Body.{Spells, record_of, records_of}
+use Rattle.c8_record.specs.Replay.{BeginsWithHead}
+use Rattle.c8_record.specs.checked.BodyLaws.{reads_back}
+use Rattle.c8_game.specs.declared.row.Player.{Player}
+
+one_holds : {X : Type 0} (P : X → Type 0) (x : X) → P x → All P (x ∷ [])
+one_holds P x p zero d within = p
+one_holds P x p (suc k) d within = absurd (omega (arith, within))
+
+flat_more : {X : Type 0} (f : X → List ℕ) (xs : List X) (x : X) → flat_map f (xs ++ x ∷ []) ≡ flat_map f xs ++ f x
+flat_more f xs x = flat_map-append f xs (x ∷ []) ∙ ap (λ (ys : List ℕ). flat_map f xs ++ ys) (append-nil (f x))
+
+any_more : {X : Type 0} (p : X → Bool) (xs : List X) (x : X) → list_any p (xs ++ x ∷ []) ≡ (list_any p xs || p x)
+any_more p xs x = list_any-append p xs (x ∷ []) ∙ ap (λ (b : Bool). list_any p xs || b) (or-false (p x))
+
+same : (records : List Record)
+    → slice_index (forms records) (length (forms records) - 1) ≡ slice_index (forms records ++ []) (length (forms records ++ []) - 1)
+same records = ap (λ (xs : List ℕ). slice_index xs (length xs - 1)) (sym (append-nil (forms records)))
+
+last_of_more : (xs : List ℕ) (x : ℕ) → slice_index (xs ++ x ∷ []) (length (xs ++ x ∷ []) - 1) ≡ x
+last_of_more xs x =
+    let size : length (xs ++ x ∷ []) ≡ length xs + 1 = length-append xs (x ∷ []) in
+    let at : length (xs ++ x ∷ []) - 1 ≡ length xs = omega (arith, size) in
+    ap (slice_index (xs ++ x ∷ [])) at ∙ get_or-append_seam xs x [] 0
+
+-- the last form, and the form after one more record
+form_more : (records : List Record) (form : ℕ) (r : Record) → form ≡ slice_index (forms records) (length (forms records) - 1)
+    → form_after form r ≡ slice_index (forms records ++ forms_of r) (length (forms records ++ forms_of r) - 1)
+form_more records form (Head player named id room) is = sym (last_of_more (forms records) named)
+form_more records form (Epoch player number named) is = sym (last_of_more (forms records) named)
+form_more records form (Own player start word) is = is ∙ same records
+form_more records form (Got player start words) is = is ∙ same records
+form_more records form (Freeze player) is = is ∙ same records
+form_more records form (Leave player) is = is ∙ same records
+form_more records form (Cut player cut start words) is = is ∙ same records
+form_more records form (State player frames piece bytes) is = is ∙ same records
+form_more records form (Check player frames digest) is = is ∙ same records
+
+ticks_more : (records : List Record) (r : Record) → ticks records + cond (is_own r) 1 0 ≡ ticks (records ++ r ∷ [])
+unfolding ticks
+ticks_more records r = omega (arith, sum_by-append (λ (x : Record). cond (is_own x) 1 0) records (r ∷ []))
+
+pub sums_more : (records : List Record) (r : Record) (old new : Summary) → Counts r old new → Sums records old → Sums (records ++ r ∷ []) new
+unfolding ticks epochs has_leave forms
+sums_more records r old new c sums = record {
+  entered = c.entered ∙ ap (λ (n : ℕ). n + cond (is_own r) 1 0) sums.entered ∙ ticks_more records r;
+  epochs = c.epochs ∙ ap (λ (n : ℕ). n + length (epochs_of r)) sums.epochs ∙ sym (length-append (flat_map epochs_of records) (epochs_of r))
+      ∙ ap (λ (xs : List ℕ). length xs) (sym (flat_more epochs_of records r));
+  form = c.form ∙ form_more records old.form r sums.form
+      ∙ ap (λ (xs : List ℕ). slice_index xs (length xs - 1)) (sym (flat_more forms_of records r));
+  dropped = λ place within. c.dropped place within ∙ ap (λ (b : Bool). b || lets_go (place + 1) r) (sums.dropped place within)
+      ∙ sym (any_more (lets_go (place + 1)) records r);
+}
+
+pub summed_more : (bodies : List (List ℕ)) (n : ℕ) (body : List ℕ) (r : Record) (old new : Summary) → IsSummedTo bodies n old
+    → slice_get bodies n ≡ Some body → Spells body r → Counts r old new → IsSummedTo bodies (n + 1) new
+summed_more bodies n body r old new before first spells c =
+    let is : record_of body ≡ r = reads_back body r spells in
+    let within : n < length bodies = slice_get_within bodies n body first in
+    let next : take (n + 1) bodies ≡ take n bodies ++ body ∷ [] = take_more bodies n body within
+    ∙ ap (λ (b : List ℕ). take n bodies ++ b ∷ []) (get_or_from_slice_get bodies n body body first) in
+    let records : records_of (take (n + 1) bodies) ≡ records_of (take n bodies) ++ r ∷ [] =
+    ap records_of next ∙ map-append record_of (take n bodies) (body ∷ []) ∙ ap (λ (one : Record). records_of (take n bodies) ++ one ∷ []) is in
+    record {
+      within = omega (arith, within);
+      some = omega arith;
+      head = subst (λ (p : Player). BeginsWithHead bodies p.number new.id new.room) (sym c.player)
+          (subst (λ (id : List ℕ). BeginsWithHead bodies old.player.number id new.room) (sym c.id)
+          (subst (λ (room : ℕ). BeginsWithHead bodies old.player.number old.id room) (sym c.room) before.head));
+      spelled = subst (λ (some : List (List ℕ)). All (λ b. Spells b (record_of b)) some) (sym next)
+          (All-append (λ b. Spells b (record_of b)) (take n bodies) (body ∷ []) before.spelled
+          (one_holds (λ b. Spells b (record_of b)) body (subst (λ (one : Record). Spells body one) (sym is) spells)));
+      sums = subst (λ (some : List Record). Sums some new) (sym records)
+          (sums_more (records_of (take n bodies)) r old new c before.sums);
+    }
+
+some_long : (bodies : List (List ℕ)) (n : ℕ) → n ≤ length bodies → length (records_of (take n bodies)) ≡ n
+some_long bodies n within = length-map (take n bodies) record_of ∙ length-take-le n bodies within
+
+one_epoch : (r : Record) → length (epochs_of r) ≤ 1
+one_epoch (Head player form id room) = omega arith
+one_epoch (Epoch player number form) = omega arith
+one_epoch (Own player start word) = omega arith
+one_epoch (Got player start words) = omega arith
+one_epoch (Freeze player) = omega arith
+one_epoch (Leave player) = omega arith
+one_epoch (Cut player cut start words) = omega arith
+one_epoch (State player frames piece bytes) = omega arith
+one_epoch (Check player frames digest) = omega arith
+
+few_epochs : (records : List Record) → length (flat_map epochs_of records) ≤ length records
+few_epochs [] = omega arith
+few_epochs (r ∷ records) = omega (arith, length-append (epochs_of r) (flat_map epochs_of records), one_epoch r, few_epochs records)
+
+-- no count overflows: neither is greater than the number of bodies
+pub few_entered : (bodies : List (List ℕ)) (n : ℕ) (s : Summary) → IsSummedTo bodies n s → s.entered ≤ n
+unfolding ticks
+few_entered bodies n s to =
+    omega (arith, to.sums.entered, count_by-le-length is_own (records_of (take n bodies)), some_long bodies n to.within)
+
+pub few_opened : (bodies : List (List ℕ)) (n : ℕ) (s : Summary) → IsSummedTo bodies n s → s.epochs ≤ n
+unfolding epochs
+few_opened bodies n s to = omega (arith, to.sums.epochs, few_epochs (records_of (take n bodies)), some_long bodies n to.within)
+
+pub summed_whole : (bodies : List (List ℕ)) (n : ℕ) (s : Summary) → IsSummedTo bodies n s → n ≡ length bodies → IsSummed bodies s
+summed_whole bodies n s to all =
+    let whole : take n bodies ≡ bodies = ap (λ (m : ℕ). take m bodies) all ∙ take-length bodies in
+    record {
+      head = to.head;
+      spelled = subst (λ (some : List (List ℕ)). All (λ b. Spells b (record_of b)) some) whole to.spelled;
+      sums = subst (λ (some : List (List ℕ)). Sums (records_of some) s) whole to.sums;
+    }
+
+no_leave : (place : ℕ) → get_or (false ∷ false ∷ false ∷ false ∷ []) place false ≡ false
+no_leave zero = refl
+no_leave (suc zero) = refl
+no_leave (suc (suc zero)) = refl
+no_leave (suc (suc (suc zero))) = refl
+no_leave (suc (suc (suc (suc n)))) = refl
+
+-- after the HEAD
+pub head_summed : (bodies : List (List ℕ)) (body : List ℕ) (s : Summary) → slice_get bodies 0 ≡ Some body
+    → Spells body (Head s.player.number s.form s.id s.room) → s.entered ≡ 0 → s.epochs ≡ 1 → s.dropped ≡ false ∷ false ∷ false ∷ false ∷ []
+    → IsSummedTo bodies 1 s
+unfolding ticks epochs has_leave forms
+head_summed bodies body s first spells none once nobody =
+    let r : Record = Head s.player.number s.form s.id s.room in
+    let is : record_of body ≡ r = reads_back body r spells in
+    let within : 0 < length bodies = slice_get_within bodies 0 body first in
+    let next : take 1 bodies ≡ body ∷ [] = take_more bodies 0 body within
+    ∙ ap (λ (b : List ℕ). b ∷ []) (get_or_from_slice_get bodies 0 body body first) in
+    let records : records_of (take 1 bodies) ≡ r ∷ [] = ap records_of next ∙ ap (λ (one : Record). one ∷ []) is in
+    record {
+      within = omega (arith, within);
+      some = omega arith;
+      head = (body, s.form, first, spells);
+      spelled = subst (λ (some : List (List ℕ)). All (λ b. Spells b (record_of b)) some) (sym next)
+          (one_holds (λ b. Spells b (record_of b)) body (subst (λ (one : Record). Spells body one) (sym is) spells));
+      sums = subst (λ (some : List Record). Sums some s) (sym records) (record {
+        entered = none;
+        epochs = once;
+        form = refl;
+        dropped = λ place within. ap (λ (all : List Bool). get_or all place false) nobody ∙ no_leave place;
+      });
+    }

@@ -1,0 +1,87 @@
+-- What a turn says at one place, and at the places after it. The calls of speaking need it.
+use Rattle.std.proofs.Common.{◌≡◌, ◌≢◌, ℕ, suc, ◌+◌, ◌-◌, ◌/◌, ◌%◌, ◌<◌, ◌≤◌, List, [], ◌∷◌, ◌++◌, Bool, true, false}
+use Rattle.std.proofs.Common.{Option, Some, Ok, Err, option_map, refl, ap, sym, subst, ◌∙◌, arith}
+use Rattle.std.proofs.lemmas.Bool.{lt-ltb, le-leb, ne_eqb}
+use Rattle.c8_refusals.specs.declared.error.Unsayable.{Unsayable}
+use Rattle.c8_wire.specs.Packet.{Packet}
+use Rattle.c8_peer.specs.State.{Call, Say, Show, Saying, Said}
+use Rattle.c8_peer.specs.Steps.{Stepped}
+use Rattle.c8_peer.specs.Peer.{PeerValue, IsStep, known_by}
+use Rattle.c8_session.specs.Due.{due_to, has, shown_at, due_at, is_packet, is_sayable, said_if_due, said_at, said_from}
+use Rattle.c8_session.specs.Due.{places_of_player, places_of_players, places_of_turn, first_watcher}
+use Rattle.c8_session.specs.Turns.{IsSayingTo}
+
+-- ---- what is due at a place
+
+pub saying_to : (to seat : ℕ) (what : Saying) → seat ≡ to → IsSayingTo seat (Say to what)
+saying_to to seat what same = record { lawful = tt; speaks = refl; to = sym same }
+
+pub showing_to : (watcher seat : ℕ) → 5 ≤ watcher → watcher ≤ 6 → seat ≡ watcher → IsSayingTo seat (Show watcher)
+showing_to watcher seat low high same =
+    record { lawful = rw (le-leb 5 watcher low, le-leb watcher 6 high) refl; speaks = refl; to = sym same }
+
+pub shown_is : (shown : List Bool) (place number : ℕ) → has shown place ≡ true → number ≡ first_watcher + place
+    → shown_at shown place ≡ Some (Show number)
+shown_is shown place number is same = rw (is, same) refl
+
+back : (n : ℕ) → (n + 1) - 1 ≡ n
+back n = omega arith
+
+module _ {D : Type 0} (p : PeerValue D) where
+  pub due_is : (greeters shown : List Bool) (place to : ℕ) (what : Saying) → place < places_of_players
+      → to ≡ place / places_of_player + 1 → place / places_of_player + 1 ≢ p.me
+      → Some what ≡ due_to p.me (known_by p) p.state.memory (has greeters (to - 1)) to (place % places_of_player)
+      → due_at p greeters shown place ≡ Some (Say to what)
+  due_is greeters shown place to what low same other due =
+      let player = place / places_of_player in
+      let there = subst (λ (at : ℕ). Some what
+      ≡ due_to p.me (known_by p) p.state.memory (has greeters at) (player + 1) (place % places_of_player)) (back player)
+      (subst (λ (one : ℕ). Some what
+      ≡ due_to p.me (known_by p) p.state.memory (has greeters (one - 1)) one (place % places_of_player)) same due) in
+      rw (lt-ltb place places_of_players low, ne_eqb (player + 1) p.me other, same) (ap (option_map (Say (player + 1))) (sym there))
+
+  -- ---- whether it is said
+
+  pub sayable : (call : Call) (packet : Packet) → IsStep p call (Said (Ok packet)) p → is_sayable p call ≡ true
+  unfolding is_sayable
+  sayable call packet step = ap (λ (s : Stepped). is_packet s.reply) (sym step)
+
+  pub unsayable : (call : Call) (why : Unsayable) → IsStep p call (Said (Err why)) p → is_sayable p call ≡ false
+  unfolding is_sayable
+  unsayable call why step = ap (λ (s : Stepped). is_packet s.reply) (sym step)
+
+  -- what is due and may be said is said
+  pub says : (due : Option Call) (call : Call) (packet : Packet) → due ≡ Some call → IsStep p call (Said (Ok packet)) p
+      → said_if_due p due ≡ call ∷ []
+  says due call packet is step = rw (is, sayable call packet step) refl
+
+  -- what is refused is not
+  pub refuses : (due : Option Call) (call : Call) (why : Unsayable) → due ≡ Some call → IsStep p call (Said (Err why)) p
+      → said_if_due p due ≡ []
+  refuses due call why is step = rw (is, unsayable call why step) refl
+
+  -- ---- the places of a turn
+
+  module _ (greeters shown : List Bool) where
+    pub at_place : (n place : ℕ) → n ≡ place
+        → said_from p greeters shown n (places_of_turn - n) ≡ said_from p greeters shown place (places_of_turn - place)
+    at_place n place same = ap (λ (m : ℕ). said_from p greeters shown m (places_of_turn - m)) same
+
+    from_here : (place n m : ℕ) → n ≡ suc m
+        → said_from p greeters shown place n ≡ said_at p greeters shown place ++ said_from p greeters shown (place + 1) m
+    from_here place n m is = rw is refl
+
+    -- nothing is said at a place
+    pub passes : (place : ℕ) → place < places_of_turn → said_at p greeters shown place ≡ []
+        → said_from p greeters shown place (places_of_turn - place) ≡ said_from p greeters shown (place + 1) (places_of_turn - (place + 1))
+    passes place low none =
+        from_here place (places_of_turn - place) (places_of_turn - (place + 1)) (omega (arith, low))
+        ∙ ap (λ (here : List Call). here ++ said_from p greeters shown (place + 1) (places_of_turn - (place + 1))) none
+
+    -- one datagram is said at a place
+    pub speaks : (place : ℕ) (call : Call) → place < places_of_turn → said_at p greeters shown place ≡ call ∷ []
+        → said_from p greeters shown place (places_of_turn - place)
+        ≡ call ∷ said_from p greeters shown (place + 1) (places_of_turn - (place + 1))
+    speaks place call low one =
+        from_here place (places_of_turn - place) (places_of_turn - (place + 1)) (omega (arith, low))
+        ∙ ap (λ (here : List Call). here ++ said_from p greeters shown (place + 1) (places_of_turn - (place + 1))) one

@@ -1,0 +1,2 @@
+-- What a turn says; begin at `DueLemmas`.
+pub mod DueLemmas
