@@ -36,6 +36,13 @@ pub const MUTE: Argument = Argument {
     ..Argument::FLAG
 };
 
+/// The option `--report`.
+pub const REPORT: Argument = Argument {
+    name: "report",
+    help: "Prints the machine's report at the end also on a terminal",
+    ..Argument::FLAG
+};
+
 /// The command `play`.
 pub static PLAY: Outline = Outline {
     name: "play",
@@ -72,7 +79,7 @@ pub static PLAY: Outline = Outline {
         WATCH_SECRET,
         Argument {
             name: "progress",
-            help: "Says at the end, on standard error, how late frames were, and how the match ended",
+            help: "Says at the end, on standard error, how late frames were, and which packets were dropped",
             ..Argument::FLAG
         },
         Argument::EXPLAIN,
@@ -85,6 +92,7 @@ pub static PLAY: Outline = Outline {
         },
         HOLD,
         MUTE,
+        REPORT,
     ],
 };
 
