@@ -56,6 +56,8 @@ pub struct Desk<C> {
     is_spoilt: bool,
     /// Whether the person has asked by control-D to give another player up.
     gives_up: bool,
+    /// Whether the person has asked by F1 for the own keys.
+    wants_help: bool,
 }
 
 impl<C: Console> Desk<C> {
@@ -74,6 +76,7 @@ impl<C: Console> Desk<C> {
             has_left,
             is_spoilt: false,
             gives_up: false,
+            wants_help: false,
         }
     }
 
@@ -235,6 +238,7 @@ impl<C: Console> Desk<C> {
                 self.is_spoilt = true;
             }
             Signal::GiveUp => self.gives_up = true,
+            Signal::Help => self.wants_help = true,
             _ => {}
         }
         self.held.note(signal);
@@ -257,6 +261,15 @@ impl<C: Console> Desk<C> {
         let gives_up = self.gives_up;
         self.gives_up = false;
         gives_up
+    }
+
+    /// Returns whether the person has asked for the own keys. Then resets this.
+    pub fn take_wants_help(&mut self) -> bool
+        ensures { IsSameDesk C.Console self.old self.new }
+    {
+        let wants_help = self.wants_help;
+        self.wants_help = false;
+        wants_help
     }
 
     /// Paints a screen, then writes `row`, which must not change the screen's rows.

@@ -8,7 +8,7 @@ pub const PLAY_ENDING: &str =
   a s d f      7 8 9 E        7 8 9
   z x c v      A 0 B F
 A player has the keys of its mask in the game; a person who plays alone has those of all players.
-Escape and control-C end the game, control-L repaints the screen and shows the own keys. A terminal that
+Escape and control-C end the game, control-L repaints the screen, F1 shows the own keys. A terminal that
 reports releases of keys (one with kitty's keyboard protocol) plays best. On others a stroke counts for
 --hold frames, and a repeat within 45 frames of the key's last stroke for 6 from then on. With --hold 30 a
 key that is held down has no gap if the keyboard begins to repeat it within half a second.

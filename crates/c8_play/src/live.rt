@@ -319,6 +319,9 @@ fn show<D: Disk, C: Console>(
         status.forget();
         status.remind();
     }
+    if desk.take_wants_help() {
+        status.remind();
+    }
     status.follow(session.peer());
     consider(session, desk, status, waits);
     sound(session, status);
