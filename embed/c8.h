@@ -120,13 +120,6 @@ enum {
     C8_EMPTY = 2      /* the empty one of a dropped player, from its cut on: it is final */
 };
 
-/* What an input of a row is. */
-enum {
-    C8_PREDICTED = 0, /* a guess, which may change */
-    C8_HELD = 1,      /* its player entered it: it is final */
-    C8_EMPTY = 2      /* the empty one of a dropped player, from its cut on: it is final */
-};
-
 /* ---- opening and closing */
 
 /* Opens the session of a player, 1 to 4, in a match: the text of a game (docs/FORMATS.md, or c8_rules) and a room, a

@@ -242,8 +242,6 @@ static void tell(c8_session *s) {
 }
 
 static void look(c8_session *s) {
-    answered(c8_status(s, (uint32_t)roll(2100), clear()));
-    untouched(4);
     answered(c8_screen(s, clear()));
     untouched(C8_PICTURE);
     answered(c8_state(s, clear()));
