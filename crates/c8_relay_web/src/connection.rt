@@ -1,6 +1,6 @@
 //! One connection: first the head of an HTTP request, then WebSocket messages, a page, or a refusal.
-ghost use Rattle.std.specs.Prelude.{◌≡◌, ◌≤◌, ◌+◌, ◌<◌, ◌^◌, ◌↔◌, IsTrue};
-ghost use Rattle.c8_relay_web.specs.Connections.{IsConnection};
+ghost use Rattle.std.specs.Prelude.{◌≡◌, ◌≤◌, ◌↔◌, ◌++◌, [], ℕ, List, IsTrue};
+ghost use Rattle.c8_relay_web.specs.Steps.{is_open, later, unread, waiting};
 
 use crate::frames::{Said, opened, write_close, write_packet};
 use crate::inbox::{Filled, Inbox};
@@ -74,7 +74,7 @@ pub(crate) struct Guest {
 impl Guest {
     /// Its address as a member of rooms.
     pub(crate) fn address(self) -> Address
-        ensures { IsConnection result }
+        ensures { result ≡ Address.Connection self.host self.number }
     {
         let (host, number) = (self.host, self.number);
         Address::Connection { host, number }
@@ -120,7 +120,10 @@ impl Connection {
     /// Begins with the head of a request.
     pub(crate) fn new(stream: TcpStream, number: u64, host: IpAddr, now: u64) -> Connection
         ensures number { result.guest.number ≡ number }
-        ensures hurry { result.until ≤ now + HURRY }
+        ensures stage { result.stage ≡ Stage.Head }
+        ensures unread { unread result ≡ [] }
+        ensures waiting { waiting result ≡ [] }
+        ensures hurry { result.until ≡ later now HURRY }
     {
         Connection {
             stream,
@@ -145,12 +148,16 @@ impl Connection {
     }
 
     /// Who is at its other end.
-    pub(crate) fn guest(&self) -> Guest {
+    pub(crate) fn guest(&self) -> Guest
+        ensures { result ≡ self.now.guest }
+    {
         self.guest
     }
 
     /// Whether it is a WebSocket.
-    pub(crate) fn is_open(&self) -> bool {
+    pub(crate) fn is_open(&self) -> bool
+        ensures { result ≡ is_open self.now.stage }
+    {
         matches!(self.stage, Stage::Open(_))
     }
 
@@ -200,7 +207,11 @@ impl Connection {
     }
 
     /// Reads what has come; `None` if there was something.
-    fn fill(&mut self) -> Option<Next> {
+    fn fill(&mut self) -> Option<Next>
+        ensures stage { self.new.stage ≡ self.old.stage }
+        ensures waiting { waiting self.new ≡ waiting self.old }
+        ensures more { (more : List ℕ) × (unread self.new ≡ unread self.old ++ more) }
+    {
         if !self.is_readable {
             return Some(Next::Nothing);
         }
@@ -242,7 +253,11 @@ impl Connection {
     }
 
     /// Ends once all is sent.
-    fn end(&mut self, now: u64) -> Option<Next> {
+    fn end(&mut self, now: u64) -> Option<Next>
+        ensures waiting { waiting self.new ≡ waiting self.old }
+        ensures stage { self.new.stage ≡ Stage.Ending }
+        ensures until { self.new.until ≡ later now HURRY }
+    {
         self.stage = Stage::Ending;
         self.until = now.saturating_add(HURRY);
         None

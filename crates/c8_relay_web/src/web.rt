@@ -1,7 +1,8 @@
 //! All connections.
-ghost use Rattle.std.specs.Prelude.{◌≡◌, ◌≤◌, ◌⊎◌, ◌++◌, ◌∷◌, [], IfSome, IsTrue};
+ghost use Rattle.std.specs.Prelude.{◌≡◌, ◌≤◌, ◌<◌, ◌⊎◌, ◌++◌, ◌∷◌, [], IfSome, IsTrue, None, Some, length, slice_get};
 ghost use Rattle.std.specs.VecDeque.{deque_capacity, deque_len};
 ghost use Rattle.c8_relay_web.specs.Connections.{IsConnection};
+ghost use Rattle.c8_relay_web.specs.Steps.{KeepsOthers};
 
 use crate::connection::{Connection, Guest, Next, network_of};
 use crate::crowd::Crowd;
@@ -183,6 +184,8 @@ impl Web {
 
     /// Frees the place of a connection.
     fn close(&mut self, place: usize, was_open: bool, guest: Guest)
+        ensures freed { place < length self.old.places.items → slice_get self.new.places.items place ≡ Some None }
+        ensures others { KeepsOthers place self.old.places.items self.new.places.items }
         ensures left { IsTrue was_open → (self.new.left.items ≡ self.old.left.items ++ guest ∷ [])
             ⊎ (deque_capacity self.old.left ≤ deque_len self.old.left) }
     {
