@@ -13,7 +13,7 @@ pub returns-in-Ok-Complete : goal.returns-in-Ok-Complete
 returns-in-Ok-Complete c =
     let input = c.args.input.now in
     let site = c.args.site.now in
-    let P : Status RequestSpans → Type 0 = λ s. IfComplete {RequestSpans} {Error} (Ok s) (IsRequestOf input c.parse_request.new.headers) in
+    let P : Status RequestSpans → Type 0 = λ s. IfComplete {A = RequestSpans} {E = Error} (Ok s) (IsRequestOf input c.parse_request.new.headers) in
     let found : IsRequestOf input c.parse_request.new.headers c.in-Ok-Complete.head =
     subst P c.in-Ok-Complete.field-0-is c.in-Ok-Complete.ensures.complete in
     to_asked input site c.answer.result found.0 _ found.1.reads
