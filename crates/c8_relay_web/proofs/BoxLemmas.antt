@@ -1,7 +1,8 @@
 -- Bytes that are written behind those that wait at the front of a buffer wait behind them.
-use Rattle.std.proofs.Common.{◌≡◌, ◌≤◌, ◌+◌, ℕ, List, ◌++◌, length, take, drop, slice_range, subst, ap, sym, ◌∙◌, refl, arith}
+use Rattle.std.proofs.Common.{◌≡◌, ◌≤◌, ◌<◌, ◌+◌, absurd, Bool, MatchBool, true, false, ℕ, List, ◌++◌, length, take, drop, slice_range, subst, ap, sym, ◌∙◌, refl, arith}
 use Rattle.std.proofs.lemmas.List.{take-take, take-append-drop}
 use Rattle.std.proofs.lemmas.Slice.{take-put_mid, take-put_mid_below}
+use Rattle.c8_relay_web.specs.declared.outbox.TheConstants.{OUTPUT}
 use borrow.Rule.Slice.PartMut.{put_mid}
 
 front : (n : ℕ) (bytes : List ℕ) → slice_range bytes 0 n ≡ take n bytes
@@ -23,3 +24,9 @@ came n filled k bytes more longer within =
       sym (take-append-drop filled all) ∙ ap (λ (zs : List ℕ). zs ++ drop filled all)
           (take-take filled n (put_mid filled k bytes more) longer ∙ take-put_mid_below filled k bytes more filled (omega arith) within),
     )
+
+-- bytes for which there is room wait
+pub said_all : (done : Bool) (before after bytes : List ℕ) → MatchBool done (after ≡ before ++ bytes) (after ≡ before)
+    → (done ≡ false → OUTPUT < length before + length bytes) → length before + length bytes ≤ OUTPUT → after ≡ before ++ bytes
+said_all true before after bytes said room within = said
+said_all false before after bytes said room within = absurd (let full = room refl in omega (arith, full, within))

@@ -1,3 +1,4 @@
 -- What waits is sent in order, whatever is written behind it; begin at `BoxLemmas`.
 mod BoxLemmas
+mod RequestLemmas
 mod SiteLemmas

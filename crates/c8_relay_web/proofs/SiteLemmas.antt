@@ -1,7 +1,10 @@
--- A text whose front and rest are known is these two.
-use Rattle.std.proofs.Common.{◌≡◌, ℕ, List, ◌++◌, take, drop, ap, sym, ◌∙◌}
-use Rattle.std.proofs.lemmas.List.{take-append-drop}
+-- A text stands in another if that begins with it at this place, or has it behind; `contains` (page) needs it.
+use Rattle.std.proofs.Common.{◌≡◌, ◌<◌, ◌||◌, ℕ, List, [], ◌∷◌, zero, suc, drop, length, nat_eq, refl, arith}
+use Rattle.std.specs.List.{starts_with}
+use Rattle.c8_relay_web.specs.Paths.{contains}
 
-pub joined : (n : ℕ) (text front rest : List ℕ) → take n text ≡ front → drop n text ≡ rest → text ≡ front ++ rest
-joined n text front rest begins ends =
-    sym (take-append-drop n text) ∙ ap (λ (xs : List ℕ). xs ++ drop n text) begins ∙ ap (λ (xs : List ℕ). front ++ xs) ends
+pub from_place : (text word : List ℕ) (place : ℕ) → place < length text
+    → contains (drop place text) word ≡ (starts_with nat_eq (drop place text) word || contains (drop (suc place) text) word)
+from_place [] word place below = absurd (omega (arith, below))
+from_place (byte ∷ text) word zero below = refl
+from_place (byte ∷ text) word (suc place) below = from_place text word place (omega (arith, below))

@@ -1,6 +1,11 @@
 //! One connection: first the head of an HTTP request, then WebSocket messages, a page, or a refusal.
-ghost use Rattle.std.specs.Prelude.{◌≡◌, ◌≤◌, ◌+◌, ◌<◌, ◌^◌, ◌↔◌, IsTrue};
-ghost use Rattle.c8_relay_web.specs.Connections.{IsConnection};
+ghost use Rattle.std.specs.Prelude.{◌≡◌, ◌≤◌, ◌↔◌, ◌++◌, [], ℕ, List, IsTrue, MatchBool, Some, drop, take};
+ghost use Rattle.std.specs.Vec.{vec_capacity};
+ghost use Rattle.websocket.specs.Connection.{max_reply_len};
+ghost use Rattle.websocket.specs.Handshake.{response_bytes};
+ghost use Rattle.c8_relay_web.specs.Frames.{fresh};
+ghost use Rattle.c8_relay_web.specs.Requests.{IsAsked};
+ghost use Rattle.c8_relay_web.specs.Steps.{HasPacket, IfGives, IsGiven, IsRefused, IsSent, LacksRoom, Follows, is_open, later, unread, waiting};
 
 use crate::frames::{Said, opened, write_close, write_packet};
 use crate::inbox::{Filled, Inbox};
@@ -74,7 +79,7 @@ pub(crate) struct Guest {
 impl Guest {
     /// Its address as a member of rooms.
     pub(crate) fn address(self) -> Address
-        ensures { IsConnection result }
+        ensures { result ≡ Address.Connection self.host self.number }
     {
         let (host, number) = (self.host, self.number);
         Address::Connection { host, number }
@@ -120,7 +125,10 @@ impl Connection {
     /// Begins with the head of a request.
     pub(crate) fn new(stream: TcpStream, number: u64, host: IpAddr, now: u64) -> Connection
         ensures number { result.guest.number ≡ number }
-        ensures hurry { result.until ≤ now + HURRY }
+        ensures stage { result.stage ≡ Stage.Head }
+        ensures unread { unread result ≡ [] }
+        ensures waiting { waiting result ≡ [] }
+        ensures hurry { result.until ≡ later now HURRY }
     {
         Connection {
             stream,
@@ -145,12 +153,16 @@ impl Connection {
     }
 
     /// Who is at its other end.
-    pub(crate) fn guest(&self) -> Guest {
+    pub(crate) fn guest(&self) -> Guest
+        ensures { result ≡ self.now.guest }
+    {
         self.guest
     }
 
     /// Whether it is a WebSocket.
-    pub(crate) fn is_open(&self) -> bool {
+    pub(crate) fn is_open(&self) -> bool
+        ensures { result ≡ is_open self.now.stage }
+    {
         matches!(self.stage, Stage::Open(_))
     }
 
@@ -173,7 +185,11 @@ impl Connection {
     }
 
     /// Takes the next packet, and goes on with all else.
-    pub(crate) fn next(&mut self, shared: &mut Shared, packet: &mut [u8; LONGEST_READ]) -> Next {
+    pub(crate) fn next(&mut self, shared: &mut Shared, packet: &mut [u8; LONGEST_READ]) -> Next
+        ensures number { self.new.guest.number ≡ self.old.guest.number }
+        ensures served { (size : ℕ) → waiting self.old ≡ [] → HasPacket self.old.stage (unread self.old) size
+            → max_reply_len ≤ vec_capacity shared.old.frame → result ≡ Next.Packet size }
+    {
         for _ in 0..MOST_STEPS {
             if let Some(next) = self.step(shared, packet) {
                 return next;
@@ -183,7 +199,12 @@ impl Connection {
     }
 
     /// Makes one step; `None` if another may follow at once.
-    fn step(&mut self, shared: &mut Shared, packet: &mut [u8; LONGEST_READ]) -> Option<Next> {
+    fn step(&mut self, shared: &mut Shared, packet: &mut [u8; LONGEST_READ]) -> Option<Next>
+        ensures number { self.new.guest.number ≡ self.old.guest.number }
+        ensures given { IfGives result (λ size. IsGiven self.old self.new (take size packet.new)) }
+        ensures served { (size : ℕ) → waiting self.old ≡ [] → HasPacket self.old.stage (unread self.old) size
+            → max_reply_len ≤ vec_capacity shared.old.frame → result ≡ Some (Next.Packet size) }
+    {
         if !self.outbox.flush(&self.stream) {
             return Some(Next::Over);
         }
@@ -200,7 +221,13 @@ impl Connection {
     }
 
     /// Reads what has come; `None` if there was something.
-    fn fill(&mut self) -> Option<Next> {
+    fn fill(&mut self) -> Option<Next>
+        ensures stage { self.new.stage ≡ self.old.stage }
+        ensures waiting { waiting self.new ≡ waiting self.old }
+        ensures more { (more : List ℕ) × (unread self.new ≡ unread self.old ++ more) }
+        ensures number { self.new.guest.number ≡ self.old.guest.number }
+        ensures quiet { IfGives result (λ _. ⊥) }
+    {
         if !self.is_readable {
             return Some(Next::Nothing);
         }
@@ -219,7 +246,12 @@ impl Connection {
     }
 
     /// Reads the head of a request.
-    fn head(&mut self, shared: &Shared) -> Option<Next> {
+    fn head(&mut self, shared: &Shared) -> Option<Next>
+        requires { self.old.stage ≡ Stage.Head }
+        ensures number { self.new.guest.number ≡ self.old.guest.number }
+        ensures follows { (asked : Asked) × IsAsked (unread self.old) shared.now.site asked × Follows asked shared.now.now self.old self.new }
+        ensures quiet { IfGives result (λ _. ⊥) }
+    {
         let now = shared.now;
         match asked_in(self.inbox.bytes(), &shared.site) {
             Asked::Unknown if self.inbox.is_full() => self.refuse(Refused::TooLarge, now),
@@ -236,20 +268,37 @@ impl Connection {
     }
 
     /// Says why the request is refused.
-    fn refuse(&mut self, refused: Refused, now: u64) -> Option<Next> {
+    fn refuse(&mut self, refused: Refused, now: u64) -> Option<Next>
+        ensures number { self.new.guest.number ≡ self.old.guest.number }
+        ensures quiet { IfGives result (λ _. ⊥) }
+        ensures refused { IsRefused refused now self.old self.new }
+    {
         self.outbox.say(refused.response());
         self.end(now)
     }
 
     /// Ends once all is sent.
-    fn end(&mut self, now: u64) -> Option<Next> {
+    fn end(&mut self, now: u64) -> Option<Next>
+        ensures number { self.new.guest.number ≡ self.old.guest.number }
+        ensures quiet { IfGives result (λ _. ⊥) }
+        ensures waiting { waiting self.new ≡ waiting self.old }
+        ensures stage { self.new.stage ≡ Stage.Ending }
+        ensures until { self.new.until ≡ later now HURRY }
+    {
         self.stage = Stage::Ending;
         self.until = now.saturating_add(HURRY);
         None
     }
 
     /// Becomes a WebSocket.
-    fn open(&mut self, upgrade: Upgrade, shared: &Shared) -> Option<Next> {
+    fn open(&mut self, upgrade: Upgrade, shared: &Shared) -> Option<Next>
+        ensures number { self.new.guest.number ≡ self.old.guest.number }
+        ensures quiet { IfGives result (λ _. ⊥) }
+        ensures open { self.new.stage ≡ Stage.Open fresh }
+        ensures rest { unread self.new ≡ drop upgrade.length (unread self.old) }
+        ensures said { waiting self.old ≡ [] → waiting self.new ≡ response_bytes upgrade.accept [] }
+        ensures until { self.new.until ≡ later shared.now.now SILENCE }
+    {
         if let Some(host) = upgrade.host
             && self.is_local
         {
@@ -267,7 +316,10 @@ impl Connection {
     }
 
     /// Sends more of a page.
-    fn page(&mut self, shared: &Shared) -> Option<Next> {
+    fn page(&mut self, shared: &Shared) -> Option<Next>
+        ensures number { self.new.guest.number ≡ self.old.guest.number }
+        ensures quiet { IfGives result (λ _. ⊥) }
+    {
         let Stage::Page(sending) = self.stage else {
             return Some(Next::Over);
         };
@@ -294,7 +346,12 @@ impl Connection {
     }
 
     /// Reads the next message.
-    fn message(&mut self, shared: &mut Shared, packet: &mut [u8; LONGEST_READ]) -> Option<Next> {
+    fn message(&mut self, shared: &mut Shared, packet: &mut [u8; LONGEST_READ]) -> Option<Next>
+        ensures number { self.new.guest.number ≡ self.old.guest.number }
+        ensures given { IfGives result (λ size. IsGiven self.old self.new (take size packet.new)) }
+        ensures served { (size : ℕ) → HasPacket self.old.stage (unread self.old) size → max_reply_len ≤ vec_capacity shared.old.frame
+            → result ≡ Some (Next.Packet size) }
+    {
         let Stage::Open(context) = &mut self.stage else {
             return Some(Next::Over);
         };
@@ -313,7 +370,10 @@ impl Connection {
     }
 
     /// Reads what has come; `None` if there was something.
-    fn listen(&mut self, now: u64) -> Option<Next> {
+    fn listen(&mut self, now: u64) -> Option<Next>
+        ensures number { self.new.guest.number ≡ self.old.guest.number }
+        ensures quiet { IfGives result (λ _. ⊥) }
+    {
         let next = self.fill();
         if next.is_none() {
             self.until = now.saturating_add(SILENCE);
@@ -322,7 +382,10 @@ impl Connection {
     }
 
     /// Once all is sent, says that no more will come.
-    fn finish(&mut self) -> Option<Next> {
+    fn finish(&mut self) -> Option<Next>
+        ensures number { self.new.guest.number ≡ self.old.guest.number }
+        ensures quiet { IfGives result (λ _. ⊥) }
+    {
         if !self.outbox.is_empty() {
             return Some(Next::Nothing);
         }
@@ -334,7 +397,11 @@ impl Connection {
     }
 
     /// Sends a packet, or loses it where too much waits already. Returns whether it was taken.
-    pub(crate) fn say(&mut self, shared: &mut Shared, packet: &[u8]) -> bool {
+    pub(crate) fn say(&mut self, shared: &mut Shared, packet: &[u8]) -> bool
+        ensures number { self.new.guest ≡ self.old.guest }
+        ensures said { MatchBool result (IsSent self.old self.new packet.now)
+            ((waiting self.new ≡ waiting self.old) × LacksRoom (vec_capacity shared.old.frame) self.old packet.now) }
+    {
         let Stage::Open(context) = &mut self.stage else {
             return false;
         };

@@ -1,8 +1,9 @@
 //! WebSocket frames, in fixed buffers.
-ghost use Rattle.std.specs.Prelude.{◌≡◌, ◌≤◌, [], IfSome, IsTrue, MatchBool, Some, drop, option_map, take};
-ghost use Rattle.websocket.specs.Connection.{IsDoneSending};
+ghost use Rattle.std.specs.Prelude.{◌≡◌, ◌≤◌, ◌<◌, ◌+◌, ◌⊎◌, [], IfSome, IsTrue, MatchBool, Some, drop, false, length, option_map, take};
+ghost use Rattle.std.specs.Vec.{vec_capacity};
+ghost use Rattle.websocket.specs.Connection.{IsDoneSending, can_write, max_header_len, max_reply_len};
 ghost use Rattle.websocket.specs.Content.{IsPayloadInside, IsReceivedInside, binary, payload_bytes, received_content};
-ghost use Rattle.c8_relay_web.specs.Frames.{Gains, IfPacket, IsMessage};
+ghost use Rattle.c8_relay_web.specs.Frames.{Gains, IfPacket, IsMessage, IsSaidBy, code_of, fresh, said_by};
 
 use crate::inbox::INPUT;
 use c8_relay::LONGEST_READ;
@@ -39,7 +40,9 @@ pub(crate) struct Frame {
 }
 
 /// A WebSocket of a server that takes packets.
-pub(crate) fn opened(alloc: Global) -> WebSocketContext {
+pub(crate) fn opened(alloc: Global) -> WebSocketContext
+    ensures { result ≡ fresh }
+{
     let limits = WebSocketConfig::default()
         .max_message_size(Some(LONGEST_READ))
         .max_frame_size(Some(LONGEST_READ));
@@ -52,7 +55,9 @@ pub(crate) fn write_packet(
     packet: &[u8],
     frame: &mut Vec<u8>,
 ) -> bool
-    ensures { MatchBool result (Gains context.old packet.now [] frame.new.items) (context.new ≡ context.old) }
+    ensures frame { MatchBool result (Gains context.old packet.now [] frame.new.items)
+        ((can_write context.old.state ≡ false) ⊎ (vec_capacity frame.old < length packet.now + max_header_len)) }
+    ensures same { context.new ≡ context.old }
 {
     frame.clear();
     let message = Message::Binary(packet);
@@ -84,6 +89,7 @@ pub(crate) fn read_frame(
     requires { filled ≤ INPUT }
     ensures said { IfPacket result.said (λ size. IsMessage context.old (take filled input.old) result.consumed (take size packet.new)) }
     ensures rest { IfPacket result.said (λ _. drop result.consumed (take filled input.new) ≡ drop result.consumed (take filled input.old)) }
+    ensures exact { max_reply_len ≤ vec_capacity reply.old → IsSaidBy context.old (take filled input.old) result.said result.consumed }
 {
     reply.clear();
     let input = &mut input[..filled];
@@ -106,7 +112,8 @@ pub(crate) fn read_frame(
 /// What a frame said. The bytes of a packet are copied.
 fn said_by(step: &Step, input: &[u8], packet: &mut [u8; LONGEST_READ]) -> Said
     requires { IfSome step.now.message (IsReceivedInside input.now) }
-    ensures { IfPacket result (λ size. option_map (received_content input.now) step.now.message ≡ Some (binary (take size packet.new))) }
+    ensures bytes { IfPacket result (λ size. option_map (received_content input.now) step.now.message ≡ Some (binary (take size packet.new))) }
+    ensures said { result ≡ said_by (option_map (received_content input.now) step.now.message) }
 {
     match &step.message {
         Some(Received::Binary(payload)) => copied(payload, input, packet),
@@ -119,7 +126,8 @@ fn said_by(step: &Step, input: &[u8], packet: &mut [u8; LONGEST_READ]) -> Said
 /// Copies a packet.
 fn copied(payload: &Payload, input: &[u8], packet: &mut [u8; LONGEST_READ]) -> Said
     requires { IsPayloadInside input.now payload.now }
-    ensures { IfPacket result (λ size. take size packet.new ≡ payload_bytes input.now payload.now) }
+    ensures bytes { IfPacket result (λ size. take size packet.new ≡ payload_bytes input.now payload.now) }
+    ensures said { result ≡ said_by (Some (binary (payload_bytes input.now payload.now))) }
 {
     let bytes = payload.of(input);
     if bytes.len() > LONGEST_READ {
@@ -130,7 +138,9 @@ fn copied(payload: &Payload, input: &[u8], packet: &mut [u8; LONGEST_READ]) -> S
 }
 
 /// The code that tells a client of an error.
-fn code_of(error: Error) -> CloseCode {
+fn code_of(error: Error) -> CloseCode
+    ensures { result ≡ code_of error }
+{
     match error {
         Error::Capacity(_) => CloseCode::Size,
         Error::Utf8 => CloseCode::Invalid,

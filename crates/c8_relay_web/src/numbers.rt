@@ -1,5 +1,5 @@
 //! The numbers of connections.
-ghost use Rattle.std.specs.Prelude.{◌≡◌, ◌<◌, ◌%◌, ◌++◌, ◌∷◌, [], IfSome, IfNone};
+ghost use Rattle.std.specs.Prelude.{◌≡◌, ◌≤◌, ◌<◌, ◌⊎◌, ◌+◌, ◌%◌, ◌^◌, ◌++◌, ◌∷◌, [], IfSome, IfNone, None};
 ghost use Rattle.std.specs.List.{All, Contains};
 
 use c8_disk::GhostList;
@@ -35,6 +35,7 @@ impl Numbers {
         ensures fresh { IfSome result (λ number. Contains self.old.given.items number → ⊥) }
         ensures noted { IfSome result (λ number. self.new.given.items ≡ self.old.given.items ++ number ∷ []) }
         ensures at { IfSome result (λ number. number % 1024 ≡ place) }
+        ensures last { result ≡ None → (1024 ≤ place) ⊎ (2 ^ 64 ≤ self.old.next + 1024) }
         ensures kept { IfNone result (self.new.given.items ≡ self.old.given.items) }
     {
         let next = self.next.checked_add(STEP)?;

@@ -1,5 +1,5 @@
 //! The bytes that wait to be sent by a connection.
-ghost use Rattle.std.specs.Prelude.{◌≡◌, ◌≤◌, ◌++◌, [], ℕ, IsTrue, MatchBool, drop, slice_range};
+ghost use Rattle.std.specs.Prelude.{◌≡◌, ◌≤◌, ◌<◌, ◌+◌, ◌↔◌, ◌++◌, [], ℕ, IsTrue, MatchBool, drop, false, length, slice_range};
 ghost use Rattle.c8_relay_web.specs.declared.outbox.TheConstants.{OUTPUT};
 
 use mio::net::TcpStream;
@@ -33,7 +33,7 @@ impl Outbox {
     }
 
     pub(crate) fn is_empty(&self) -> bool
-        ensures { IsTrue result → slice_range self.now.bytes self.now.first self.now.last ≡ [] }
+        ensures { IsTrue result ↔ (slice_range self.now.bytes self.now.first self.now.last ≡ []) }
     {
         self.first >= self.last
     }
@@ -56,9 +56,10 @@ impl Outbox {
 
     /// Adds bytes, if there is room for all of them. Returns whether there was.
     pub(crate) fn say(&mut self, bytes: &[u8]) -> bool
-        ensures { MatchBool result
+        ensures said { MatchBool result
             (slice_range self.new.bytes self.new.first self.new.last ≡ slice_range self.old.bytes self.old.first self.old.last ++ bytes.now)
             (slice_range self.new.bytes self.new.first self.new.last ≡ slice_range self.old.bytes self.old.first self.old.last) }
+        ensures room { result ≡ false → OUTPUT < length (slice_range self.old.bytes self.old.first self.old.last) + length bytes.now }
     {
         let last = self.make_room();
         if bytes.len() > OUTPUT - last {
@@ -79,7 +80,8 @@ impl Outbox {
 
     /// Sends what the system takes. Returns whether the stream is well.
     pub(crate) fn flush(&mut self, stream: &TcpStream) -> bool
-        ensures { (sent : ℕ) × (slice_range self.new.bytes self.new.first self.new.last ≡ drop sent (slice_range self.old.bytes self.old.first self.old.last)) }
+        ensures idle { slice_range self.old.bytes self.old.first self.old.last ≡ [] → IsTrue result }
+        ensures front { (sent : ℕ) × (slice_range self.new.bytes self.new.first self.new.last ≡ drop sent (slice_range self.old.bytes self.old.first self.old.last)) }
     {
         for _ in 0..MOST_WRITES {
             let (first, last) = (self.first, self.last);

@@ -1,6 +1,9 @@
 //! Files that are served over HTTP.
-ghost use Rattle.std.specs.Prelude.{◌≡◌, ◌≤◌, ◌<◌, IfSome, IsSomeAnd, IsTrue, length, option_copied, slice_get, string_bytes};
-ghost use Rattle.c8_relay_web.specs.Sites.{Names};
+ghost use Rattle.std.specs.Prelude.{◌≡◌, ◌≤◌, ◌<◌, ◌&&◌, ◌++◌, ◌∷◌, [], IfOk, OnOk, codes, drop, length, nat_eq, option_copied, slice_get, string_bytes};
+ghost use Rattle.std.specs.List.{position, starts_with};
+ghost use Rattle.std.specs.Str.{bytes_eq};
+ghost use Rattle.std.specs.Vec.{vec_len};
+ghost use Rattle.c8_relay_web.specs.Paths.{contains, names, names_tag};
 ghost use Rattle.c8_relay_web.specs.Parts.{part_of};
 
 use crate::site::is_same;
@@ -50,7 +53,10 @@ impl Page {
         path: String,
         kind: &str,
         bytes: &[u8],
-    ) -> Result<Page, AllocError> {
+    ) -> Result<Page, AllocError>
+        ensures path { IfOk result (λ page. page.path ≡ path) }
+        ensures bytes { IfOk result (λ page. drop page.head page.whole.items ≡ bytes.now) }
+    {
         let etag = etag_of(bytes);
         let tag = str::from_utf8(&etag).unwrap_or("");
         let length = bytes.len();
@@ -76,27 +82,18 @@ impl Page {
     }
 
     /// Whether a path of a request names it. A folder's path names its `index.html`.
-    #[tactic(auto, using(crate::proofs::SiteLemmas::joined))]
     pub(crate) fn is_at(&self, path: &[u8]) -> bool
-        ensures { IsTrue result → Names path.now (string_bytes self.now.path) }
+        ensures { result ≡ names path.now (string_bytes self.now.path) }
     {
         let own = self.path.as_bytes();
-        if own.len() <= path.len() {
-            return is_same(own, path);
-        }
-        if !path.ends_with(b"/") {
-            return false;
-        }
-        let (front, rest) = own.split_at(path.len());
-        if !is_same(front, path) {
-            return false;
-        }
-        is_same(rest, INDEX)
+        is_same(own, path) || path.ends_with(b"/") && is_index(own, path)
     }
 
     /// Whether the value of `If-None-Match` names its bytes.
-    pub(crate) fn is_named(&self, tags: &[u8]) -> bool {
-        tags == b"*".as_slice() || contains(tags, &self.etag)
+    pub(crate) fn is_named(&self, tags: &[u8]) -> bool
+        ensures { result ≡ names_tag tags.now self.now.etag }
+    {
+        is_same(tags, b"*") || contains(tags, &self.etag)
     }
 
     /// The bytes of a response.
@@ -113,6 +110,13 @@ impl Page {
 
 /// The file that a folder's path names.
 const INDEX: &[u8] = b"index.html";
+
+/// Whether a text is a folder's path with `index.html` behind it.
+fn is_index(own: &[u8], folder: &[u8]) -> bool
+    ensures { result ≡ (starts_with nat_eq own.now folder.now && bytes_eq (drop (length folder.now) own.now) (codes "index.html")) }
+{
+    own.starts_with(folder) && is_same(&own[folder.len()..], INDEX)
+}
 
 /// The entity tag of a file's bytes: the first bytes of their SHA-256, as digits in quotation marks.
 fn etag_of(bytes: &[u8]) -> [u8; ETAG_LENGTH] {
@@ -137,9 +141,13 @@ fn digit(value: u8) -> u8
 }
 
 /// Whether one text stands in another.
-fn contains(text: &[u8], word: &[u8]) -> bool {
+#[tactic(auto, using(crate::proofs::SiteLemmas::from_place))]
+fn contains(text: &[u8], word: &[u8]) -> bool
+    ensures { result ≡ contains text.now word.now }
+{
     for place in 0..text.len() {
-        if text[place..].starts_with(word) {
+        let (_, rest) = text.split_at(place);
+        if rest.starts_with(word) {
             return true;
         }
     }
@@ -154,33 +162,34 @@ pub struct Pages {
 
 impl Pages {
     /// No files.
-    pub fn none(alloc: Global) -> Pages {
+    pub fn none(alloc: Global) -> Pages
+        ensures { result.pages.items ≡ [] }
+    {
         Pages {
             pages: Vec::new(alloc),
         }
     }
 
     /// Adds a file.
-    pub(crate) fn add(&mut self, page: Page) -> Result<(), AllocError> {
+    pub(crate) fn add(&mut self, page: Page) -> Result<(), AllocError>
+        ensures { OnOk result (self.new.pages.items ≡ self.old.pages.items ++ page ∷ []) }
+    {
         self.pages.push(page)?;
         Ok(())
     }
 
     /// How many files there are.
-    pub fn len(&self) -> usize {
+    pub fn len(&self) -> usize
+        ensures { result ≡ vec_len self.now.pages }
+    {
         self.pages.len()
     }
 
-    /// The place of the page that a path of a request names.
+    /// The place of the first page that a path of a request names.
     pub(crate) fn find(&self, path: &[u8]) -> Option<usize>
-        ensures { IfSome result (λ place. IsSomeAnd (slice_get self.now.pages.items place) (λ page. Names path.now (string_bytes page.path))) }
+        ensures { result ≡ position (λ page. names path.now (string_bytes page.path)) self.now.pages.items }
     {
-        for place in 0..self.pages.len() {
-            if self.pages[place].is_at(path) {
-                return Some(place);
-            }
-        }
-        None
+        self.pages.iter().position(|page| page.is_at(path))
     }
 
     /// The page at a place.

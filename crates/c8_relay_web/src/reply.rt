@@ -1,4 +1,6 @@
 //! Whole responses without a body.
+ghost use Rattle.std.specs.Prelude.{◌≡◌};
+ghost use Rattle.c8_relay_web.specs.Replies.{response_of};
 
 /// Why a request is refused.
 #[derive(Clone, Copy, PartialEq, Eq)]
@@ -19,7 +21,9 @@ pub(crate) enum Refused {
 
 impl Refused {
     /// The response that says so.
-    pub(crate) fn response(self) -> &'static [u8] {
+    pub(crate) fn response(self) -> &'static [u8]
+        ensures { result.now ≡ response_of self }
+    {
         match self {
             Refused::Bad => {
                 b"HTTP/1.1 400 Bad Request\r\ncontent-length: 0\r\nconnection: close\r\n\r\n"

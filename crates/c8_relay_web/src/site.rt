@@ -1,5 +1,8 @@
 //! What a relay serves over HTTP, and to whom.
-ghost use Rattle.std.specs.Prelude.{◌≡◌, ◌≢◌, ◌⊎◌, [], All, Any, IfSome, IsFalse, IsSomeAnd, IsTrue, MatchBool, string_bytes};
+ghost use Rattle.std.specs.Prelude.{◌≡◌, option_map, string_bytes};
+ghost use Rattle.std.specs.List.{list_any};
+ghost use Rattle.std.specs.Str.{bytes_eq};
+ghost use Rattle.c8_relay_web.specs.Sites.{is_admitted};
 
 use crate::page::Pages;
 
@@ -14,37 +17,27 @@ pub struct Site {
 impl Site {
     /// Whether a page of this origin may open a WebSocket. A client that names none counts as one of no origin.
     pub(crate) fn admits(&self, origin: Option<&[u8]>) -> bool
-        ensures any { self.now.origins.items ≡ [] → IsTrue result }
-        ensures named { IsTrue result → (self.now.origins.items ≡ [])
-            ⊎ IsSomeAnd origin.entry (λ it. Any (λ own. string_bytes own ≡ it.now) self.now.origins.items) }
-        ensures others { IsFalse result → IfSome origin.entry (λ it. All (λ own. string_bytes own ≢ it.now) self.now.origins.items) }
+        ensures { result ≡ is_admitted self.now (option_map (λ it. it.now) origin.entry) }
     {
-        if self.origins.is_empty() {
-            return true;
-        }
         match origin {
-            Some(origin) => self.names(origin),
-            None => false,
+            Some(origin) => self.origins.is_empty() || self.names(origin),
+            None => self.origins.is_empty(),
         }
     }
 
     /// Whether an origin is one of those that were named.
     fn names(&self, origin: &[u8]) -> bool
-        ensures { MatchBool result (Any (λ own. string_bytes own ≡ origin.now) self.now.origins.items)
-            (All (λ own. string_bytes own ≢ origin.now) self.now.origins.items) }
+        ensures { result ≡ list_any (λ own. bytes_eq (string_bytes own) origin.now) self.now.origins.items }
     {
-        for own in &self.origins {
-            if is_same(own.as_bytes(), origin) {
-                return true;
-            }
-        }
-        false
+        self.origins
+            .iter()
+            .any(|own| is_same(own.as_bytes(), origin))
     }
 }
 
 /// Whether two texts are the same.
 pub(crate) fn is_same(one: &[u8], other: &[u8]) -> bool
-    ensures { MatchBool result (one.now ≡ other.now) (one.now ≢ other.now) }
+    ensures { result ≡ bytes_eq one.now other.now }
 {
     one == other
 }

@@ -1,5 +1,6 @@
 //! Which connection is asked next.
-ghost use Rattle.std.specs.Prelude.{◌≡◌, ◌⊎◌, ◌++◌, ◌∷◌, [], IfOk, option_to_list};
+ghost use Rattle.std.specs.Prelude.{◌≡◌, ◌⊎◌, ◌++◌, ◌∷◌, ◌≤◌, [], IfOk, IfSome, cond, option_to_list, slice_get};
+ghost use Rattle.std.specs.VecDeque.{deque_capacity, deque_len};
 
 use crate::numbers::MOST_CONNECTIONS;
 use std::alloc::{AllocError, Global};
@@ -34,7 +35,9 @@ impl Turns {
 
     /// Adds a place behind the others, unless it stands there.
     pub(crate) fn add(&mut self, place: usize)
-        ensures { (self.new.queue.items ≡ self.old.queue.items) ⊎ (self.new.queue.items ≡ self.old.queue.items ++ place ∷ []) }
+        ensures stands { IfSome (slice_get self.old.stands.items place) (λ stood. (self.new.queue.items ≡ cond stood self.old.queue.items (self.old.queue.items ++ place ∷ []))
+            ⊎ (deque_capacity self.old.queue ≤ deque_len self.old.queue)) }
+        ensures behind { (self.new.queue.items ≡ self.old.queue.items) ⊎ (self.new.queue.items ≡ self.old.queue.items ++ place ∷ []) }
     {
         if place < self.stands.len() && !self.stands[place] {
             self.stands[place] = self.queue.push_back(place).is_ok();

@@ -1,7 +1,11 @@
 //! All connections.
-ghost use Rattle.std.specs.Prelude.{◌≡◌, ◌≤◌, ◌⊎◌, ◌++◌, ◌∷◌, [], IfSome, IsTrue};
+ghost use Rattle.std.specs.Prelude.{◌≡◌, ◌≤◌, ◌<◌, ◌⊎◌, ◌++◌, ◌∷◌, [], ℕ, IfSome, IsSomeAnd, IsTrue, None, Some, length, slice_get, slice_set};
 ghost use Rattle.std.specs.VecDeque.{deque_capacity, deque_len};
+ghost use Rattle.std.specs.Vec.{vec_capacity};
+ghost use Rattle.websocket.specs.Connection.{max_reply_len};
 ghost use Rattle.c8_relay_web.specs.Connections.{IsConnection};
+ghost use Rattle.c8_relay_web.specs.Steps.{HasPacket, IsFrom, IsSent, KeepsOthers, unread, waiting};
+ghost use Rattle.c8_relay_web.specs.declared.connection.Connection.{Connection};
 
 use crate::connection::{Connection, Guest, Next, network_of};
 use crate::crowd::Crowd;
@@ -183,6 +187,8 @@ impl Web {
 
     /// Frees the place of a connection.
     fn close(&mut self, place: usize, was_open: bool, guest: Guest)
+        ensures freed { place < length self.old.places.items → slice_get self.new.places.items place ≡ Some None }
+        ensures others { KeepsOthers place self.old.places.items self.new.places.items }
         ensures left { IsTrue was_open → (self.new.left.items ≡ self.old.left.items ++ guest ∷ [])
             ⊎ (deque_capacity self.old.left ≤ deque_len self.old.left) }
     {
@@ -213,7 +219,11 @@ impl Web {
     /// Gives a connection its turn.
     fn visit(&mut self, place: usize, packet: &mut [u8; LONGEST_READ]) -> Option<(usize, Address)>
         ensures within { IfSome result (λ next. next.0 ≤ LONGEST_READ) }
-        ensures from { IfSome result (λ next. IsConnection next.1) }
+        ensures from { IfSome result (λ next. IsFrom self.old.places.items place next.1) }
+        ensures served { (connection : Connection) (size : ℕ) → slice_get self.old.places.items place ≡ Some (Some connection) → waiting connection ≡ []
+            → HasPacket connection.stage (unread connection) size → max_reply_len ≤ vec_capacity self.old.shared.frame
+            → IsSomeAnd result (λ next. next.0 ≡ size) }
+        ensures others { KeepsOthers place self.old.places.items self.new.places.items }
     {
         if place >= self.places.len() {
             return None;
@@ -242,7 +252,11 @@ impl Web {
     }
 
     /// Sends a packet to a connection. Returns whether it was taken.
-    pub(crate) fn say(&mut self, to: Address, packet: &[u8]) -> bool {
+    pub(crate) fn say(&mut self, to: Address, packet: &[u8]) -> bool
+        ensures sent { IsTrue result → (place : ℕ) × (connection : Connection) × (after : Connection)
+            × (slice_get self.old.places.items place ≡ Some (Some connection)) × (to ≡ Address.Connection connection.guest.host connection.guest.number)
+            × (self.new.places.items ≡ slice_set self.old.places.items place (Some after)) × IsSent connection after packet.now }
+    {
         let Address::Connection { number, .. } = to else {
             return false;
         };
