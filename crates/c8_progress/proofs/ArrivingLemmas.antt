@@ -27,7 +27,7 @@ use Rattle.c8_world.specs.World.{World, peer_of, journal_of, Do, After, stepped,
 use Rattle.c8_world.specs.Agreement.{IsPlayer, IsUndropped}
 use Rattle.c8_progress.specs.Exchange.{works, links_of}
 use Rattle.c8_progress.specs.Meeting.{IsFresh, hailed, welcomed}
-use Rattle.c8_progress.specs.Rounds.{Run, Arrives}
+use Rattle.c8_progress.specs.Rounds.{Run, Arrives, Welcomes}
 use Rattle.c8_progress.proofs.BringingLemmas.{Brings}
 use Rattle.c8_progress.proofs.MeetingLemmas.{hailed_known, hello_admitted, welcomed_fresh, matched_back, fresh_for}
 use Rattle.c8_progress.proofs.TellingLemmas.{data_of, data_from, MayTell, data_is_told, data_differs}
@@ -88,14 +88,12 @@ own_stays rules room run goes p t stays =
     stays.plays).stays
 
 -- the datagram is there when it is heard
-pub told_then : (rules : Rules) (room : ℕ) (run : Run rules room) (p q : ℕ) (what : Saying) (t u : ℕ) (told : Packet)
-    → (a : Arrives rules room run p q what t u)
-    → slice_get (run.world (suc a.at)).said (length (run.world a.at).said) ≡ Some told
-    → slice_get (run.world a.heard_at).said (length (run.world a.at).said) ≡ Some told
-told_then rules room run p q what t u told a is =
-    let later = a.later in
-    begins_get (run.world (suc a.at)).said (run.world a.heard_at).said (length (run.world a.at).said) told
-    (said_later rules room run (suc a.at) a.heard_at (omega (arith, later))) is
+pub told_then : (rules : Rules) (room : ℕ) (run : Run rules room) (at heard_at : ℕ) (told : Packet) → suc at ≤ heard_at
+    → slice_get (run.world (suc at)).said (length (run.world at).said) ≡ Some told
+    → slice_get (run.world heard_at).said (length (run.world at).said) ≡ Some told
+told_then rules room run at heard_at told later is =
+    begins_get (run.world (suc at)).said (run.world heard_at).said (length (run.world at).said) told
+    (said_later rules room run (suc at) heard_at later) is
 
 -- q's links admit a HELLO of p, and it knows p's epoch from then on
 pub record IsGreeted (rules : Rules) (room : ℕ) (run : Run rules room) (p q t u : ℕ) : Type 0 where
@@ -124,7 +122,7 @@ hello_arrives rules room run goes p q t u one other apart a =
     let up = open_at rules room run goes p n one in
     let said = said_next rules room run p q Hello told n one.plays up a.says
     (λ on_disk. say_on rules p s q Hello on_disk one.plays other.plays apart up (own_stays rules room run goes p n one) refl refl refl) in
-    let is = told_then rules room run p q Hello t u told a said in
+    let is = told_then rules room run n m told (omega (arith, later)) said in
     let matched = matched_across rules room run goes p q n m one other apart (omega (arith, later)) in
     let my_name = (linked_at rules room run goes p n one).me in
     let its_name = (linked_at rules room run goes q m other).me in
@@ -155,23 +153,24 @@ hello_arrives rules room run goes p q t u one other apart a =
 
 -- a WELCOME of a player that knows the present epoch opens the link
 pub welcome_arrives : (rules : Rules) (room : ℕ) (run : Run rules room) → Goes rules room run → (p q t u : ℕ) → Stays rules room run p
-    → Stays rules room run q → p ≢ q → Knows (run.world t) p q → Arrives rules room run p q Welcome t u → Fresh (run.world u) q p
+    → Stays rules room run q → p ≢ q → Knows (run.world t) p q → Welcomes rules room run p q t u → Fresh (run.world u) q p
 welcome_arrives rules room run goes p q t u one other apart knows a =
     let n : ℕ = a.at in
     let m : ℕ = a.heard_at in
+    let from = a.from in
     let later = a.later in
     let before = a.before in
     let s : State = peer_of (run.world n) p in
     let r : State = peer_of (run.world m) q in
     let told : Packet = sayings.packet rules (told_of rules p s.journal) (known_of rules p s.journal) s.memory q Welcome in
     let up = open_at rules room run goes p n one in
-    let knows_now = knows_later rules room run goes p q t n one other apart a.from knows in
+    let knows_now = knows_later rules room run goes p q t n one other apart (omega (arith, from)) knows in
     let some = (linked_at rules room run goes q n other).from_one in
     let linked : ((link_to (links_of (run.world n) p) q).known == 0) ≡ false =
     ne_eqb (link_to (links_of (run.world n) p) q).known 0 (λ e. omega (arith, e, knows_now, some)) in
     let said = said_next rules room run p q Welcome told n one.plays up a.says
     (λ on_disk. say_on rules p s q Welcome on_disk one.plays other.plays apart up (own_stays rules room run goes p n one) refl refl linked) in
-    let is = told_then rules room run p q Welcome t u told a said in
+    let is = told_then rules room run n m told (omega (arith, later)) said in
     let matched = matched_across rules room run goes p q n m one other apart (omega (arith, later)) in
     let my_name = (linked_at rules room run goes p n one).me in
     let its_name = (linked_at rules room run goes q m other).me in
@@ -312,7 +311,7 @@ data_arrives rules room run goes p q t u one other apart fresh back a =
     let told : Packet = data_from rules p s q in
     let said = said_next rules room run p q Data told n one.plays up a.says
     (λ on_disk. say_on rules p s q Data on_disk one.plays other.plays apart up (own_stays rules room run goes p n one) refl refl linked) in
-    let is = told_then rules room run p q Data t u told a said in
+    let is = told_then rules room run n m told (omega (arith, later)) said in
     let may = may_tell rules room run goes p q n m one other apart (omega (arith, later)) fresh_now back_now in
     let done_it = data_is_told rules p s q r may (same_marks rules room run goes p q (length (run.world n).said) m s one other may is) in
     let here = heard_next rules room run goes q (length (run.world n).said) told m other a.hears is in

@@ -3,7 +3,7 @@ use Rattle.std.proofs.Common.{◌≡◌, ◌≢◌, ℕ, zero, suc, ◌+◌, ◌
 use Rattle.std.proofs.lemmas.Bool.{cases_Bool, cases_lt}
 use Rattle.c8_game.specs.Rules.{Rules}
 use Rattle.c8_hand.specs.Links.{link_to}
-use Rattle.c8_peer.specs.State.{Saying, Hello, Welcome}
+use Rattle.c8_peer.specs.State.{Saying, Hello}
 use Rattle.c8_world.specs.World.{peer_of}
 use Rattle.c8_world.specs.Agreement.{Names}
 use Rattle.c8_progress.specs.Exchange.{links_of}
@@ -35,7 +35,7 @@ spoke_before rules room run n (suc i) p r less stays = (turn_of rules room run n
 -- what is due in a turn arrives
 pub due_arrives : (rules : Rules) (room : ℕ) (run : Run rules room) → Goes rules room run → (n i p q : ℕ) (r : FairRounds rules room run n)
     (what : Saying) → i < n → Stays rules room run p → Stays rules room run q → p ≢ q
-    → IsDue (IsHailed rules room run p q (spoke r.speak i p) (r.speak i p)) p (peer_of (run.world (r.speak i p)) p) q what
+    → IsDue p (peer_of (run.world (r.speak i p)) p) q what
     → Arrives rules room run p q what (r.speak i p) (r.begin (suc i))
 due_arrives rules room run goes n i p q r what less one other apart due =
     (turn_of rules room run n i p r less one).says q what other.plays (λ e. apart (sym e)) (undropped_at rules room run goes q (r.speak i p) other)
@@ -165,14 +165,14 @@ both_know rules room run goes n p q r less one other apart =
     ))
     (first_round rules room run goes n p q r (omega (arith, less)) one other apart)
 
--- a greeting that came before a turn is answered in it
+-- a greeting that came before a turn is answered by the end of its round, or it need not be
 welcomes_in : (rules : Rules) (room : ℕ) (run : Run rules room) → Goes rules room run → (n i p q t u : ℕ) (r : FairRounds rules room run n) → i < n
-    → Stays rules room run p → Stays rules room run q → p ≢ q → Knows (run.world (r.begin i)) q p → (g : IsGreeted rules room run p q t u)
-    → spoke r.speak i q ≤ g.at → g.at < r.speak i q → Fresh (run.world (r.begin (suc i))) p q
-welcomes_in rules room run goes n i p q t u r less one other apart knows g from before =
+    → Stays rules room run p → Stays rules room run q → p ≢ q → (g : IsGreeted rules room run p q t u) → Knows (run.world g.at) p q
+    → Knows (run.world g.at) q p → spoke r.speak i q ≤ g.at → g.at < r.speak i q → Fresh (run.world (r.begin (suc i))) p q
+welcomes_in rules room run goes n i p q t u r less one other apart g knows its from before =
     let back : q ≢ p = λ e. apart (sym e) in
     let turn = turn_of rules room run n i q r less other in
-    let now = knows_later rules room run goes q p (r.begin i) (r.speak i q) other one back turn.from knows in
+    let to = turn.to in
     let hailed : IsHailed rules room run q p (spoke r.speak i q) (r.speak i q) = record {
       at = g.at;
       after = from;
@@ -185,8 +185,11 @@ welcomes_in rules room run goes n i p q t u r less one other apart knows g from 
       sender = g.sender;
       admitted = g.admitted;
     } in
-    welcome_arrives rules room run goes q p (r.speak i q) (r.begin (suc i)) other one back now
-    (due_arrives rules room run goes n i q p r Welcome less other one back hailed)
+    ⊎_elim
+    (λ welcomes. welcome_arrives rules room run goes q p g.at (r.begin (suc i)) other one back its welcomes)
+    (λ is_open. fresh_by rules room run goes p q (r.begin (suc i)) other
+    (knows_later rules room run goes p q g.at (r.begin (suc i)) one other apart (omega (arith, before, to)) knows) is_open)
+    (turn.answers p one.plays apart hailed (undropped_at rules room run goes p g.at one))
 
 -- two more rounds after both know the other's epoch
 opens : (rules : Rules) (room : ℕ) (run : Run rules room) → Goes rules room run → (n p q : ℕ) (r : FairRounds rules room run n) → 3 < n
@@ -198,7 +201,6 @@ opens rules room run goes n p q r less one other apart knows its =
     let p_to : r.speak 2 p ≤ r.begin 3 = p_turn.to in
     let q_from = (turn_of rules room run n 3 q r less other).from in
     let q_before : r.speak 1 q ≤ r.begin 2 = spoke_before rules room run n 2 q r (omega (arith, less)) other in
-    let two : r.begin 2 ≤ r.begin 3 = begins_next rules room run n 2 p r (omega (arith, less)) one in
     let three : r.begin 3 ≤ r.begin 4 = begins_next rules room run n 3 p r less one in
     elim (cases_Bool (link_to (links_of (run.world (r.speak 2 p)) p) q).is_open) [
       | inl is_open ↦ fresh_later rules room run goes p q (r.speak 2 p) (r.begin 4) one other (omega (arith, p_to, three))
@@ -209,15 +211,17 @@ opens rules room run goes n p q r less one other apart knows its =
           let after = g.from in
           let before : g.at < r.begin 3 = g.before in
           let back : q ≢ p = λ e. apart (sym e) in
+          let begun : r.begin 2 ≤ g.at = omega (arith, p_from, after) in
+          let mine : Knows (run.world g.at) p q = knows_later rules room run goes p q (r.begin 2) g.at one other apart begun knows in
+          let known : Knows (run.world g.at) q p = knows_later rules room run goes q p (r.begin 2) g.at other one back begun its in
           elim (cases_lt g.at (r.speak 2 q)) [
             | inl early ↦
-                let since : r.speak 1 q ≤ g.at = omega (arith, q_before, p_from, after) in
+                let since : r.speak 1 q ≤ g.at = omega (arith, q_before, begun) in
                 fresh_later rules room run goes p q (r.begin 3) (r.begin 4) one other three
-                (welcomes_in rules room run goes n 2 p q (r.speak 2 p) (r.begin 3) r (omega (arith, less)) one other apart its g since early)
+                (welcomes_in rules room run goes n 2 p q (r.speak 2 p) (r.begin 3) r (omega (arith, less)) one other apart g mine known since early)
             | inr late ↦
                 let in_time : g.at < r.speak 3 q = omega (arith, before, q_from) in
-                welcomes_in rules room run goes n 3 p q (r.speak 2 p) (r.begin 3) r less one other apart
-                (knows_later rules room run goes q p (r.begin 2) (r.begin 3) other one back two its) g late in_time
+                welcomes_in rules room run goes n 3 p q (r.speak 2 p) (r.begin 3) r less one other apart g mine known late in_time
           ]
     ]
 

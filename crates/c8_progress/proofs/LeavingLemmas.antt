@@ -249,7 +249,8 @@ decided_at rules room run n L t r None long l after uncut =
 cut_or : (rules : Rules) (room : ℕ) (run : Run rules room) (L t u : ℕ) (o : Option ℕ) → Goes rules room run → IsPlayer rules L
     → has_leave L (journal_of (run.world t) 1) ≡ true → suc t ≤ u → cut_of L (journal_of (run.world t) 1) ≡ o
     → (IsCut L (journal_of (run.world t) 1) ⊎ (is_ready (peer_of (run.world t) 1).memory.chair (known_by rules (run.world t) 1) L ≡ true))
-    → ((run.event t ≡ Do (worlds.Decide L)) ⊎ (is_ready (peer_of (run.world t) 1).memory.chair (known_by rules (run.world t) 1) L ≡ false))
+    → ((run.event t ≡ Do (worlds.Decide L))
+    ⊎ ((is_ready (peer_of (run.world t) 1).memory.chair (known_by rules (run.world t) 1) L ≡ false) ⊎ IsCut L (journal_of (run.world t) 1)))
     → IsCut L (journal_of (run.world u) 1)
 cut_or rules room run L t u (Some K) goes leaver leaves up_to cut which decides =
     is_cut_later rules room run goes L 1 t u (first_stays rules room run goes) (omega (arith, up_to)) (K, cut)
@@ -259,7 +260,7 @@ cut_or rules room run L t u None goes leaver leaves up_to uncut which decides =
     (λ cut. is_cut_later rules room run goes L 1 t u first (omega (arith, up_to)) cut)
     (λ yes. ⊎_elim
     (λ event. is_cut_later rules room run goes L 1 (suc t) u first up_to (decides_cut rules room run goes L t leaver leaves uncut yes event))
-    (λ no. absurd (cc (yes, no)))
+    (λ waits. ⊎_elim (λ no. absurd (cc (yes, no))) (λ cut. is_cut_later rules room run goes L 1 t u first (omega (arith, up_to)) cut) waits)
     decides)
     which
 

@@ -1,4 +1,4 @@
--- Links open, drop rounds end, rounds end a match; begin at `match_can_always_end` (OpeningLemmas) and `rounds_end` (RoundLemmas).
+-- Links open, drop rounds end, rounds end a match; begin at `match_can_always_end` (OpeningLemmas) and `ends_by` (FinishingLemmas).
 
 pub mod LawLemmas
 pub mod MeetingLemmas
@@ -36,3 +36,4 @@ pub mod OneLemmas
 pub mod SteadyLemmas
 pub mod PassingLemmas
 pub mod LeavingLemmas
+pub mod FinishingLemmas

@@ -72,7 +72,9 @@ arrives_heard rules room run goes p q t u what told one other a says =
     let up = open_at rules room run goes p a.at one in
     let said = said_next rules room run p q what told a.at one.plays up a.says
     (λ on_disk. say_any rules p (peer_of (run.world a.at) p) q what on_disk up ∙ says) in
-    heard_next rules room run goes q (length (run.world a.at).said) told a.heard_at other a.hears (told_then rules room run p q what t u told a said)
+    let later = a.later in
+    heard_next rules room run goes q (length (run.world a.at).said) told a.heard_at other a.hears
+    (told_then rules room run a.at a.heard_at told (omega (arith, later)) said)
 
 can_tell : (rules : Rules) (room : ℕ) (run : Run rules room) → Goes rules room run → (p q n m : ℕ) → Stays rules room run p → Stays rules room run q
     → p ≢ q → n ≤ m → Fresh (run.world n) p q → Fresh (run.world n) q p

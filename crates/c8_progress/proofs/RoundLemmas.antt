@@ -261,7 +261,7 @@ rounds_enter rules room run goes n first over_at (suc m) r over past within few 
     (λ t after. hold_confirms rules room run goes over_at (suc m) t q over (omega (arith, past, begun, after)) stays
     (hold_later rules room run goes (suc m) (r.begin i) t after hold)))
 
-few_confirmed : (rules : Rules) (room : ℕ) (run : Run rules room) → Goes rules room run → (t q : ℕ) → Stays rules room run q
+pub few_confirmed : (rules : Rules) (room : ℕ) (run : Run rules room) → Goes rules room run → (t q : ℕ) → Stays rules room run q
     → confirmed (known_by rules (run.world t) q) ≤ rules.frames
 unfolding known_of
 few_confirmed rules room run goes t q stays =

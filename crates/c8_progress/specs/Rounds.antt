@@ -46,15 +46,15 @@ pub record IsHailed (rules : Rules) (room : ℕ) (run : Run rules room) (p q fro
   pub sender : packet.head.from ≡ q
   pub admitted : refusal (links_of (run.world at) p) packet.head ≡ None
 
--- Whether p, in this state, has to say this to q. `hailed`: its links admitted a HELLO of q since it last spoke.
-abbrev pub IsDue : Type 0 → ℕ → State → ℕ → Saying → Type 0
-IsDue hailed p s q Hello = (link_to s.memory.links q).is_open ≡ false
-IsDue hailed p s q Welcome = hailed
-IsDue hailed p s q Data = (link_to s.memory.links q).is_open ≡ true
-IsDue hailed p s q (Freeze leaver) = ((link_to s.memory.links q).is_open ≡ true) × (p ≡ 1) × (has_leave leaver s.journal ≡ true)
+-- Whether p, in this state, has to say this to q. No WELCOME is due by a state: it answers a HELLO, see `answers` of `IsTurn`.
+abbrev pub IsDue : ℕ → State → ℕ → Saying → Type 0
+IsDue p s q Hello = (link_to s.memory.links q).is_open ≡ false
+IsDue p s q Welcome = ⊥
+IsDue p s q Data = (link_to s.memory.links q).is_open ≡ true
+IsDue p s q (Freeze leaver) = ((link_to s.memory.links q).is_open ≡ true) × (p ≡ 1) × (has_leave leaver s.journal ≡ true)
     × (cut_of leaver s.journal ≡ None) × (has_leave q s.journal ≡ false)
-IsDue hailed p s q (Cut leaver) = ((link_to s.memory.links q).is_open ≡ true) × (p ≡ 1) × ((K : ℕ) × (cut_of leaver s.journal ≡ Some K))
-IsDue hailed p s q (Frozen leaver) = ((link_to s.memory.links q).is_open ≡ true) × (q ≡ 1) × (has_freeze leaver s.journal ≡ true)
+IsDue p s q (Cut leaver) = ((link_to s.memory.links q).is_open ≡ true) × (p ≡ 1) × ((K : ℕ) × (cut_of leaver s.journal ≡ Some K))
+IsDue p s q (Frozen leaver) = ((link_to s.memory.links q).is_open ≡ true) × (q ≡ 1) × (has_freeze leaver s.journal ≡ true)
     × (cut_of leaver s.journal ≡ None)
 
 -- At some time from t on p says this to q, in the state that it had at t. Later, but before time u, q hears this datagram.
@@ -63,6 +63,16 @@ pub record Arrives (rules : Rules) (room : ℕ) (run : Run rules room) (p q : �
   pub from : t ≤ at
   pub says : run.event at ≡ Do (Say p q what)
   pub same : peer_of (run.world at) p ≡ peer_of (run.world t) p
+  pub heard_at : ℕ
+  pub later : at < heard_at
+  pub hears : run.event heard_at ≡ Do (Give (length (run.world at).said) q)
+  pub before : heard_at < u
+
+-- After time t p says WELCOME to q, in whatever state it has then. Later, but before time u, q hears this datagram.
+pub record Welcomes (rules : Rules) (room : ℕ) (run : Run rules room) (p q t u : ℕ) : Type 0 where
+  pub at : ℕ
+  pub from : t < at
+  pub says : run.event at ≡ Do (Say p q Welcome)
   pub heard_at : ℕ
   pub later : at < heard_at
   pub hears : run.event heard_at ≡ Do (Give (length (run.world at).said) q)
@@ -77,23 +87,28 @@ pub record Ticks (rules : Rules) (room : ℕ) (run : Run rules room) (p from to 
   pub keys : ℕ
   pub ticks : run.event at ≡ Do (Tick p keys)
 
--- player 1 decides a leaver's cut, or its round is not ready
+-- player 1 decides a leaver's cut, or its round is not ready, or player 1 has cut its list already
 pub record Decides (rules : Rules) (room : ℕ) (run : Run rules room) (leaver from to : ℕ) : Type 0 where
   pub at : ℕ
   pub after : from ≤ at
   pub before : at < to
   pub decides : (run.event at ≡ Do (Decide leaver))
-      ⊎ (is_ready (peer_of (run.world at) 1).memory.chair (known_by rules (run.world at) 1) leaver ≡ false)
+      ⊎ ((is_ready (peer_of (run.world at) 1).memory.chair (known_by rules (run.world at) 1) leaver ≡ false)
+      ⊎ ((K : ℕ) × (cut_of leaver (journal_of (run.world at) 1) ≡ Some K)))
 
--- A turn of p in the round between two times. Before it speaks it ticks, and player 1 decides what is ready. Then it says to each
--- other player what is due, and what it says to undropped players arrives within the round. `last` is when it spoke before.
+-- A turn of p in the round between two times. Before it speaks it ticks (a refused tick counts), and player 1 decides what is ready.
+-- Then it says to each other undropped player what is due, and that arrives within the round. Each HELLO of such a player that p's links
+-- admitted since `last`, when p spoke in the round before, is answered: a WELCOME said after it arrives within the round, whichever turn
+-- says it. That may be lost if the player's link is open when the round ends, since then no HELLO comes again.
 pub record IsTurn (rules : Rules) (room : ℕ) (run : Run rules room) (p last begin speak end : ℕ) : Type 0 where
   pub from : begin ≤ speak
   pub to : speak ≤ end
   pub ticks : Ticks rules room run p begin speak
   pub decides : p ≡ 1 → (leaver : ℕ) → has_leave leaver (journal_of (run.world begin) 1) ≡ true → Decides rules room run leaver begin speak
   pub says : (q : ℕ) (what : Saying) → IsPlayer rules q → q ≢ p → IsUndropped (run.world speak) q
-      → IsDue (IsHailed rules room run p q last speak) p (peer_of (run.world speak) p) q what → Arrives rules room run p q what speak end
+      → IsDue p (peer_of (run.world speak) p) q what → Arrives rules room run p q what speak end
+  pub answers : (q : ℕ) → IsPlayer rules q → q ≢ p → (hello : IsHailed rules room run p q last speak) → IsUndropped (run.world hello.at) q
+      → Welcomes rules room run p q hello.at end ⊎ ((link_to (links_of (run.world end) q) p).is_open ≡ true)
 
 -- when p spoke before a round
 abbrev pub spoke : (ℕ → ℕ → ℕ) → ℕ → ℕ → ℕ
@@ -101,10 +116,26 @@ spoke speak zero p = 0
 spoke speak (suc round) p = speak round p
 
 -- The first rounds of a run, numbered from 0. Each undropped peer makes a turn in each round, in any order, while anything else happens.
+-- A round may have further turns of a peer; this is one of them.
 pub record FairRounds (rules : Rules) (room : ℕ) (run : Run rules room) (rounds : ℕ) : Type 0 where
   pub begin : ℕ → ℕ
   pub speak : ℕ → ℕ → ℕ
   pub turns : (round p : ℕ) → round < rounds → IsPlayer rules p → IsUndropped (run.world 0) p
+      → IsTurn rules room run p (spoke speak round p) (begin round) (speak round p) (begin (suc round))
+
+-- a player that was not dropped has not confirmed all frames
+pub record GoesOn (rules : Rules) (w : World) : Type 0 where
+  pub player : ℕ
+  pub plays : IsPlayer rules player
+  pub undropped : IsUndropped w player
+  pub lacks : confirmed (known_by rules w player) ≢ rules.frames
+
+-- The same, but turns are wanted only in rounds at whose beginning the match still goes on. Programs end some time after that.
+pub record FairMatch (rules : Rules) (room : ℕ) (run : Run rules room) (rounds : ℕ) : Type 0 where
+  pub begin : ℕ → ℕ
+  pub speak : ℕ → ℕ → ℕ
+  pub order : (round : ℕ) → round < rounds → begin round ≤ begin (suc round)
+  pub turns : (round p : ℕ) → round < rounds → GoesOn rules (run.world (begin round)) → IsPlayer rules p → IsUndropped (run.world 0) p
       → IsTurn rules room run p (spoke speak round p) (begin round) (speak round p) (begin (suc round))
 
 -- No drop round is under way: each undropped peer has cut the list of each player that was dropped. So it is if nobody was dropped.

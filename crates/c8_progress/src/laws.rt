@@ -12,7 +12,7 @@ ghost use Rattle.c8_world.specs.Agreement.{IsPlayer, IsUndropped};
 ghost use Rattle.c8_progress.specs.Ending.{CanAlwaysEnd};
 ghost use Rattle.c8_progress.specs.Exchange.{links_of, got_on, GetOn, Greets};
 ghost use Rattle.c8_progress.specs.Meeting.{AreMatched, IsFresh, Meets, met, met_in_turns};
-ghost use Rattle.c8_progress.specs.Rounds.{Run, IsCalm, FairRounds, DropsAreOver, IsKept, LinksAreOpen};
+ghost use Rattle.c8_progress.specs.Rounds.{Run, IsCalm, FairRounds, FairMatch, DropsAreOver, IsKept, LinksAreOpen};
 
 use c8_world::laws::{any_two_moments_agree, openings_find_journals};
 
@@ -107,16 +107,17 @@ pub fn four_fair_rounds_open_links()
 
 /// Fair rounds end a match: every undropped player has confirmed all frames, for good.
 ///
-/// The run begins in any reached world in which every undropped peer is open, whatever happened before.
+/// The run begins in any reached world in which every undropped peer is open, whatever happened before. A round needs turns only
+/// if some undropped player lacks frames when it begins, so programs may end after that.
 ///
 /// - `all`: after eight rounds and three a frame; drop rounds may be under way.
 /// - `over`: after three rounds and three a frame, if no drop round is under way, as in a match in which nobody was dropped.
 pub fn fair_rounds_end_a_match()
-    ensures all { (rules : Rules) (room : ℕ) (run : Run rules room) (rounds : FairRounds rules room run (8 + 3 * rules.frames)) (p t : ℕ)
+    ensures all { (rules : Rules) (room : ℕ) (run : Run rules room) (rounds : FairMatch rules room run (8 + 3 * rules.frames)) (p t : ℕ)
         → AreInRange rules → room < 2 ^ 64 → IsReached rules room (run.world 0) → IsCalm rules room run
         → IsPlayer rules p → IsUndropped (run.world 0) p
         → rounds.begin (8 + 3 * rules.frames) ≤ t → confirmed (known_by rules (run.world t) p) ≡ rules.frames }
-    ensures over { (rules : Rules) (room : ℕ) (run : Run rules room) (rounds : FairRounds rules room run (3 + 3 * rules.frames)) (p t : ℕ)
+    ensures over { (rules : Rules) (room : ℕ) (run : Run rules room) (rounds : FairMatch rules room run (3 + 3 * rules.frames)) (p t : ℕ)
         → AreInRange rules → room < 2 ^ 64 → IsReached rules room (run.world 0) → IsCalm rules room run
         → DropsAreOver rules (run.world 0)
         → IsPlayer rules p → IsUndropped (run.world 0) p

@@ -35,7 +35,10 @@ pub record Parts : Type 0 where
 abbrev pub parts_of : RequestHead → Parts
 parts_of head =
     record {
-      method = head.method; target = head.target; minor = head.minor; fields = map name_and_value head.fields;
+      method = head.method;
+      target = head.target;
+      minor = head.minor;
+      fields = map name_and_value head.fields;
       size = length (print_request head);
     }
 

@@ -1,21 +1,25 @@
 -- Fair rounds bring every undropped player to the end of the match; for readers of README and PROOFS.
-use Rattle.std.proofs.Common.{◌≡◌, ◌≤◌, ◌<◌, ◌+◌, ◌*◌, ℕ, arith}
+use Rattle.std.proofs.Common.{◌≡◌, ◌+◌, ◌*◌, ℕ, arith}
 use Rattle.c8_progress.proofs.LawLemmas.{all_laws}
-use Rattle.c8_progress.proofs.CalmLemmas.{Goes}
+use Rattle.c8_progress.proofs.CalmLemmas.{Goes, Stays}
 use Rattle.c8_progress.proofs.LeavingLemmas.{drops_end}
 use Rattle.c8_progress.proofs.RoundLemmas.{rounds_end}
+use Rattle.c8_progress.proofs.FinishingLemmas.{ends_by}
 use Rattle.c8_progress.proofs.laws.fair_rounds_end_a_match.Goals as goal
 
 pub returns-clause-over : goal.returns-clause-over
 returns-clause-over c = λ rules room run rounds p t range low reached calm over plays stays late.
-    let same : 3 + 3 * rules.frames ≡ 3 + 0 + 3 * rules.frames = omega arith in
-    rounds_end rules room run
-    (record {
+    let n : ℕ = 3 + 3 * rules.frames in
+    let goes : Goes rules room run = record {
       range = range;
       laws = all_laws rules room range low c.any_two_moments_agree.ensures c.openings_find_journals.ensures.journals;
       reached = reached;
       calm = calm;
-    }) (3 + 3 * rules.frames) 0 0 rounds same over (omega arith) t p late (record { plays = plays; undropped = stays })
+    } in
+    let player : Stays rules room run p = record { plays = plays; undropped = stays } in
+    let same : n ≡ 3 + 0 + 3 * rules.frames = omega arith in
+    ends_by rules room run goes n p t rounds late player
+    (λ fair ended. rounds_end rules room run goes n 0 0 fair same over (omega arith) t p ended player)
 
 pub returns-clause-all : goal.returns-clause-all
 returns-clause-all c = λ rules room run rounds p t range low reached calm plays stays late.
@@ -26,8 +30,9 @@ returns-clause-all c = λ rules room run rounds p t range low reached calm plays
       reached = reached;
       calm = calm;
     } in
+    let player : Stays rules room run p = record { plays = plays; undropped = stays } in
     let frames = range.some_frames in
     let same : n ≡ 3 + 5 + 3 * rules.frames = omega arith in
-    let past : rounds.begin 11 ≤ rounds.begin 11 = omega arith in
-    rounds_end rules room run goes n 5 (rounds.begin 11) rounds same (drops_end rules room run goes n rounds (omega (arith, frames))) past t p late
-    (record { plays = plays; undropped = stays })
+    ends_by rules room run goes n p t rounds late player
+    (λ fair ended. rounds_end rules room run goes n 5 (fair.begin 11) fair same
+    (drops_end rules room run goes n fair (omega (arith, frames))) (omega arith) t p ended player)

@@ -17,7 +17,11 @@ returns c =
     let tags : Option (List ℕ) = header_value (fields_of input (take head.headers c.args.spans.now)) (codes "If-None-Match") in
     let tagged : option_map (λ it. it.now) c.field-tags.result ≡ tags = search rules in
     let gets : c.is_same-is_get.result ≡ bytes_eq (span_bytes input head.method) (codes "GET") = search rules in
-    let path : c.without_query-path.result.now ≡ path_of (span_bytes input head.path) = search rules in
-    (search rules, search rules, ap (λ (p : List ℕ). place_in c.args.site.now.pages.pages.items p) (sym path) ∙ sym c.in-Some.ensures, c.part_of.ensures
-      ∙ ap (λ (t : Option (List ℕ)). cond (has_tag t page) Unchanged (cond c.is_same-is_get.result Whole Head)) tagged
-      ∙ ap (λ (b : Bool). cond (has_tag tags page) Unchanged (cond b Whole Head)) gets)
+    let path : c.without_query-path.result.now ≡ path_of (span_bytes input head.path) = search rules in (
+      search rules,
+      search rules,
+      ap (λ (p : List ℕ). place_in c.args.site.now.pages.pages.items p) (sym path) ∙ sym c.in-Some.ensures,
+      c.part_of.ensures
+          ∙ ap (λ (t : Option (List ℕ)). cond (has_tag t page) Unchanged (cond c.is_same-is_get.result Whole Head)) tagged
+          ∙ ap (λ (b : Bool). cond (has_tag tags page) Unchanged (cond b Whole Head)) gets,
+    )
