@@ -179,6 +179,8 @@ def damaged(bench, site, caster, rows):
     page = started(bench, site, "other")
     says(page, "state", "Live.")
     other.rows = [(0x10, 0x8000)] * len(rows)
+    # this server tells files apart by the second in which they were written
+    time.sleep(1.1)
     other.write(760)
     says(page, "state", "The files are damaged: frame 600 has changed.")
     other.put("tail.bin", b"\0")
