@@ -177,7 +177,8 @@ impl<F: Folder> Cast<F> {
     }
 }
 
-/// Returns whether there are as many rows as a tail says. `Differs` if it is not the tail of so many of them.
+/// Returns whether the rows reach the count that a tail names. `Differs` if they do and their tail has other bytes, or if
+/// the tail is too short to name a count.
 fn reaches(alloc: Global, players: usize, rows: &[Row], tail: &Spelled) -> Result<bool, CastError>
     requires { players ≤ MOST_PLAYERS }
     ensures { IfOk result (λ reaches. reaches ≡ true → IsTailOf players rows.now tail.now) }

@@ -18,4 +18,4 @@ pub use cast::Cast;
 pub use error::CastError;
 pub use folder::{Folder, Spelled};
 pub use folder_at::FolderAt;
-pub use spelling::{CHUNK_ROWS, TAIL_HEAD};
+pub use spelling::CHUNK_ROWS;

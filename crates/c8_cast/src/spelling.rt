@@ -10,9 +10,6 @@ use std::alloc::{AllocError, Global};
 /// How many rows a chunk has.
 pub const CHUNK_ROWS: usize = 600;
 
-/// How many bytes a tail has in front of its rows: the number of all rows.
-pub const TAIL_HEAD: usize = 4;
-
 /// Spells the rows of a chunk.
 pub(crate) fn chunk_of(alloc: Global, players: usize, rows: &[Row]) -> Result<Spelled, CastError>
     requires { players ≤ MOST_PLAYERS }
