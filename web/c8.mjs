@@ -29,6 +29,9 @@ export const CLOSED = 101, NOT_SEALED = 103, SEEN_BEFORE = 104, BAD_SECRET = 105
 /** The kinds of `say`. */
 export const HELLO = 0, WELCOME = 1, DATA = 2, FREEZE = 3, FROZEN = 4, CUT = 5;
 
+/** The kinds of events. */
+export const EVENT_LINKED = 1, EVENT_INTERRUPTED = 2, EVENT_RESUMED = 3, EVENT_DROPPED = 4, EVENT_DESYNC = 5, EVENT_ENDED = 6;
+
 /** What an input of a row is, for `status`. */
 export const PREDICTED = 0, HELD = 1, EMPTY = 2;
 
@@ -333,6 +336,35 @@ export class Session {
   /** @param {number} watcher 5 or 6 */
   watched(watcher) {
     return this.#calls.c8_watched(this.#at, watcher);
+  }
+
+  /** How many ticks to leave out in this frame: once a frame, before the tick. */
+  wait() {
+    return this.#calls.c8_wait(this.#at);
+  }
+
+  /** From now on player 1 drops a player who was silent for `later` turns, and one that was never heard for `first`.
+   * @param {number} first turns since the opening, 0 for never
+   * @param {number} later turns, 0 for never
+   */
+  patience(first, later) {
+    return this.#calls.c8_patience(this.#at, first, later);
+  }
+
+  /** The match ends after this many frames.
+   * @param {number} frames
+   */
+  end(frames) {
+    return this.#calls.c8_end(this.#at, frames);
+  }
+
+  /** The oldest event that waits; null if there is none.
+   * @returns {{ kind: number, player: number, frame: number } | null}
+   */
+  event() {
+    const { words } = this.#c8;
+    if (!this.#calls.c8_event(this.#at, this.#c8.output)) return null;
+    return { kind: words.getUint8(OUTPUT), player: words.getUint8(OUTPUT + 1), frame: words.getUint32(OUTPUT + 4, true) };
   }
 
   /** What the input of each player in the best row of a frame is.

@@ -1,22 +1,26 @@
 // @ts-check
 /**
- * Where a browser keeps the journal of a match: in the private files of the page's origin, whose calls wait for the disk; or, for a
- * page that is not secure and has none, in a database of the browser (IndexedDB). There a write counts once its transaction is done,
- * so packets wait for `saved` before they are sent.
+ * Where a browser keeps the journal of a match: in the private files of the page's origin; or, for a page that is not secure and has
+ * none, in a database of the browser (IndexedDB). Neither lets a frame wait for the disk. A write counts once it is saved, so packets
+ * wait for `saved` before they are sent.
  * @module
  */
 import { LOCKED, Refusal } from './c8.mjs';
 
 /** @typedef {import('./c8.mjs').JournalFile} JournalFile */
 
+/** @typedef {import('./keeper.mjs').Step} Step */
+/** @typedef {import('./keeper.mjs').Asked} Asked */
+/** @typedef {import('./keeper.mjs').Answer} Answer */
+
 /**
  * A journal's file. `saved` waits until all that was written stands on the disk; it fails if that failed, or if another window has
  * opened the journal since. `content` is for after the match.
- * @typedef {JournalFile & { saved: () => Promise<void>, content: () => Promise<Uint8Array> }} Journal
+ * @typedef {JournalFile & { saved: () => Promise<void>, content: () => Uint8Array }} Journal
  */
 
-/** How long a file is waited for that another page has open, as the page that was reloaded has for a moment. */
-const RELEASE = 3000, PAUSE = 100;
+/** The bytes of a part of a journal in the database. */
+const PART = 4096;
 
 /** A journal that nobody opened for this long is removed. */
 const MONTH = 30 * 24 * 3600 * 1000;
@@ -31,39 +35,109 @@ export async function openJournal(name) {
   return await openFile(name) ?? await Database.open(name).catch(() => null);
 }
 
+// ---- what both have in common
+
+/** The bytes of a journal, which are here and are kept elsewhere. */
+class Held {
+  /** @param {Uint8Array} bytes */
+  constructor(bytes) {
+    this.size = bytes.length;
+    this.bytes = new Uint8Array(2 * this.size + PART);
+    this.bytes.set(bytes);
+  }
+
+  /** @param {Uint8Array} bytes @param {{ at: number }} options */
+  read(bytes, { at }) {
+    const part = this.bytes.subarray(at, Math.min(this.size, at + bytes.length));
+    bytes.set(part);
+    return part.length;
+  }
+
+  /** @param {Uint8Array} bytes @param {{ at: number }} options */
+  write(bytes, { at }) {
+    const end = at + bytes.length;
+    if (end > this.bytes.length) {
+      const room = new Uint8Array(2 * end);
+      room.set(this.bytes);
+      this.bytes = room;
+    }
+    this.bytes.set(bytes, at);
+    this.size = Math.max(this.size, end);
+    return bytes.length;
+  }
+
+  getSize() {
+    return this.size;
+  }
+
+  flush() {}
+
+  close() {}
+
+  content() {
+    return this.bytes.slice(0, this.size);
+  }
+}
+
 // ---- files
 
 /** @param {string} name @returns {Promise<Journal | null>} */
 async function openFile(name) {
   const folder = await navigator.storage?.getDirectory?.().catch(() => null);
-  if (!folder) return null;
+  if (!folder || !globalThis.Worker) return null;
   await removeOldFiles(folder);
-  /** @type {any} */
-  const entry = await folder.getFileHandle(name, { create: true });
-  if (!entry.createSyncAccessHandle) return null;
-  const file = await firstOf(entry);
-  return file && {
-    read: (bytes, options) => file.read(bytes, options),
-    write: (bytes, options) => file.write(bytes, options),
-    getSize: () => file.getSize(),
-    flush: () => file.flush(),
-    close: () => file.close(),
-    saved: async () => {},
-    content: async () => new Uint8Array(await (await entry.getFile()).arrayBuffer()),
-  };
+  const keeper = new Keeper(), opened = await keeper.ask({ name });
+  if (opened.taken) throw new Refusal(LOCKED, TAKEN);
+  return opened.bytes ? new Kept(keeper, opened.bytes) : null;
 }
 
-/** The handle of a file, which only one page can have.
- * @param {any} entry
- */
-async function firstOf(entry) {
-  for (const end = performance.now() + RELEASE; ; await new Promise(done => setTimeout(done, PAUSE))) {
-    try {
-      return await entry.createSyncAccessHandle();
-    } catch (error) {
-      if (/** @type {Error} */ (error).name !== 'NoModificationAllowedError') return null;
-      if (performance.now() > end) throw new Refusal(LOCKED, TAKEN);
-    }
+/** The worker that has a journal's file: it waits for the disk, so that no frame does. It answers each message, in order. */
+class Keeper {
+  constructor() {
+    /** @type {((answer: Answer) => void)[]} */
+    this.asked = [];
+    this.worker = new Worker(new URL('keeper.mjs', import.meta.url), { type: 'module' });
+    this.worker.onmessage = ({ data }) => this.asked.shift()?.(data);
+    this.worker.onerror = ({ message }) => {
+      for (const it of this.asked.splice(0)) it({ failed: message || 'The browser has no modules in workers.' });
+    };
+  }
+
+  /** @param {Asked} message @returns {Promise<Answer>} */
+  ask(message) {
+    return new Promise(done => { this.asked.push(done); this.worker.postMessage(message); });
+  }
+}
+
+/** A journal in a file. Its keeper writes the same bytes, and waits for the disk, in the order in which that was asked for here.
+ * @implements {Journal} */
+class Kept extends Held {
+  /** @param {Keeper} keeper @param {Uint8Array} bytes */
+  constructor(keeper, bytes) {
+    super(bytes);
+    this.keeper = keeper;
+    /** @type {Step[]} */
+    this.steps = [];
+  }
+
+  /** @param {Uint8Array} bytes @param {{ at: number }} options */
+  write(bytes, { at }) {
+    this.steps.push({ at, bytes: bytes.slice() });
+    return super.write(bytes, { at });
+  }
+
+  flush() {
+    this.steps.push(null);
+  }
+
+  close() {
+    this.keeper.ask({ steps: this.steps.splice(0), closes: true });
+  }
+
+  async saved() {
+    if (!this.steps.length) return;
+    const { failed } = await this.keeper.ask({ steps: this.steps.splice(0) });
+    if (failed) throw new Error(failed);
   }
 }
 
@@ -77,7 +151,7 @@ async function removeOldFiles(folder) {
 
 // ---- the database: parts of journals, and for each journal who opened it last
 
-const PART = 4096, PARTS = 'parts', OWNERS = 'owners';
+const PARTS = 'parts', OWNERS = 'owners';
 
 /** What a request or a transaction comes to.
  * @param {any} asked
@@ -93,20 +167,25 @@ const done = asked => new Promise((resolve, reject) => {
  */
 const partsOf = name => IDBKeyRange.bound([name, 0], [name, Infinity]);
 
+/** @param {Uint8Array[]} parts each of PART bytes, but for the last */
+function joined(parts) {
+  const bytes = new Uint8Array(parts.reduce((sum, it) => sum + it.length, 0));
+  parts.forEach((it, place) => bytes.set(it, place * PART));
+  return bytes;
+}
+
 /** @implements {Journal} */
-class Database {
+class Database extends Held {
   /**
    * @param {IDBDatabase} base
    * @param {string} name
    * @param {Uint8Array[]} parts
    */
   constructor(base, name, parts) {
+    super(joined(parts));
     this.base = base;
     this.name = name;
     this.token = crypto.getRandomValues(new Uint32Array(4)).join();
-    this.size = parts.reduce((sum, it) => sum + it.length, 0);
-    this.bytes = new Uint8Array(2 * this.size + PART);
-    parts.forEach((it, place) => this.bytes.set(it, place * PART));
     /** Parts that were written and not saved.
      * @type {Set<number>} */
     this.changed = new Set();
@@ -137,33 +216,10 @@ class Database {
   }
 
   /** @param {Uint8Array} bytes @param {{ at: number }} options */
-  read(bytes, { at }) {
-    const part = this.bytes.subarray(at, Math.min(this.size, at + bytes.length));
-    bytes.set(part);
-    return part.length;
-  }
-
-  /** @param {Uint8Array} bytes @param {{ at: number }} options */
   write(bytes, { at }) {
-    const end = at + bytes.length;
-    if (end > this.bytes.length) {
-      const room = new Uint8Array(2 * end);
-      room.set(this.bytes);
-      this.bytes = room;
-    }
-    this.bytes.set(bytes, at);
-    this.size = Math.max(this.size, end);
-    for (let part = Math.floor(at / PART); part * PART < end; part++) this.changed.add(part);
-    return bytes.length;
+    for (let part = Math.floor(at / PART); part * PART < at + bytes.length; part++) this.changed.add(part);
+    return super.write(bytes, { at });
   }
-
-  getSize() {
-    return this.size;
-  }
-
-  flush() {}
-
-  close() {}
 
   async saved() {
     if (!this.changed.size) return;
@@ -176,9 +232,5 @@ class Database {
       for (const { part, bytes } of parts) work.objectStore(PARTS).put(bytes, [this.name, part]);
     };
     await done(work);
-  }
-
-  async content() {
-    return this.bytes.slice(0, this.size);
   }
 }

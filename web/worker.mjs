@@ -291,8 +291,8 @@ async function begin(asked) {
 }
 
 /** Reads the journal after a match. */
-async function readJournal() {
-  post({ is: 'journal', bytes: await journal?.content().catch(() => null) ?? null });
+function readJournal() {
+  post({ is: 'journal', bytes: journal?.content() ?? null });
 }
 
 onmessage = (/** @type {MessageEvent<ToWorker>} */ { data }) => {

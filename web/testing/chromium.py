@@ -15,8 +15,29 @@ FLAGS = ["--headless=new", "--no-sandbox", "--disable-gpu", "--no-first-run", "-
 PATIENCE = 60
 
 
-class Chromium:
-    """A browser with a folder of its own, which it removes at its end."""
+class Browser:
+    """A running browser with a folder of its own, which it removes at its end."""
+
+    run: subprocess.Popen
+    folder: str
+
+    def call(self, method, **params):
+        """Asks the browser for something, and returns its answer."""
+        raise NotImplementedError
+
+    def end(self, method):
+        """Asks the browser to end; one that does not is killed."""
+        try:
+            self.call(method)
+            self.run.wait(10)
+        except (OSError, EOFError, TimeoutError, RuntimeError, subprocess.TimeoutExpired):
+            self.run.kill()
+            self.run.wait()
+        shutil.rmtree(self.folder, ignore_errors=True)
+
+
+class Chromium(Browser):
+    """Chromium, which is driven over two pipes."""
 
     def __init__(self, program="chromium", size="1280,800", more=()):
         self.folder, self.number, self.rest, self.errors = tempfile.mkdtemp(prefix="c8play-chromium-"), 0, b"", []
@@ -66,15 +87,9 @@ class Chromium:
         return Page(self, url, **more)
 
     def close(self):
-        try:
-            self.call("Browser.close")
-            self.run.wait(10)
-        except (OSError, EOFError, TimeoutError, RuntimeError, subprocess.TimeoutExpired):
-            self.run.kill()
-            self.run.wait()
+        self.end("Browser.close")
         for it in (self.input, self.output):
             os.close(it)
-        shutil.rmtree(self.folder, ignore_errors=True)
 
 
 class Shown:

@@ -163,12 +163,17 @@ RELAY = """(async () => {
 })()"""
 
 
-def answers(bench):
-    """The page says JOINs for both of its seats, and does with each answer of a relay what PROTOCOL says. The relay is one of this test."""
+def told(bench, script):
+    """What a script says in an empty page, as an object; the fault as its first part if it fails. And the page."""
     page = bench.browser.page(f"http://127.0.0.1:{bench.port}/none.game")
     bench.shown.append(page)
-    said = page.value(RELAY)
-    came = json.loads(said) if said.startswith("{") else {"seen": said}
+    said = page.value(script)
+    return page, json.loads(said) if said.startswith("{") else {"fault": said}
+
+
+def answers(bench):
+    """The page says JOINs for both of its seats, and does with each answer of a relay what PROTOCOL says. The relay is one of this test."""
+    page, came = told(bench, RELAY)
     joins = lambda cookie: f"0 40 0 {cookie},1 40 100 {cookie}"
     several = lambda count, cookie=9: ",".join([joins(cookie)] * count)
     wanted = [
@@ -178,7 +183,7 @@ def answers(bench):
         [several(4), "busy"], [several(1), "joined"], [f"{joins(9)},{joins(7)}", ""], [joins(7), "full"],
         # five seconds without an answer; then another connection, which begins again
         [several(5, 7), ""], ["", "away"], [joins(7), ""]]
-    check("what the page says to a relay", came["seen"] == wanted, came["seen"], wanted)
+    check("what the page says to a relay", came.get("seen") == wanted, came, wanted)
     check("what it carries", came.get("carried") == ["67,56,1", "1,2,3"], came.get("carried"))
     check("how often it connects", (came.get("count"), came.get("urls")) == (2, "ws://relay,ws://relay"), came)
     page.close()
@@ -220,13 +225,10 @@ PACE = """(async () => {
 
 def pace(bench):
     """When frames are due; and which ticks a player leaves out that is ahead of the others."""
-    page = bench.browser.page(f"http://127.0.0.1:{bench.port}/none.game")
-    bench.shown.append(page)
-    said = page.value(PACE)
-    came = json.loads(said) if said.startswith("{") else {"due": said}
+    _, came = told(bench, PACE)
     frame = 1000 / 60
     near = lambda one, other: len(one) == len(other) and all(abs(a - b) < 0.001 for a, b in zip(one, other))
-    check("when frames are due", near(came["due"], [100 + it * frame for it in range(4)]), came["due"])
+    check("when frames are due", near(came.get("due", []), [100 + it * frame for it in range(4)]), came)
     # after the late one the clock begins again where it was begun
     check("frames that are late", near(came.get("late", []), [frame, 6.5 * frame]), came.get("late"))
     check("which ticks are left out", came.get("left") == [189, 249], came.get("left"))

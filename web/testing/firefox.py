@@ -3,14 +3,13 @@ import base64
 import json
 import os
 import re
-import shutil
 import socket
 import struct
 import subprocess
 import tempfile
 import time
 
-from chromium import PATIENCE, Shown
+from chromium import PATIENCE, Browser, Shown
 
 PROGRAM = "firefox-esr"
 TEXT, CLOSE, PING, PONG = 1, 8, 9, 10
@@ -66,8 +65,8 @@ class Wire:
                     return message
 
 
-class Firefox:
-    """A browser with a profile of its own, which it removes at its end."""
+class Firefox(Browser):
+    """Firefox, which is driven over a WebSocket."""
 
     def __init__(self):
         self.folder, self.number, self.errors = tempfile.mkdtemp(prefix="c8play-firefox-"), 0, []
@@ -104,14 +103,8 @@ class Firefox:
         return Tab(self, url)
 
     def close(self):
-        try:
-            self.call("browser.close")
-            self.run.wait(10)
-        except (OSError, EOFError, TimeoutError, RuntimeError, subprocess.TimeoutExpired):
-            self.run.kill()
-            self.run.wait()
+        self.end("browser.close")
         self.said.close()
-        shutil.rmtree(self.folder, ignore_errors=True)
 
 
 class Tab(Shown):

@@ -110,7 +110,7 @@ def host(bench):
     bench.next_room()
     port, shim, link = free_port(), None, bench.link(2)
     game = shutil.copy(f"{bench.pages}/rally.game", f"{bench.folder}/rally.game")
-    words = [program, "host", game, "--secret", secret, "--room", str(bench.room), "--mute"]
+    words = [program, "host", game, "--secret", secret, "--room", str(bench.room), "--mute", "--report"]
     if has_relay:
         words += ["--relay", f"127.0.0.1:{bench.port}"]
     else:

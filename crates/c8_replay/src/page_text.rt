@@ -10,29 +10,66 @@ pub(crate) const BEFORE_PLAYERS: &str = r##"<!doctype html>
 <meta name="color-scheme" content="light dark">
 <title>c8play replay</title>
 <style>
-:root { color-scheme: light dark; --paper: #f6f4ee; --raised: #ffffff; --ink: #22201c; --soft: #605b52; --line: #d8d3c7; --main: #1f5f4a; --on-main: #ffffff; --warn: #8a3b12; --dark: #fbfaf6; --lit: #24221e; --focus: #1a66c9; font: 17px/1.5 system-ui, sans-serif; }
-@media (prefers-color-scheme: dark) { :root { --paper: #171614; --raised: #24221f; --ink: #ece8df; --soft: #aaa498; --line: #3a3732; --main: #8fd3b6; --on-main: #10231b; --warn: #f0a878; --dark: #0f0e0d; --lit: #f1ead9; --focus: #86b7ff; } }
+/* Two palettes; contrast of texts is at least 4.5 to 1 in both. The picture has the colors of the page: ink on paper. */
+:root {
+  color-scheme: light dark;
+  --paper: #f6f4ee;
+  --raised: #ffffff;
+  --ink: #22201c;
+  --soft: #605b52;
+  --line: #d8d3c7;
+  --main: #1f5f4a;
+  --on-main: #ffffff;
+  --warn: #8a3b12;
+  --dark: #fbfaf6;
+  --lit: #24221e;
+  --focus: #1a66c9;
+  font: 17px/1.5 system-ui, sans-serif;
+}
+
+@media (prefers-color-scheme: dark) {
+  :root {
+    --paper: #171614;
+    --raised: #24221f;
+    --ink: #ece8df;
+    --soft: #aaa498;
+    --line: #3a3732;
+    --main: #8fd3b6;
+    --on-main: #10231b;
+    --warn: #f0a878;
+    --dark: #0f0e0d;
+    --lit: #f1ead9;
+    --focus: #86b7ff;
+  }
+}
+
 * { box-sizing: border-box; }
 html { background: var(--paper); color: var(--ink); }
+:focus-visible { outline: 3px solid var(--focus); outline-offset: 2px; }
+</style>
+<style>
+/* What the pages of a match that is over, and of one that is shown live, have in common. */
 body { margin: 0 auto; padding: 1rem; max-width: 66rem; }
 main { display: grid; gap: .75rem; max-width: max(24rem, 115vh); margin: 0 auto; }
 h1 { margin: 0; font-size: 1.25rem; }
 p { margin: 0; color: var(--soft); font-size: .9rem; }
-:focus-visible { outline: 3px solid var(--focus); outline-offset: 2px; }
 canvas { width: 100%; aspect-ratio: 2; display: block; image-rendering: pixelated; background: var(--dark); border-radius: 4px; box-shadow: 0 0 0 1px var(--line); }
 #seek { width: 100%; height: 44px; margin: 0; accent-color: var(--main); }
-#marks { position: relative; height: 1.25rem; margin-top: -1rem; font-size: .8rem; }
-#marks:empty { display: none; }
-#marks span { position: absolute; white-space: nowrap; color: var(--warn); }
 #controls { display: flex; flex-wrap: wrap; gap: .75rem; align-items: center; }
 button, select { min-height: 44px; min-width: 5.5rem; padding: 0 1rem; border: 1px solid var(--line); border-radius: 8px; background: var(--raised); color: var(--ink); font: inherit; }
-button { background: var(--main); border-color: var(--main); color: var(--on-main); font-weight: 600; cursor: pointer; }
-#where { font-variant-numeric: tabular-nums; }
 #pads { display: flex; flex-wrap: wrap; gap: 1.5rem; }
 .pad { display: grid; grid-template-columns: repeat(4, 2rem); gap: 4px; margin-top: .4rem; }
 .pad span { text-align: center; line-height: 2rem; border-radius: 5px; background: var(--raised); color: var(--soft); border: 1px solid var(--line); }
 .pad .held { background: var(--main); border-color: var(--main); color: var(--on-main); font-weight: 600; }
+button { font-weight: 600; cursor: pointer; }
+#where { font-variant-numeric: tabular-nums; }
+</style>
+<style>
+#marks { position: relative; height: 1.25rem; margin-top: -1rem; font-size: .8rem; }
+#marks:empty { display: none; }
+#marks span { position: absolute; white-space: nowrap; color: var(--warn); }
 .dropped { color: var(--warn); }
+button { background: var(--main); border-color: var(--main); color: var(--on-main); }
 </style>
 </head>
 <body>
