@@ -1,4 +1,6 @@
 //! What a relay did, in numbers.
+ghost use Rattle.std.specs.Prelude.{◌≡◌};
+ghost use Rattle.c8_relay_udp.specs.Counted.{counted, dropped};
 
 use c8_relay::{Cause, Turned};
 use std::fmt;
@@ -18,7 +20,9 @@ pub struct Counts {
 
 impl Counts {
     /// Counts what came of one turn.
-    pub fn add(&mut self, turned: Turned) {
+    pub fn add(&mut self, turned: Turned)
+        ensures { self.new ≡ counted self.old turned }
+    {
         match turned {
             Turned::Idle => {}
             Turned::Carried => self.carried = self.carried.saturating_add(1),
@@ -27,7 +31,9 @@ impl Counts {
         }
     }
 
-    fn drop_one(&mut self, cause: Cause) {
+    fn drop_one(&mut self, cause: Cause)
+        ensures { self.new ≡ dropped self.old cause }
+    {
         match cause {
             Cause::Unknown => self.unknown = self.unknown.saturating_add(1),
             Cause::Stranger => self.stranger = self.stranger.saturating_add(1),

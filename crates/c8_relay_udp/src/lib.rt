@@ -9,4 +9,4 @@ mod socket;
 pub use counts::Counts;
 pub use passed::Passed;
 pub use serving::batch;
-pub use socket::Socket;
+pub use socket::{Socket, bits_of};

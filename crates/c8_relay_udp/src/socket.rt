@@ -1,6 +1,6 @@
 //! A UDP socket as an ether.
-ghost use Rattle.std.specs.Prelude.{◌≡◌, ◌<◌, ◌≤◌, [], IfOk, IfSome};
-ghost use Rattle.c8_relay_udp.specs.Ports.{IsPort};
+ghost use Rattle.std.specs.Prelude.{◌≡◌, ◌<◌, ◌≤◌, [], IfOk};
+ghost use Rattle.c8_relay_udp.specs.Ports.{AreBits, IsAddressOf, IsTarget};
 
 use crate::passed::Passed;
 use c8_relay::{Address, Ether, LONGEST_READ};
@@ -16,22 +16,28 @@ const MOST_SKIPPED: u16 = 256;
 
 /// The address of a UDP socket, with IPv4 mapped into IPv6.
 pub(crate) fn address_of(socket: SocketAddr) -> Address
-    ensures { IsPort result }
+    ensures { IsAddressOf socket result }
 {
-    let host = match socket.ip() {
+    Address::Udp {
+        host: bits_of(socket.ip()),
+        port: socket.port(),
+    }
+}
+
+/// The bits of a host, with IPv4 mapped into IPv6.
+pub fn bits_of(host: IpAddr) -> u128
+    ensures { AreBits host result }
+{
+    match host {
         IpAddr::V4(ip) => ip.to_ipv6_mapped().to_bits(),
         IpAddr::V6(ip) => ip.to_bits(),
-    };
-    Address::Udp {
-        host,
-        port: socket.port(),
     }
 }
 
 /// Where a UDP socket reaches an address, by its own IP version; `None` for a connection. A socket of IPv6 reaches an IPv4
 /// address where it is mapped into IPv6.
 pub(crate) fn target_of(address: Address, is_ipv6: bool) -> Option<SocketAddr>
-    ensures { IfSome result (λ _. IsPort address) }
+    ensures { IsTarget address is_ipv6 result }
 {
     match address {
         Address::Udp { host, port } => {

@@ -1,7 +1,11 @@
 -- Bytes that are written behind those that wait at the front of a buffer wait behind them.
-use Rattle.std.proofs.Common.{◌≡◌, ◌≤◌, ◌+◌, ℕ, List, ◌++◌, length, take, drop, slice_range, subst, ap, sym, ◌∙◌, refl, arith}
-use Rattle.std.proofs.lemmas.List.{take-take, take-append-drop}
+use Rattle.std.proofs.Common.{◌≡◌, ◌≤◌, ◌<◌, ◌+◌, ◌-◌, [], Bool, MatchBool, true, false, ℕ, List, ◌++◌, length, take, drop, slice_range}
+use Rattle.std.proofs.Common.{subst, ap, sym, ◌∙◌, refl, arith, append_assoc, codes}
+use Rattle.websocket.specs.Headers.{crlf, field_line}
+use Rattle.websocket.specs.Handshake.{response_bytes}
+use Rattle.std.proofs.lemmas.List.{append-nil, length-append, length-take, length-drop, take-take, take-append-drop}
 use Rattle.std.proofs.lemmas.Slice.{take-put_mid, take-put_mid_below}
+use Rattle.c8_relay_web.specs.declared.outbox.TheConstants.{OUTPUT}
 use borrow.Rule.Slice.PartMut.{put_mid}
 
 front : (n : ℕ) (bytes : List ℕ) → slice_range bytes 0 n ≡ take n bytes
@@ -14,6 +18,11 @@ said last k first bytes more zero within =
     (front (last + length more) (put_mid last k bytes more) ∙ take-put_mid last k bytes more (last + length more) refl within
     ∙ ap (λ (zs : List ℕ). zs ++ more) (sym (front last bytes)))
 
+-- how many bytes wait
+pub long : (first last : ℕ) (bytes : List ℕ) → last ≤ length bytes → length (slice_range bytes first last) ≡ last - first
+long first last bytes within =
+    simp (length-take, length-drop) (omega (arith, within))
+
 -- bytes that came stand behind those that had come
 pub came : (n filled k : ℕ) (bytes more : List ℕ) → filled ≤ n → filled ≤ length bytes
     → (came : List ℕ) × (take n (put_mid filled k bytes more) ≡ take filled bytes ++ came)
@@ -23,3 +32,41 @@ came n filled k bytes more longer within =
       sym (take-append-drop filled all) ∙ ap (λ (zs : List ℕ). zs ++ drop filled all)
           (take-take filled n (put_mid filled k bytes more) longer ∙ take-put_mid_below filled k bytes more filled (omega arith) within),
     )
+
+-- what was said holds where it was
+pub is_said : (done : Bool) (P Q : Type 0) → done ≡ true → MatchBool done P Q → P
+is_said true P Q done is = is
+is_said false P Q done is = absurd cc
+
+pub not_said : (done : Bool) (P Q : Type 0) → done ≡ false → MatchBool done P Q → Q
+not_said true P Q done is = absurd cc
+not_said false P Q done is = is
+
+-- bytes for which there is room wait
+pub said_all : (done : Bool) (before after bytes : List ℕ) → MatchBool done (after ≡ before ++ bytes) (after ≡ before)
+    → (done ≡ false → OUTPUT < length before + length bytes) → length before + length bytes ≤ OUTPUT → after ≡ before ++ bytes
+said_all true before after bytes said room within = said
+said_all false before after bytes said room within = absurd (let full = room refl in omega (arith, full, within))
+
+-- three parts of a response for which there is room wait alone if nothing waited before
+pub said_three : (a b c : Bool) (w0 w1 w2 w3 x y z : List ℕ) → w0 ≡ [] → MatchBool a (w1 ≡ w0 ++ x) (w1 ≡ w0)
+    → (a ≡ false → OUTPUT < length w0 + length x) → MatchBool b (w2 ≡ w1 ++ y) (w2 ≡ w1) → (b ≡ false → OUTPUT < length w1 + length y)
+    → MatchBool c (w3 ≡ w2 ++ z) (w3 ≡ w2) → (c ≡ false → OUTPUT < length w2 + length z) → length x + (length y + length z) ≤ OUTPUT
+    → w3 ≡ (x ++ y) ++ z
+said_three a b c w0 w1 w2 w3 x y z none one one_room two two_room three three_room fits =
+    let start : length w0 ≡ 0 = ap (λ (ws : List ℕ). length ws) none in
+    let first : w1 ≡ x = said_all a w0 w1 x one one_room (omega (arith, start, fits)) ∙ ap (λ (ws : List ℕ). ws ++ x) none in
+    let wide : length w1 ≡ length x = ap (λ (ws : List ℕ). length ws) first in
+    let second : w2 ≡ x ++ y = said_all b w1 w2 y two two_room (omega (arith, wide, fits)) ∙ ap (λ (ws : List ℕ). ws ++ y) first in
+    let wider : length w2 ≡ length x + length y = ap (λ (ws : List ℕ). length ws) second ∙ length-append x y in
+    said_all c w2 w3 z three three_room (omega (arith, wider, fits)) ∙ ap (λ (ws : List ℕ). ws ++ z) second
+
+-- the parts of the response that accepts an upgrade
+pub accepted : (accept : List ℕ)
+    → ((codes "HTTP/1.1 101 Switching Protocols" ++ crlf ++ field_line (codes "connection") (codes "Upgrade")
+    ++ field_line (codes "upgrade") (codes "websocket") ++ codes "sec-websocket-accept" ++ codes ": ") ++ accept) ++ (crlf ++ crlf)
+    ≡ response_bytes accept []
+accepted accept =
+    ap (λ (rest : List ℕ). codes "HTTP/1.1 101 Switching Protocols" ++ crlf ++ field_line (codes "connection") (codes "Upgrade")
+    ++ field_line (codes "upgrade") (codes "websocket") ++ codes "sec-websocket-accept" ++ codes ": " ++ rest)
+    (sym (append_assoc accept crlf crlf) ∙ ap (λ (said : List ℕ). said ++ crlf) (sym (append-nil (accept ++ crlf))))

@@ -1,4 +1,5 @@
 -- What waits is sent in order, whatever is written behind it; begin at `BoxLemmas`.
 mod BoxLemmas
+mod FrameLemmas
 mod RequestLemmas
 mod SiteLemmas

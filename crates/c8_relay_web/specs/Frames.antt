@@ -1,7 +1,6 @@
 -- What frames say (RFC 6455, sections 5 to 7).
-use Rattle.std.specs.Prelude.{◌≡◌, ◌⊎◌, ℕ, List, Option, None, Some, Result, Ok, Err, cond, false, length, nat_lt}
+use Rattle.std.specs.Prelude.{◌≡◌, ◌⊎◌, ℕ, List, [], ◌∷◌, Option, None, Some, MatchBool, Result, Ok, Err, cond, false, length, nat_lt}
 use Rattle.websocket.specs.Connection.{Connection, Effect, Sends, StartsWithFragment, read_step}
-use Rattle.websocket.specs.Content as Content
 use Rattle.websocket.specs.Content.{Content, binary}
 use Rattle.websocket.specs.declared.error.Error.{Error}
 use Rattle.websocket.specs.declared.error.Error.TheVariants.{AlreadyClosed, ConnectionClosed, Capacity, Protocol, Utf8, OutOfMemory}
@@ -78,3 +77,10 @@ fresh =
 -- the output gains one frame: a binary message that is the packet
 abbrev pub Gains : Connection → List ℕ → List ℕ → List ℕ → Type 0
 Gains context packet old new = Sends context.role (Some (record { opcode = Op.Data Binary; payload = packet })) old new
+
+-- What the unread input of a connection says, and how much of it is read then. A frame that does not end a message is refused by its first
+-- byte.
+abbrev pub IsNext : Connection → List ℕ → Said → ℕ → Type 0
+IsNext context [] said size = (said ≡ Unknown) × (size ≡ 0)
+IsNext context (first ∷ rest) said size =
+    MatchBool (nat_lt first 0x80) ((said ≡ Wrong Code.Unsupported) × (size ≡ 0)) (IsSaidBy context (first ∷ rest) said size)

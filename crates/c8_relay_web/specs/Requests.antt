@@ -17,11 +17,9 @@ use Rattle.c8_relay_web.specs.Sites.{is_admitted, place_in}
 use Rattle.c8_relay_web.specs.declared.page.Page.{Page}
 use Rattle.c8_relay_web.specs.declared.page.Part.{Part}
 use Rattle.c8_relay_web.specs.declared.page.Part.TheVariants as part
-use Rattle.c8_relay_web.specs.declared.reply.Refused.{Refused}
 use Rattle.c8_relay_web.specs.declared.reply.Refused.TheVariants as why
 use Rattle.c8_relay_web.specs.declared.request.Asked.{Asked}
 use Rattle.c8_relay_web.specs.declared.request.Asked.TheVariants as asked
-use Rattle.c8_relay_web.specs.declared.request.Upgrade.{Upgrade}
 use Rattle.c8_relay_web.specs.declared.site.Site.{Site}
 
 -- the parts of a request's head at which a relay looks, and how many bytes it has

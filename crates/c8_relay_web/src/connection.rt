@@ -1,6 +1,11 @@
 //! One connection: first the head of an HTTP request, then WebSocket messages, a page, or a refusal.
-ghost use Rattle.std.specs.Prelude.{◌≡◌, ◌≤◌, ◌↔◌, ◌++◌, [], ℕ, List, IsTrue};
-ghost use Rattle.c8_relay_web.specs.Steps.{is_open, later, unread, waiting};
+ghost use Rattle.std.specs.Prelude.{◌≡◌, ◌≤◌, ◌↔◌, ◌++◌, [], ℕ, List, IsTrue, MatchBool, Some, drop, take};
+ghost use Rattle.std.specs.Vec.{vec_capacity};
+ghost use Rattle.websocket.specs.Connection.{max_reply_len};
+ghost use Rattle.websocket.specs.Handshake.{response_bytes};
+ghost use Rattle.c8_relay_web.specs.Frames.{fresh};
+ghost use Rattle.c8_relay_web.specs.Requests.{IsAsked};
+ghost use Rattle.c8_relay_web.specs.Steps.{HasPacket, IfGives, IsGiven, IsRefused, IsSent, LacksRoom, Follows, is_open, later, unread, waiting};
 
 use crate::frames::{Said, opened, write_close, write_packet};
 use crate::inbox::{Filled, Inbox};
@@ -10,6 +15,7 @@ use crate::reply::{ACCEPTED, HEAD_END, Refused};
 use crate::request::{Asked, Upgrade, asked_in};
 use crate::shared::Shared;
 use c8_relay::{Address, LONGEST_READ};
+use c8_relay_udp::bits_of;
 use mio::net::TcpStream;
 use mio::{Interest, Registry, Token};
 use std::io;
@@ -79,6 +85,17 @@ impl Guest {
         let (host, number) = (self.host, self.number);
         Address::Connection { host, number }
     }
+
+    /// Whether this is its address.
+    pub(crate) fn is_at(self, address: Address) -> bool
+        ensures yes { IsTrue result → address ≡ Address.Connection self.host self.number }
+        ensures known { address ≡ Address.Connection self.host self.number → IsTrue result }
+    {
+        let Address::Connection { host, number } = address else {
+            return false;
+        };
+        host == self.host && number == self.number
+    }
 }
 
 /// A connection. It takes no memory but its own.
@@ -97,14 +114,6 @@ pub(crate) struct Connection {
     hangs_up: bool,
     /// When it is closed if nothing happens, in microseconds.
     until: u64,
-}
-
-/// The bits of a host, with IPv4 mapped into IPv6.
-fn bits_of(host: IpAddr) -> u128 {
-    match host {
-        IpAddr::V4(ip) => ip.to_ipv6_mapped().to_bits(),
-        IpAddr::V6(ip) => ip.to_bits(),
-    }
 }
 
 /// The network of a host that has a limit of connections: not of this machine, where a proxy speaks for many.
@@ -180,8 +189,12 @@ impl Connection {
     }
 
     /// Takes the next packet, and goes on with all else.
-    pub(crate) fn next(&mut self, shared: &mut Shared, packet: &mut [u8; LONGEST_READ]) -> Next {
-        for _ in 0..MOST_STEPS {
+    pub(crate) fn next(&mut self, shared: &mut Shared, packet: &mut [u8; LONGEST_READ]) -> Next
+        ensures number { self.new.guest.number ≡ self.old.guest.number }
+        ensures served { (size : ℕ) → waiting self.old ≡ [] → HasPacket self.old.stage (unread self.old) size
+            → max_reply_len ≤ vec_capacity shared.old.frame → result ≡ Next.Packet size }
+    {
+        for _step in 0..MOST_STEPS {
             if let Some(next) = self.step(shared, packet) {
                 return next;
             }
@@ -190,7 +203,12 @@ impl Connection {
     }
 
     /// Makes one step; `None` if another may follow at once.
-    fn step(&mut self, shared: &mut Shared, packet: &mut [u8; LONGEST_READ]) -> Option<Next> {
+    fn step(&mut self, shared: &mut Shared, packet: &mut [u8; LONGEST_READ]) -> Option<Next>
+        ensures number { self.new.guest.number ≡ self.old.guest.number }
+        ensures given { IfGives result (λ size. IsGiven self.old self.new (take size packet.new)) }
+        ensures served { (size : ℕ) → waiting self.old ≡ [] → HasPacket self.old.stage (unread self.old) size
+            → max_reply_len ≤ vec_capacity shared.old.frame → result ≡ Some (Next.Packet size) }
+    {
         if !self.outbox.flush(&self.stream) {
             return Some(Next::Over);
         }
@@ -211,6 +229,8 @@ impl Connection {
         ensures stage { self.new.stage ≡ self.old.stage }
         ensures waiting { waiting self.new ≡ waiting self.old }
         ensures more { (more : List ℕ) × (unread self.new ≡ unread self.old ++ more) }
+        ensures number { self.new.guest.number ≡ self.old.guest.number }
+        ensures quiet { IfGives result (λ _. ⊥) }
     {
         if !self.is_readable {
             return Some(Next::Nothing);
@@ -230,7 +250,13 @@ impl Connection {
     }
 
     /// Reads the head of a request.
-    fn head(&mut self, shared: &Shared) -> Option<Next> {
+    fn head(&mut self, shared: &Shared) -> Option<Next>
+        requires { self.old.stage ≡ Stage.Head }
+        ensures number { self.new.guest.number ≡ self.old.guest.number }
+        ensures follows { (asked : Asked) × IsAsked (unread self.old) shared.entry.now.site asked
+            × Follows asked shared.entry.now.now self.old self.new }
+        ensures quiet { IfGives result (λ _. ⊥) }
+    {
         let now = shared.now;
         match asked_in(self.inbox.bytes(), &shared.site) {
             Asked::Unknown if self.inbox.is_full() => self.refuse(Refused::TooLarge, now),
@@ -247,13 +273,19 @@ impl Connection {
     }
 
     /// Says why the request is refused.
-    fn refuse(&mut self, refused: Refused, now: u64) -> Option<Next> {
+    fn refuse(&mut self, refused: Refused, now: u64) -> Option<Next>
+        ensures number { self.new.guest.number ≡ self.old.guest.number }
+        ensures quiet { IfGives result (λ _. ⊥) }
+        ensures refused { IsRefused refused now self.old self.new }
+    {
         self.outbox.say(refused.response());
         self.end(now)
     }
 
     /// Ends once all is sent.
     fn end(&mut self, now: u64) -> Option<Next>
+        ensures number { self.new.guest.number ≡ self.old.guest.number }
+        ensures quiet { IfGives result (λ _. ⊥) }
         ensures waiting { waiting self.new ≡ waiting self.old }
         ensures stage { self.new.stage ≡ Stage.Ending }
         ensures until { self.new.until ≡ later now HURRY }
@@ -264,7 +296,14 @@ impl Connection {
     }
 
     /// Becomes a WebSocket.
-    fn open(&mut self, upgrade: Upgrade, shared: &Shared) -> Option<Next> {
+    fn open(&mut self, upgrade: Upgrade, shared: &Shared) -> Option<Next>
+        ensures number { self.new.guest.number ≡ self.old.guest.number }
+        ensures quiet { IfGives result (λ _. ⊥) }
+        ensures open { self.new.stage ≡ Stage.Open fresh }
+        ensures rest { unread self.new ≡ drop upgrade.length (unread self.old) }
+        ensures said { waiting self.old ≡ [] → waiting self.new ≡ response_bytes upgrade.accept [] }
+        ensures until { self.new.until ≡ later shared.entry.now.now SILENCE }
+    {
         if let Some(host) = upgrade.host
             && self.is_local
         {
@@ -282,7 +321,10 @@ impl Connection {
     }
 
     /// Sends more of a page.
-    fn page(&mut self, shared: &Shared) -> Option<Next> {
+    fn page(&mut self, shared: &Shared) -> Option<Next>
+        ensures number { self.new.guest.number ≡ self.old.guest.number }
+        ensures quiet { IfGives result (λ _. ⊥) }
+    {
         let Stage::Page(sending) = self.stage else {
             return Some(Next::Over);
         };
@@ -309,7 +351,12 @@ impl Connection {
     }
 
     /// Reads the next message.
-    fn message(&mut self, shared: &mut Shared, packet: &mut [u8; LONGEST_READ]) -> Option<Next> {
+    fn message(&mut self, shared: &mut Shared, packet: &mut [u8; LONGEST_READ]) -> Option<Next>
+        ensures number { self.new.guest.number ≡ self.old.guest.number }
+        ensures given { IfGives result (λ size. IsGiven self.old self.new (take size packet.new)) }
+        ensures served { (size : ℕ) → HasPacket self.old.stage (unread self.old) size → max_reply_len ≤ vec_capacity shared.old.frame
+            → result ≡ Some (Next.Packet size) }
+    {
         let Stage::Open(context) = &mut self.stage else {
             return Some(Next::Over);
         };
@@ -328,7 +375,10 @@ impl Connection {
     }
 
     /// Reads what has come; `None` if there was something.
-    fn listen(&mut self, now: u64) -> Option<Next> {
+    fn listen(&mut self, now: u64) -> Option<Next>
+        ensures number { self.new.guest.number ≡ self.old.guest.number }
+        ensures quiet { IfGives result (λ _. ⊥) }
+    {
         let next = self.fill();
         if next.is_none() {
             self.until = now.saturating_add(SILENCE);
@@ -337,7 +387,10 @@ impl Connection {
     }
 
     /// Once all is sent, says that no more will come.
-    fn finish(&mut self) -> Option<Next> {
+    fn finish(&mut self) -> Option<Next>
+        ensures number { self.new.guest.number ≡ self.old.guest.number }
+        ensures quiet { IfGives result (λ _. ⊥) }
+    {
         if !self.outbox.is_empty() {
             return Some(Next::Nothing);
         }
@@ -349,7 +402,11 @@ impl Connection {
     }
 
     /// Sends a packet, or loses it where too much waits already. Returns whether it was taken.
-    pub(crate) fn say(&mut self, shared: &mut Shared, packet: &[u8]) -> bool {
+    pub(crate) fn say(&mut self, shared: &mut Shared, packet: &[u8]) -> bool
+        ensures number { self.new.guest ≡ self.old.guest }
+        ensures said { MatchBool result (IsSent self.old self.new packet.now)
+            ((waiting self.new ≡ waiting self.old) × LacksRoom (vec_capacity shared.old.frame) self.old packet.now) }
+    {
         let Stage::Open(context) = &mut self.stage else {
             return false;
         };

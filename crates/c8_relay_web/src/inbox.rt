@@ -1,7 +1,9 @@
 //! The bytes that came by a connection.
-ghost use Rattle.std.specs.Prelude.{◌≡◌, ◌≤◌, ◌++◌, [], ℕ, List, IsTrue, drop, take};
+ghost use Rattle.std.specs.Prelude.{◌≡◌, ◌≤◌, ◌++◌, [], ℕ, List, drop, nat_le, take};
+ghost use Rattle.std.specs.Vec.{vec_capacity};
 ghost use Rattle.c8_relay_web.specs.declared.inbox.TheConstants.{INPUT};
-ghost use Rattle.c8_relay_web.specs.Frames.{IfPacket, IsMessage};
+ghost use Rattle.websocket.specs.Connection.{max_reply_len};
+ghost use Rattle.c8_relay_web.specs.Frames.{IfPacket, IsMessage, IsNext};
 
 use crate::frames::{Frame, Said, read_frame};
 use c8_relay::LONGEST_READ;
@@ -50,7 +52,9 @@ impl Inbox {
         self.filled == 0
     }
 
-    pub(crate) fn is_full(&self) -> bool {
+    pub(crate) fn is_full(&self) -> bool
+        ensures { result ≡ nat_le INPUT self.now.filled }
+    {
         self.filled >= INPUT
     }
 
@@ -112,18 +116,20 @@ impl Inbox {
         reply: &mut Vec<u8>,
         packet: &mut [u8; LONGEST_READ],
     ) -> Said
-        ensures { IfPacket result (λ size. (consumed : ℕ)
+        ensures packet { IfPacket result (λ size. (consumed : ℕ)
             × IsMessage context.old (take self.old.filled self.old.bytes) consumed (take size packet.new)
             × (take self.new.filled self.new.bytes ≡ drop consumed (take self.old.filled self.old.bytes))) }
+        ensures exact { max_reply_len ≤ vec_capacity reply.old → (size : ℕ) × IsNext context.old (take self.old.filled self.old.bytes) result size }
     {
         reply.clear();
+        match self.bytes() {
+            [] => return Said::Unknown,
+            [first, ..] if *first < LAST_OF_MESSAGE => {
+                return Said::Wrong(CloseCode::Unsupported);
+            }
+            _ => {}
+        }
         let filled = self.filled;
-        if filled == 0 {
-            return Said::Unknown;
-        }
-        if self.bytes[0] < LAST_OF_MESSAGE {
-            return Said::Wrong(CloseCode::Unsupported);
-        }
         let Frame { consumed, said } = read_frame(context, &mut self.bytes, filled, reply, packet);
         self.consume(consumed);
         said

@@ -1,5 +1,5 @@
 //! The bytes that wait to be sent by a connection.
-ghost use Rattle.std.specs.Prelude.{◌≡◌, ◌≤◌, ◌↔◌, ◌++◌, [], ℕ, IsTrue, MatchBool, drop, slice_range};
+ghost use Rattle.std.specs.Prelude.{◌≡◌, ◌≤◌, ◌<◌, ◌+◌, ◌-◌, ◌↔◌, ◌++◌, [], ℕ, IsTrue, MatchBool, drop, false, length, slice_range};
 ghost use Rattle.c8_relay_web.specs.declared.outbox.TheConstants.{OUTPUT};
 
 use mio::net::TcpStream;
@@ -41,6 +41,7 @@ impl Outbox {
     /// Moves what waits to the front, and returns how much it is.
     fn make_room(&mut self) -> usize
         ensures within { result ≤ OUTPUT }
+        ensures size { result ≡ self.old.last - self.old.first }
         ensures first { self.new.first ≡ 0 }
         ensures last { self.new.last ≡ result }
         ensures same { slice_range self.new.bytes self.new.first self.new.last ≡ slice_range self.old.bytes self.old.first self.old.last }
@@ -56,9 +57,10 @@ impl Outbox {
 
     /// Adds bytes, if there is room for all of them. Returns whether there was.
     pub(crate) fn say(&mut self, bytes: &[u8]) -> bool
-        ensures { MatchBool result
+        ensures said { MatchBool result
             (slice_range self.new.bytes self.new.first self.new.last ≡ slice_range self.old.bytes self.old.first self.old.last ++ bytes.now)
             (slice_range self.new.bytes self.new.first self.new.last ≡ slice_range self.old.bytes self.old.first self.old.last) }
+        ensures room { result ≡ false → OUTPUT < length (slice_range self.old.bytes self.old.first self.old.last) + length bytes.now }
     {
         let last = self.make_room();
         if bytes.len() > OUTPUT - last {

@@ -1,8 +1,11 @@
 //! All connections.
-ghost use Rattle.std.specs.Prelude.{◌≡◌, ◌≤◌, ◌<◌, ◌⊎◌, ◌++◌, ◌∷◌, [], IfSome, IsTrue, None, Some, length, slice_get};
+ghost use Rattle.std.specs.Prelude.{◌≡◌, ◌≤◌, ◌<◌, ◌⊎◌, ◌++◌, ◌∷◌, ◌%◌, [], ℕ, IfSome, IsSomeAnd, IsTrue, None, Some, false, length, slice_get, slice_set};
 ghost use Rattle.std.specs.VecDeque.{deque_capacity, deque_len};
+ghost use Rattle.std.specs.Vec.{vec_capacity};
+ghost use Rattle.websocket.specs.Connection.{max_reply_len};
 ghost use Rattle.c8_relay_web.specs.Connections.{IsConnection};
-ghost use Rattle.c8_relay_web.specs.Steps.{KeepsOthers};
+ghost use Rattle.c8_relay_web.specs.Steps.{HasPacket, IsFrom, IsSent, KeepsOthers, LacksRoom, unread, waiting};
+ghost use Rattle.c8_relay_web.specs.declared.connection.Connection.{Connection};
 
 use crate::connection::{Connection, Guest, Next, network_of};
 use crate::crowd::Crowd;
@@ -216,7 +219,11 @@ impl Web {
     /// Gives a connection its turn.
     fn visit(&mut self, place: usize, packet: &mut [u8; LONGEST_READ]) -> Option<(usize, Address)>
         ensures within { IfSome result (λ next. next.0 ≤ LONGEST_READ) }
-        ensures from { IfSome result (λ next. IsConnection next.1) }
+        ensures from { IfSome result (λ next. IsFrom self.old.places.items place next.1) }
+        ensures served { (connection : Connection) (size : ℕ) → slice_get self.old.places.items place ≡ Some (Some connection) → waiting connection ≡ []
+            → HasPacket connection.stage (unread connection) size → max_reply_len ≤ vec_capacity self.old.shared.frame
+            → IsSomeAnd result (λ next. next.0 ≡ size) }
+        ensures others { KeepsOthers place self.old.places.items self.new.places.items }
     {
         if place >= self.places.len() {
             return None;
@@ -232,20 +239,42 @@ impl Web {
             self.close(place, was_open, guest);
             return None;
         }
-        if was_open && !is_open {
-            let _ = self.left.push_back(guest);
-        }
-        if next == Next::Later || has_more && next != Next::Nothing {
-            self.turns.add(place);
-        }
+        self.note_left(was_open && !is_open, guest);
+        self.queue(place, next, has_more);
         match next {
             Next::Packet(size) => Some((size.min(LONGEST_READ), guest.address())),
             _ => None,
         }
     }
 
+    /// Notes whose WebSocket has ended.
+    fn note_left(&mut self, has_left: bool, guest: Guest)
+        ensures { self.new ≡ record self.old { left = self.new.left } }
+    {
+        if has_left {
+            let _ = self.left.push_back(guest);
+        }
+    }
+
+    /// Lets a connection have another turn, unless it waits for its socket.
+    fn queue(&mut self, place: usize, next: Next, has_more: bool)
+        ensures { self.new ≡ record self.old { turns = self.new.turns } }
+    {
+        if next == Next::Later || has_more && next != Next::Nothing {
+            self.turns.add(place);
+        }
+    }
+
     /// Sends a packet to a connection. Returns whether it was taken.
-    pub(crate) fn say(&mut self, to: Address, packet: &[u8]) -> bool {
+    pub(crate) fn say(&mut self, to: Address, packet: &[u8]) -> bool
+        ensures sent { IsTrue result → (place : ℕ) × (connection : Connection) × (after : Connection)
+            × (slice_get self.old.places.items place ≡ Some (Some connection)) × (to ≡ Address.Connection connection.guest.host connection.guest.number)
+            × (self.new.places.items ≡ slice_set self.old.places.items place (Some after)) × IsSent connection after packet.now }
+        ensures lost { result ≡ false → (connection : Connection)
+            → slice_get self.old.places.items (connection.guest.number % 1024) ≡ Some (Some connection)
+            → to ≡ Address.Connection connection.guest.host connection.guest.number
+            → LacksRoom (vec_capacity self.old.shared.frame) connection packet.now }
+    {
         let Address::Connection { number, .. } = to else {
             return false;
         };
@@ -254,7 +283,7 @@ impl Web {
             return false;
         }
         match &mut self.places[place] {
-            Some(connection) if connection.guest().address() == to => {
+            Some(connection) if connection.guest().is_at(to) => {
                 connection.say(&mut self.shared, packet)
             }
             _ => false,

@@ -1,5 +1,5 @@
 -- The part of a page is that for the method and for the tags that the head has.
-use Rattle.std.proofs.Common.{◌≡◌, ◌∙◌, List, ℕ, Option, Bool, ap, codes, cond, length, option_map, rules, slice_get, sym, take}
+use Rattle.std.proofs.Common.{◌≡◌, ◌∙◌, List, ℕ, Option, Bool, ap, codes, cond, option_map, rules, slice_get, sym, take}
 use Rattle.std.specs.Str.{bytes_eq}
 use Rattle.httparse.specs.Spans.{span_bytes}
 use Rattle.websocket.specs.Headers.{fields_of, header_value}
