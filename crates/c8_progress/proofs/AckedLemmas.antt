@@ -1,5 +1,5 @@
--- Each acknowledgement that a peer keeps was said to it, so DATA meets no gap; for ExchangeLemmas.
-use Rattle.std.proofs.Common.{◌≡◌, ◌≢◌, ℕ, zero, suc, ◌+◌, ◌-◌, ◌≤◌, ◌⊎◌, inl, inr, ⊎_elim, List, [], ◌∷◌, ◌++◌, length, Bool, true, false, Option}
+-- Each acknowledgement that a peer keeps was said to it, so DATA meets no gap; for ExchangeLemmas and SeenLemmas.
+use Rattle.std.proofs.Common.{◌≡◌, ◌≢◌, ℕ, zero, suc, ◌+◌, ◌≤◌, ◌⊎◌, inl, inr, ⊎_elim, List, [], ◌∷◌, ◌++◌, length, Bool, true, false, Option}
 use Rattle.std.proofs.Common.{Some, None, Ok, Err, refl, sym, ap, subst, ◌∙◌, arith}
 use Rattle.std.specs.Prelude.{Result, ◌==◌, ◌||◌, not, nat_le, nat_lt, is_some, max, if◌then◌else◌}
 use Rattle.std.proofs.lemmas.Bool.{cases_eq, cases_lt, ne_eqb}
@@ -24,8 +24,8 @@ use Rattle.c8_peer.specs.Steps.{outcome}
 use Rattle.c8_peer.specs.Calls.{tick, leave, decide, next_piece, checkpoint}
 use Rattle.c8_peer.specs.Hearing.{is_desync, unless_misfit, got, hear_data, hear_welcome, hear_freeze, hear_frozen, hear_end, hear_cut, hear_message}
 use Rattle.c8_peer.specs.Hearing.{is_of_other_wire, unless_hand, hear_seen, hear_from, seen_in, hear_told}
-use Rattle.c8_peer.specs.Saying.{is_not_mine, lacks_record, lacks_link, message, say, show}
-use Rattle.c8_world.specs.World.{World, start, peer_of, IsReached}
+use Rattle.c8_peer.specs.Saying.{is_not_mine, lacks_record, lacks_link, say, show}
+use Rattle.c8_world.specs.World.{World, peer_of, IsReached}
 use Rattle.c8_world.specs.Agreement.{IsPlayer, IsAmong}
 use Rattle.c8_progress.proofs.LinkedLemmas.{among_more}
 use Rattle.c8_progress.proofs.SteppingLemmas.{IsWorldly}
@@ -55,76 +55,85 @@ record Acks (m : Memory) (call : Call) (o : Outcome) : Type 0 where
 abbrev AckMoves : Memory → Call → Outcome → Type 0
 AckMoves m call o = (o.memory.acks ≡ m.acks) ⊎ Acks m call o
 
-either : (M : Outcome → Type 0) (test : Bool) (x y : Outcome) → M x → M y → M (if test then x else y)
+pub either : (M : Outcome → Type 0) (test : Bool) (x y : Outcome) → M x → M y → M (if test then x else y)
 either M true x y is other = is
 either M false x y is other = other
 
-abbrev Same : Memory → Outcome → Type 0
-Same m o = o.memory.acks ≡ m.acks
+-- nothing is acknowledged by a player or a watcher
+abbrev pub Same : Memory → Outcome → Type 0
+Same m o = (o.memory.acks ≡ m.acks) × (o.memory.seen ≡ m.seen)
 
-tick_same : (rules : Rules) (k : KnownValue) (m : Memory) (keys : ℕ) → Same m (tick rules k m keys)
+pub tick_same : (rules : Rules) (k : KnownValue) (m : Memory) (keys : ℕ) → Same m (tick rules k m keys)
 unfolding tick
 tick_same rules k m keys =
-    either (Same m) (player_in k k.me).leaving _ _ refl
-    (either (Same m) (nat_le rules.frames k.ticks) _ _ refl (either (Same m) (nat_le (confirmed k + rules.window) k.ticks) _ _ refl refl))
+    either (Same m) (player_in k k.me).leaving _ _ (refl, refl)
+    (either (Same m) (nat_le rules.frames k.ticks) _ _ (refl, refl)
+    (either (Same m) (nat_le (confirmed k + rules.window) k.ticks) _ _ (refl, refl) (refl, refl)))
 
-leave_same : (k : KnownValue) (m : Memory) (leaver : ℕ) → Same m (leave k m leaver)
+pub leave_same : (k : KnownValue) (m : Memory) (leaver : ℕ) → Same m (leave k m leaver)
 unfolding leave
 leave_same k m leaver =
-    either (Same m) (not (k.me == 1)) _ _ refl
-    (either (Same m) (leaver == k.me) _ _ refl
-    (either (Same m) (not (plays_in k leaver)) _ _ refl (either (Same m) (player_in k leaver).leaving _ _ refl refl)))
+    either (Same m) (not (k.me == 1)) _ _ (refl, refl)
+    (either (Same m) (leaver == k.me) _ _ (refl, refl)
+    (either (Same m) (not (plays_in k leaver)) _ _ (refl, refl) (either (Same m) (player_in k leaver).leaving _ _ (refl, refl) (refl, refl))))
 
-decide_same : (k : KnownValue) (m : Memory) (leaver : ℕ) → Same m (decide k m leaver)
+pub decide_same : (k : KnownValue) (m : Memory) (leaver : ℕ) → Same m (decide k m leaver)
 unfolding decide
 decide_same k m leaver =
-    either (Same m) (not (k.me == 1) || not (player_in k leaver).leaving) _ _ refl
-    (either (Same m) (is_some (player_in k leaver).cut) _ _ refl (either (Same m) (not (is_ready m.chair k leaver)) _ _ refl refl))
+    either (Same m) (not (k.me == 1) || not (player_in k leaver).leaving) _ _ (refl, refl)
+    (either (Same m) (is_some (player_in k leaver).cut) _ _ (refl, refl)
+    (either (Same m) (not (is_ready m.chair k leaver)) _ _ (refl, refl) (refl, refl)))
 
-misfit_same : (m n : Memory) (o : Option KnownError) (x : Outcome) → Same m x → n.acks ≡ m.acks → Same m (unless_misfit n o x)
+abbrev Kept : Memory → Memory → Type 0
+Kept m n = (n.acks ≡ m.acks) × (n.seen ≡ m.seen)
+
+misfit_same : (m n : Memory) (o : Option KnownError) (x : Outcome) → Same m x → Kept m n → Same m (unless_misfit n o x)
 misfit_same m n None x is same = is
 misfit_same m n (Some error) x is same = same
 
-got_same : (k : KnownValue) (m n : Memory) (q : ℕ) (words : List ℕ) → n.acks ≡ m.acks → Same m (got k n q words)
+got_same : (k : KnownValue) (m n : Memory) (q : ℕ) (words : List ℕ) → Kept m n → Same m (got k n q words)
 got_same k m n q [] same = same
 got_same k m n q (word ∷ words) same = same
 
-freeze_same : (k : KnownValue) (m : Memory) (q : ℕ) (f : FreezeMessage) → Same m (hear_freeze k m q f)
+pub freeze_same : (k : KnownValue) (m : Memory) (q : ℕ) (f : FreezeMessage) → Same m (hear_freeze k m q f)
 unfolding hear_freeze
 freeze_same k m q f =
-    either (Same m) (not (q == 1)) _ _ refl
-    (either (Same m) (f.leaver == k.me || not (plays_in k f.leaver)) _ _ refl (either (Same m) (player_in k f.leaver).frozen _ _ refl refl))
+    either (Same m) (not (q == 1)) _ _ (refl, refl)
+    (either (Same m) (f.leaver == k.me || not (plays_in k f.leaver)) _ _ (refl, refl)
+    (either (Same m) (player_in k f.leaver).frozen _ _ (refl, refl) (refl, refl)))
 
-frozen_same : (k : KnownValue) (m : Memory) (q : ℕ) (f : LeaverMessage) → Same m (hear_frozen k m q f)
+pub frozen_same : (k : KnownValue) (m : Memory) (q : ℕ) (f : LeaverMessage) → Same m (hear_frozen k m q f)
 unfolding hear_frozen
 frozen_same k m q f =
-    either (Same m) (not (k.me == 1)) _ _ refl
-    (either (Same m) (f.leaver == q || not (plays_in k f.leaver)) _ _ refl (either (Same m) (not (player_in k f.leaver).leaving) _ _ refl
-    (either (Same m) (is_some (player_in k f.leaver).cut) _ _ refl (either (Same m) (nat_lt k.limit f.length) _ _ refl
+    either (Same m) (not (k.me == 1)) _ _ (refl, refl)
+    (either (Same m) (f.leaver == q || not (plays_in k f.leaver)) _ _ (refl, refl)
+    (either (Same m) (not (player_in k f.leaver).leaving) _ _ (refl, refl)
+    (either (Same m) (is_some (player_in k f.leaver).cut) _ _ (refl, refl) (either (Same m) (nat_lt k.limit f.length) _ _ (refl, refl)
     (misfit_same m m (misfit k f.leaver f.start f.words) _
-    (got_same k m (record m { chair = with_report m.chair f.leaver q f.length }) f.leaver (fresh_words k f.leaver f.start f.words) refl) refl)))))
+    (got_same k m (record m { chair = with_report m.chair f.leaver q f.length }) f.leaver
+    (fresh_words k f.leaver f.start f.words) (refl, refl)) (refl, refl))))))
 
 end_same : (k : KnownValue) (m : Memory) (c : LeaverMessage) (cut : Option ℕ) → Same m (hear_end k m c cut)
-end_same k m c (Some K) = either (Same m) (K == c.length) _ _ refl refl
+end_same k m c (Some K) = either (Same m) (K == c.length) _ _ (refl, refl) (refl, refl)
 end_same k m c None =
-    either (Same m) (nat_lt c.length (count_in k c.leaver)) _ _ refl
+    either (Same m) (nat_lt c.length (count_in k c.leaver)) _ _ (refl, refl)
     (misfit_same m m (misfit k c.leaver c.start c.words) _
-    (either (Same m) (count_in k c.leaver + length (fresh_words k c.leaver c.start c.words) == c.length) _ _ refl
-    (got_same k m m c.leaver (fresh_words k c.leaver c.start c.words) refl)) refl)
+    (either (Same m) (count_in k c.leaver + length (fresh_words k c.leaver c.start c.words) == c.length) _ _ (refl, refl)
+    (got_same k m m c.leaver (fresh_words k c.leaver c.start c.words) (refl, refl))) (refl, refl))
 
-cut_same : (k : KnownValue) (m : Memory) (q : ℕ) (c : LeaverMessage) → Same m (hear_cut k m q c)
+pub cut_same : (k : KnownValue) (m : Memory) (q : ℕ) (c : LeaverMessage) → Same m (hear_cut k m q c)
 unfolding hear_cut
 cut_same k m q c =
-    either (Same m) (not (q == 1)) _ _ refl
-    (either (Same m) (c.leaver == k.me) _ _ refl
-    (either (Same m) (not (plays_in k c.leaver)) _ _ refl
-    (either (Same m) (not (player_in k c.leaver).frozen) _ _ refl (end_same k m c (player_in k c.leaver).cut))))
+    either (Same m) (not (q == 1)) _ _ (refl, refl)
+    (either (Same m) (c.leaver == k.me) _ _ (refl, refl)
+    (either (Same m) (not (plays_in k c.leaver)) _ _ (refl, refl)
+    (either (Same m) (not (player_in k c.leaver).frozen) _ _ (refl, refl) (end_same k m c (player_in k c.leaver).cut))))
 
-seen_same : (k : KnownValue) (m : Memory) (head : HeadValue) (ack : ℕ) → Same m (hear_seen k m head ack)
+seen_same : (k : KnownValue) (m : Memory) (head : HeadValue) (ack : ℕ) → (hear_seen k m head ack).memory.acks ≡ m.acks
 unfolding hear_seen
-seen_same k m head ack = either (Same m) (nat_lt (confirmed k) ack) _ _ refl refl
+seen_same k m head ack = either (λ (o : Outcome). o.memory.acks ≡ m.acks) (nat_lt (confirmed k) ack) _ _ refl refl
 
-misfit_acks : (M : Outcome → Type 0) (m : Memory) (o : Option KnownError) (x : Outcome) → M x
+pub misfit_acks : (M : Outcome → Type 0) (m : Memory) (o : Option KnownError) (x : Outcome) → M x
     → ((error : KnownError) → M (unless_misfit m (Some error) x)) → M (unless_misfit m o x)
 misfit_acks M m None x is other = is
 misfit_acks M m (Some error) x is other = other error
@@ -166,9 +175,9 @@ message_acks : (rules : Rules) (t : Told) (k : KnownValue) (m : Memory) (p : Pac
 message_acks rules t k m p packets.Hello none is = inl refl
 message_acks rules t k m p (packets.Welcome ack) none is = welcome_acks k m p ack none is
 message_acks rules t k m p (packets.Data d) none is = data_acks t k m p d none is
-message_acks rules t k m p (packets.Freeze f) none is = inl (freeze_same k m p.head.from f)
-message_acks rules t k m p (packets.Frozen f) none is = inl (frozen_same k m p.head.from f)
-message_acks rules t k m p (packets.Cut c) none is = inl (cut_same k m p.head.from c)
+message_acks rules t k m p (packets.Freeze f) none is = inl (freeze_same k m p.head.from f).0
+message_acks rules t k m p (packets.Frozen f) none is = inl (frozen_same k m p.head.from f).0
+message_acks rules t k m p (packets.Cut c) none is = inl (cut_same k m p.head.from c).0
 message_acks rules t k m p (packets.Show shown) none is = inl refl
 message_acks rules t k m p (packets.Seen ack) none is = inl refl
 
@@ -188,34 +197,34 @@ told_acks rules t k m (Ok p) =
     either (AckMoves m (Deliver (Ok p))) (is_of_other_wire rules p.head) _ _ (inl refl) (from_acks rules t k m p (seen_in p.message))
 told_acks rules t k m (Err error) = inl refl
 
-say_same : (rules : Rules) (t : Told) (k : KnownValue) (m : Memory) (to : ℕ) (what : Saying) → Same m (say rules t k m to what)
+pub say_same : (rules : Rules) (t : Told) (k : KnownValue) (m : Memory) (to : ℕ) (what : Saying) → Same m (say rules t k m to what)
 unfolding say
 say_same rules t k m to what =
-    either (Same m) (player_in k k.me).leaving _ _ refl
-    (either (Same m) (to == k.me || not (plays_in k to)) _ _ refl
-    (either (Same m) (is_not_mine k to what) _ _ refl
-    (either (Same m) (lacks_record k what) _ _ refl (either (Same m) (lacks_link m to what) _ _ refl refl))))
+    either (Same m) (player_in k k.me).leaving _ _ (refl, refl)
+    (either (Same m) (to == k.me || not (plays_in k to)) _ _ (refl, refl)
+    (either (Same m) (is_not_mine k to what) _ _ (refl, refl)
+    (either (Same m) (lacks_record k what) _ _ (refl, refl) (either (Same m) (lacks_link m to what) _ _ (refl, refl) (refl, refl)))))
 
-show_same : (k : KnownValue) (m : Memory) (watcher : ℕ) → Same m (show k m watcher)
+pub show_same : (k : KnownValue) (m : Memory) (watcher : ℕ) → Same m (show k m watcher)
 unfolding show
-show_same k m watcher = either (Same m) (k.me == 1) _ _ refl refl
+show_same k m watcher = either (Same m) (k.me == 1) _ _ (refl, refl) (refl, refl)
 
 piece_same : (t : Told) (k : KnownValue) (m : Memory) (o : Option Pieces) → Same m (next_piece t k m o)
-piece_same t k m None = either (Same m) (nat_le (confirmed k) (frames_of t.checks.last)) _ _ refl refl
-piece_same t k m (Some p) = either (Same m) (p.count == 36) _ _ refl refl
+piece_same t k m None = either (Same m) (nat_le (confirmed k) (frames_of t.checks.last)) _ _ (refl, refl) (refl, refl)
+piece_same t k m (Some p) = either (Same m) (p.count == 36) _ _ (refl, refl) (refl, refl)
 
-checkpoint_same : (t : Told) (k : KnownValue) (m : Memory) → Same m (checkpoint t k m)
+pub checkpoint_same : (t : Told) (k : KnownValue) (m : Memory) → Same m (checkpoint t k m)
 unfolding checkpoint
-checkpoint_same t k m = either (Same m) (player_in k k.me).leaving _ _ refl (piece_same t k m t.checks.under_way)
+checkpoint_same t k m = either (Same m) (player_in k k.me).leaving _ _ (refl, refl) (piece_same t k m t.checks.under_way)
 
 call_acks : (rules : Rules) (t : Told) (k : KnownValue) (m : Memory) (call : Call) → AckMoves m call (outcome rules t k m call)
-call_acks rules t k m (Tick keys) = inl (tick_same rules k m keys)
+call_acks rules t k m (Tick keys) = inl (tick_same rules k m keys).0
 call_acks rules t k m (Deliver told) = either (AckMoves m (Deliver told)) (player_in k k.me).leaving _ _ (inl refl) (told_acks rules t k m told)
-call_acks rules t k m (Say to what) = inl (say_same rules t k m to what)
-call_acks rules t k m (Show watcher) = inl (show_same k m watcher)
-call_acks rules t k m (Leave leaver) = inl (leave_same k m leaver)
-call_acks rules t k m (Decide leaver) = inl (decide_same k m leaver)
-call_acks rules t k m Checkpoint = inl (checkpoint_same t k m)
+call_acks rules t k m (Say to what) = inl (say_same rules t k m to what).0
+call_acks rules t k m (Show watcher) = inl (show_same k m watcher).0
+call_acks rules t k m (Leave leaver) = inl (leave_same k m leaver).0
+call_acks rules t k m (Decide leaver) = inl (decide_same k m leaver).0
+call_acks rules t k m Checkpoint = inl (checkpoint_same t k m).0
 
 -- ---- one acknowledgement
 

@@ -1,4 +1,4 @@
--- What one event does to a peer that is open before and after it, and to what was said; for CalmLemmas and ArrivingLemmas.
+-- What one event does to a peer that is open before and after it, and to what was said; for CalmLemmas, ArrivingLemmas and SeenLemmas.
 use Rattle.std.proofs.Common.{◌≡◌, ℕ, ◌≤◌, ◌⊎◌, inl, inr, ⊎_elim, List, [], ◌∷◌, length, Bool, cond, Option, Some, None, Ok, refl, sym, ap, subst}
 use Rattle.std.proofs.Common.{◌∙◌, arith}
 use Rattle.std.specs.List.{slice_get}
@@ -18,7 +18,7 @@ use Rattle.c8_peer.specs.Steps.{outcome, DiskOutcome, Works, Refuses, Stepped, d
 use Rattle.c8_peer.specs.Opening.{found, away, opened}
 use Rattle.c8_world.specs.World as worlds
 use Rattle.c8_world.specs.World.{World, is_player, peer_of, Act, Event, Do, Stop, player_of, Happening, Answer, After, said_by, stepped, call_at_mode}
-use Rattle.c8_world.specs.World.{call_at, open_at_mode, give_to, hear_at, acted, crashed, after, CanHappen}
+use Rattle.c8_world.specs.World.{call_at, open_at_mode, give_to, hear_at, acted, crashed, after, act_inside, CanHappen}
 use Rattle.c8_world.specs.Agreement.{IsPlayer, IsAmong}
 use Rattle.c8_progress.proofs.LinkedLemmas.{IsWell, placed, peer_here, peer_there}
 use Rattle.c8_progress.proofs.SteppingLemmas.{IsWorldly, said_nothing}
@@ -70,17 +70,55 @@ call_done rules w p call on_disk nodes plays up still =
 
 -- ---- any event
 
--- the peer is as it was, or a call was made of it
-abbrev pub IsCalled : Rules → World → ℕ → State → Type 0
-IsCalled rules w p s = (s ≡ peer_of w p) ⊎ ((call : Call) × IsWorldly w.said call × (s ≡ (step rules p (peer_of w p) call Works).state))
+-- the peer is as it was, or a call was made of it, of which this holds
+abbrev pub IsCalledBy : Rules → World → ℕ → (Call → Type 0) → State → Type 0
+IsCalledBy rules w p W s = (s ≡ peer_of w p) ⊎ ((call : Call) × W call × (s ≡ (step rules p (peer_of w p) call Works).state))
 
-abbrev Calls : Rules → World → ℕ → World → Type 0
-Calls rules w p v = (peer_of v p).mode ≡ states.Open → IsCalled rules w p (peer_of v p)
+abbrev pub IsCalled : Rules → World → ℕ → State → Type 0
+IsCalled rules w p s = IsCalledBy rules w p (IsWorldly w.said) s
+
+-- the call hears no datagram
+abbrev pub HearsNone : Call → Type 0
+HearsNone call = (packet : Packet) → call ≡ Deliver (Ok packet) → ⊥
+
+-- what an act may call at player p: to hear a datagram, only if the act gives it that one
+abbrev pub Asks : World → ℕ → Act → Call → Type 0
+Asks w p (worlds.Open r) call = HearsNone call
+Asks w p (worlds.Tick r keys) call = HearsNone call
+Asks w p (worlds.Say r to what) call = HearsNone call
+Asks w p (worlds.Give number r) call = (packet : Packet) × (p ≡ r) × (slice_get w.said number ≡ Some packet) × (call ≡ Deliver (Ok packet))
+Asks w p (worlds.Leave leaver) call = HearsNone call
+Asks w p (worlds.Decide leaver) call = HearsNone call
+Asks w p (worlds.Check r) call = HearsNone call
+Asks w p (worlds.Show watcher) call = HearsNone call
+Asks w p (worlds.Hear number watcher) call = HearsNone call
+Asks w p (worlds.Seen watcher) call = HearsNone call
+Asks w p (worlds.Fresh watcher) call = HearsNone call
+
+none_worldly : (said : List Packet) (call : Call) → HearsNone call → IsWorldly said call
+none_worldly said call none = λ packet is. absurd (none packet is)
+
+asks_worldly : (w : World) (p : ℕ) (act : Act) (call : Call) → Asks w p act call → IsWorldly w.said call
+asks_worldly w p (worlds.Open r) call none = none_worldly w.said call none
+asks_worldly w p (worlds.Tick r keys) call none = none_worldly w.said call none
+asks_worldly w p (worlds.Say r to what) call none = none_worldly w.said call none
+asks_worldly w p (worlds.Give number r) call gives =
+    λ other is. let given = gives.3 in let same : gives.0 ≡ other = cc in subst (IsAmong w.said) same (number, gives.2)
+asks_worldly w p (worlds.Leave leaver) call none = none_worldly w.said call none
+asks_worldly w p (worlds.Decide leaver) call none = none_worldly w.said call none
+asks_worldly w p (worlds.Check r) call none = none_worldly w.said call none
+asks_worldly w p (worlds.Show watcher) call none = none_worldly w.said call none
+asks_worldly w p (worlds.Hear number watcher) call none = none_worldly w.said call none
+asks_worldly w p (worlds.Seen watcher) call none = none_worldly w.said call none
+asks_worldly w p (worlds.Fresh watcher) call none = none_worldly w.said call none
+
+abbrev Calls : Rules → World → ℕ → (Call → Type 0) → World → Type 0
+Calls rules w p W v = (peer_of v p).mode ≡ states.Open → IsCalledBy rules w p W (peer_of v p)
 
 -- one player's peer was placed; it is another's, or there was a call
-placed_calls : (rules : Rules) (w : World) (p r : ℕ) (s : State) (new : List Packet) → IsPlayer rules p → IsPlayer rules r
-    → (p ≡ r → Calls rules w p (placed w r s new)) → Calls rules w p (placed w r s new)
-placed_calls rules w p r s new plays also when =
+placed_calls : (rules : Rules) (w : World) (p r : ℕ) (W : Call → Type 0) (s : State) (new : List Packet) → IsPlayer rules p → IsPlayer rules r
+    → (p ≡ r → Calls rules w p W (placed w r s new)) → Calls rules w p W (placed w r s new)
+placed_calls rules w p r W s new plays also when =
     elim (cases_eq p r) [
       | inl same ↦ when same
       | inr other ↦ λ up.
@@ -89,86 +127,89 @@ placed_calls rules w p r s new plays also when =
           inl (peer_there rules w r s new p (λ e. other (omega (arith, e, a, b))))
     ]
 
-mode_calls : (rules : Rules) (w : World) (p r : ℕ) (call : Call) (on_disk : DiskOutcome) (mode : Mode) → length w.peers ≡ rules.players
-    → IsPlayer rules p → IsPlayer rules r → (peer_of w p).mode ≡ states.Open → (peer_of w r).mode ≡ mode → IsWorldly w.said call
-    → Calls rules w p (call_at_mode rules w r call on_disk mode).world
-mode_calls rules w p r call on_disk states.Open nodes plays also up is worldly =
+mode_calls : (rules : Rules) (w : World) (p r : ℕ) (W : Call → Type 0) (call : Call) (on_disk : DiskOutcome) (mode : Mode)
+    → length w.peers ≡ rules.players
+    → IsPlayer rules p → IsPlayer rules r → (peer_of w p).mode ≡ states.Open → (peer_of w r).mode ≡ mode → (p ≡ r → W call)
+    → Calls rules w p W (call_at_mode rules w r call on_disk mode).world
+mode_calls rules w p r W call on_disk states.Open nodes plays also up is asked =
     let st : Stepped = step rules r (peer_of w r) call on_disk in
     let v : World = placed w r st.state (said_by st.reply) in
-    placed_calls rules w p r st.state (said_by st.reply) plays also (λ same. subst (λ (x : ℕ). Calls rules w x v) (sym same) (λ still.
+    placed_calls rules w p r W st.state (said_by st.reply) plays also (λ same. subst (λ (x : ℕ). Calls rules w x W v) (sym same) (λ still.
     let here : peer_of v r ≡ st.state = peer_here rules w r st.state (said_by st.reply) nodes also in
-    inr (call, worldly, here ∙ step_works rules r (peer_of w r) call on_disk is (ap (λ (t : State). t.mode) (sym here) ∙ still))))
-mode_calls rules w p r call on_disk Down nodes plays also up is worldly = λ still. inl refl
-mode_calls rules w p r call on_disk Away nodes plays also up is worldly = λ still. inl refl
+    inr (call, asked same, here ∙ step_works rules r (peer_of w r) call on_disk is (ap (λ (t : State). t.mode) (sym here) ∙ still))))
+mode_calls rules w p r W call on_disk Down nodes plays also up is asked = λ still. inl refl
+mode_calls rules w p r W call on_disk Away nodes plays also up is asked = λ still. inl refl
 
-call_calls : (rules : Rules) (w : World) (p r : ℕ) (call : Call) (on_disk : DiskOutcome) → length w.peers ≡ rules.players → IsPlayer rules p
-    → (peer_of w p).mode ≡ states.Open → IsWorldly w.said call → Calls rules w p (call_at rules w r call on_disk).world
-call_calls rules w p r call on_disk nodes plays up worldly =
-    if_player (λ (a : After). Calls rules w p a.world) (is_player rules r) _ _
-    (λ is. mode_calls rules w p r call on_disk (peer_of w r).mode nodes plays (plays_if rules r is) up refl worldly) (λ still. inl refl)
+call_calls : (rules : Rules) (w : World) (p r : ℕ) (W : Call → Type 0) (call : Call) (on_disk : DiskOutcome) → length w.peers ≡ rules.players
+    → IsPlayer rules p → (peer_of w p).mode ≡ states.Open → (p ≡ r → W call) → Calls rules w p W (call_at rules w r call on_disk).world
+call_calls rules w p r W call on_disk nodes plays up asked =
+    if_player (λ (a : After). Calls rules w p W a.world) (is_player rules r) _ _
+    (λ is. mode_calls rules w p r W call on_disk (peer_of w r).mode nodes plays (plays_if rules r is) up refl asked) (λ still. inl refl)
 
 given_calls : (rules : Rules) (w : World) (p r number : ℕ) (on_disk : DiskOutcome) (o : Option Packet) → length w.peers ≡ rules.players
-    → IsPlayer rules p → (peer_of w p).mode ≡ states.Open → slice_get w.said number ≡ o → Calls rules w p (give_to rules w r on_disk o).world
+    → IsPlayer rules p → (peer_of w p).mode ≡ states.Open → slice_get w.said number ≡ o
+    → Calls rules w p (Asks w p (worlds.Give number r)) (give_to rules w r on_disk o).world
 given_calls rules w p r number on_disk None nodes plays up e = λ still. inl refl
 given_calls rules w p r number on_disk (Some packet) nodes plays up e =
-    call_calls rules w p r (Deliver (Ok packet)) on_disk nodes plays up
-    (λ other is. let same : packet ≡ other = cc in subst (IsAmong w.said) same (number, e))
+    call_calls rules w p r (Asks w p (worlds.Give number r)) (Deliver (Ok packet)) on_disk nodes plays up (λ same. (packet, same, e, refl))
 
-mode_opens : (rules : Rules) (room : ℕ) (w : World) (p r : ℕ) (h : Happening) (mode : Mode) → IsPlayer rules p → IsPlayer rules r
-    → (peer_of w p).mode ≡ states.Open → (peer_of w r).mode ≡ mode → Calls rules w p (open_at_mode rules room w r h mode).world
-mode_opens rules room w p r h states.Open plays also up is = λ still. inl refl
-mode_opens rules room w p r h Down plays also up is =
+mode_opens : (rules : Rules) (room : ℕ) (w : World) (p r : ℕ) (W : Call → Type 0) (h : Happening) (mode : Mode) → IsPlayer rules p
+    → IsPlayer rules r → (peer_of w p).mode ≡ states.Open → (peer_of w r).mode ≡ mode → Calls rules w p W (open_at_mode rules room w r h mode).world
+mode_opens rules room w p r W h states.Open plays also up is = λ still. inl refl
+mode_opens rules room w p r W h Down plays also up is =
     let st : Stepped = opened rules room r (peer_of w r) (found (peer_of w r) h.finds) h.opening in
-    placed_calls rules w p r st.state (said_by st.reply) plays also (λ same. let at = ap (λ (x : ℕ). (peer_of w x).mode) same in absurd (cc (
+    placed_calls rules w p r W st.state (said_by st.reply) plays also (λ same. let at = ap (λ (x : ℕ). (peer_of w x).mode) same in absurd (cc (
       up,
       is,
       at,
     )))
-mode_opens rules room w p r h Away plays also up is =
+mode_opens rules room w p r W h Away plays also up is =
     let st : Stepped = opened rules room r (peer_of w r) (found (peer_of w r) h.finds) h.opening in
-    placed_calls rules w p r st.state (said_by st.reply) plays also (λ same. let at = ap (λ (x : ℕ). (peer_of w x).mode) same in absurd (cc (
+    placed_calls rules w p r W st.state (said_by st.reply) plays also (λ same. let at = ap (λ (x : ℕ). (peer_of w x).mode) same in absurd (cc (
       up,
       is,
       at,
     )))
 
-heard_calls : (rules : Rules) (room : ℕ) (w : World) (p watcher : ℕ) (o : Option Packet) → Calls rules w p (hear_at rules room w watcher o).world
-heard_calls rules room w p watcher None = λ still. inl refl
-heard_calls rules room w p watcher (Some packet) = λ still. inl refl
+heard_calls : (rules : Rules) (room : ℕ) (w : World) (p watcher : ℕ) (W : Call → Type 0) (o : Option Packet)
+    → Calls rules w p W (hear_at rules room w watcher o).world
+heard_calls rules room w p watcher W None = λ still. inl refl
+heard_calls rules room w p watcher W (Some packet) = λ still. inl refl
 
 acted_calls : (rules : Rules) (room : ℕ) (w : World) (p : ℕ) (act : Act) (h : Happening) → length w.peers ≡ rules.players → IsPlayer rules p
-    → (peer_of w p).mode ≡ states.Open → Calls rules w p (acted rules room w act h).world
+    → (peer_of w p).mode ≡ states.Open → Calls rules w p (Asks w p act) (acted rules room w act h).world
 unfolding acted
 acted_calls rules room w p (worlds.Open r) h nodes plays up =
-    if_player (λ (a : After). Calls rules w p a.world) (is_player rules r) _ _
-    (λ is. mode_opens rules room w p r h (peer_of w r).mode plays (plays_if rules r is) up refl) (λ still. inl refl)
+    if_player (λ (a : After). Calls rules w p HearsNone a.world) (is_player rules r) _ _
+    (λ is. mode_opens rules room w p r HearsNone h (peer_of w r).mode plays (plays_if rules r is) up refl) (λ still. inl refl)
 acted_calls rules room w p (worlds.Tick r keys) h nodes plays up =
-    call_calls rules w p r (states.Tick keys) h.on_disk nodes plays up (λ packet is. absurd cc)
+    call_calls rules w p r HearsNone (states.Tick keys) h.on_disk nodes plays up (λ same packet is. cc)
 acted_calls rules room w p (worlds.Say r to what) h nodes plays up =
-    call_calls rules w p r (states.Say to what) h.on_disk nodes plays up (λ packet is. absurd cc)
+    call_calls rules w p r HearsNone (states.Say to what) h.on_disk nodes plays up (λ same packet is. cc)
 acted_calls rules room w p (worlds.Give number r) h nodes plays up =
     given_calls rules w p r number h.on_disk (slice_get w.said number) nodes plays up refl
 acted_calls rules room w p (worlds.Leave leaver) h nodes plays up =
-    call_calls rules w p 1 (states.Leave leaver) h.on_disk nodes plays up (λ packet is. absurd cc)
+    call_calls rules w p 1 HearsNone (states.Leave leaver) h.on_disk nodes plays up (λ same packet is. cc)
 acted_calls rules room w p (worlds.Decide leaver) h nodes plays up =
-    call_calls rules w p 1 (states.Decide leaver) h.on_disk nodes plays up (λ packet is. absurd cc)
+    call_calls rules w p 1 HearsNone (states.Decide leaver) h.on_disk nodes plays up (λ same packet is. cc)
 acted_calls rules room w p (worlds.Check r) h nodes plays up =
-    call_calls rules w p r states.Checkpoint h.on_disk nodes plays up (λ packet is. absurd cc)
+    call_calls rules w p r HearsNone states.Checkpoint h.on_disk nodes plays up (λ same packet is. cc)
 acted_calls rules room w p (worlds.Show watcher) h nodes plays up =
-    call_calls rules w p 1 (states.Show watcher) h.on_disk nodes plays up (λ packet is. absurd cc)
-acted_calls rules room w p (worlds.Hear number watcher) h nodes plays up = heard_calls rules room w p watcher (slice_get w.said number)
+    call_calls rules w p 1 HearsNone (states.Show watcher) h.on_disk nodes plays up (λ same packet is. cc)
+acted_calls rules room w p (worlds.Hear number watcher) h nodes plays up =
+    heard_calls rules room w p watcher HearsNone (slice_get w.said number)
 acted_calls rules room w p (worlds.Seen watcher) h nodes plays up = λ still. inl refl
 acted_calls rules room w p (worlds.Fresh watcher) h nodes plays up = λ still. inl refl
 
 -- who stops is away then
-crashed_calls : (rules : Rules) (w u : World) (p r : ℕ) (leaves : Bool) → length u.peers ≡ rules.players → IsPlayer rules p → Calls rules w p u
-    → Calls rules w p (crashed rules u r leaves)
-crashed_calls rules w u p r leaves nodes plays was =
+crashed_calls : (rules : Rules) (w u : World) (p r : ℕ) (W : Call → Type 0) (leaves : Bool) → length u.peers ≡ rules.players → IsPlayer rules p
+    → Calls rules w p W u → Calls rules w p W (crashed rules u r leaves)
+crashed_calls rules w u p r W leaves nodes plays was =
     let s : State = away (peer_of u r) (found (peer_of u r) leaves) None in
-    world_if (Calls rules w p) (is_player rules r) _ _
+    world_if (Calls rules w p W) (is_player rules r) _ _
     (λ is.
     let also = plays_if rules r is in
-    subst (Calls rules w p) (said_nothing u r s)
+    subst (Calls rules w p W) (said_nothing u r s)
     (elim (cases_eq p r) [
       | inl same ↦ λ still.
           let at : peer_of (placed u r s []) p ≡ s = ap (peer_of (placed u r s [])) same ∙ peer_here rules u r s [] nodes also in
@@ -178,22 +219,30 @@ crashed_calls rules w u p r leaves nodes plays was =
           let a = plays.from_one in
           let b = also.from_one in
           let there : peer_of (placed u r s []) p ≡ peer_of u p = peer_there rules u r s [] p (λ e. other (omega (arith, e, a, b))) in
-          subst (IsCalled rules w p) (sym there) (was (ap (λ (t : State). t.mode) (sym there) ∙ still))
+          subst (IsCalledBy rules w p W) (sym there) (was (ap (λ (t : State). t.mode) (sym there) ∙ still))
     ]))
     was
 
 after_calls : (rules : Rules) (room : ℕ) (w : World) (p : ℕ) (event : Event) (h : Happening) → rules.players ≤ 4 → IsWell rules room w
-    → IsPlayer rules p → (peer_of w p).mode ≡ states.Open → Calls rules w p (after rules room w event h).world
+    → IsPlayer rules p → (peer_of w p).mode ≡ states.Open → Calls rules w p (Asks w p (act_inside event)) (after rules room w event h).world
 after_calls rules room w p (Do act) h few well plays up = acted_calls rules room w p act h well.nodes plays up
 after_calls rules room w p (Stop act calls pick) h few well plays up =
-    crashed_calls rules w (acted rules room w act h).world p (player_of act) h.leaves (after_well rules room w (Do act) h few well).nodes plays
-    (acted_calls rules room w p act h well.nodes plays up)
+    crashed_calls rules w (acted rules room w act h).world p (player_of act) (Asks w p act) h.leaves
+    (after_well rules room w (Do act) h few well).nodes plays (acted_calls rules room w p act h well.nodes plays up)
+
+pub event_asks : (rules : Rules) (room : ℕ) (w v : World) (p : ℕ) (event : Event) (answer : Answer) → rules.players ≤ 4 → IsWell rules room w
+    → IsPlayer rules p → CanHappen rules room w event answer v → (peer_of w p).mode ≡ states.Open → (peer_of v p).mode ≡ states.Open
+    → IsCalledBy rules w p (Asks w p (act_inside event)) (peer_of v p)
+event_asks rules room w v p event answer few well plays can up =
+    subst (λ (a : After). Calls rules w p (Asks w p (act_inside event)) a.world) can.is
+    (after_calls rules room w p event can.happening few well plays up)
 
 pub event_calls : (rules : Rules) (room : ℕ) (w v : World) (p : ℕ) (event : Event) (answer : Answer) → rules.players ≤ 4 → IsWell rules room w
     → IsPlayer rules p → CanHappen rules room w event answer v → (peer_of w p).mode ≡ states.Open → (peer_of v p).mode ≡ states.Open
     → IsCalled rules w p (peer_of v p)
-event_calls rules room w v p event answer few well plays can up =
-    subst (λ (a : After). Calls rules w p a.world) can.is (after_calls rules room w p event can.happening few well plays up)
+event_calls rules room w v p event answer few well plays can up still =
+    ⊎_elim (λ same. inl same) (λ c. inr (c.0, asks_worldly w p (act_inside event) c.0 c.1, c.2))
+    (event_asks rules room w v p event answer few well plays can up still)
 
 -- ---- what was said stays said
 

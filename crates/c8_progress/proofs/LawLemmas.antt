@@ -9,10 +9,10 @@ use Rattle.c8_peer.specs.Hearing.{seen_in}
 use Rattle.c8_peer.specs.Opening.{found}
 use Rattle.c8_peer.specs.Truth.{IsTrueMessage}
 use Rattle.c8_world.specs.World.{World, IsReached, Event, Answer, Chain, peer_of, journal_of, Give, Do, CanHappen}
-use Rattle.c8_world.specs.Agreement.{IsPlayer, IsTrueBy, IsAmong, IsUndropped, IsTrueSaid, HasFrozen, IsBounded, AreReports, AreLinked, refused_for}
+use Rattle.c8_world.specs.Agreement.{IsPlayer, IsTrueBy, IsAmong, IsUndropped, IsTrueSaid, HasFrozen, IsBounded, AreReports, AreLinked, HasTrueRows}
+use Rattle.c8_world.specs.Agreement.{refused_for}
 use Rattle.c8_world.specs.Headline.{IsHeadline}
-use Rattle.std.specs.Prelude.{◌≢◌, true}
-use Rattle.c8_peer.specs.State.{Hello, Welcome, Data}
+use Rattle.std.specs.Prelude.{◌≢◌}
 use Rattle.c8_known.specs.Growth.{Begins}
 use Rattle.std.specs.List.{slice_get}
 use Rattle.c8_refusals.specs.declared.error.Refused.TheVariants.{Desync}
@@ -42,6 +42,7 @@ pub record HasLaws (rules : Rules) (room : ℕ) (w : World) : Type 0 where
   pub bounded : (p : ℕ) → IsPlayer rules p → IsBounded rules w p
   pub reports : (p : ℕ) → IsPlayer rules p → AreReports rules w p
   pub linked : (p q : ℕ) → IsPlayer rules p → AreLinked w p q
+  pub watched : (watcher : ℕ) → HasTrueRows rules w watcher
 
 -- each reached world has them
 abbrev pub Laws : Rules → ℕ → Type 0
@@ -79,6 +80,7 @@ has_laws rules room w h journals = record {
   bounded = h.bounded;
   reports = h.reports;
   linked = h.linked;
+  watched = h.watched;
 }
 
 -- the laws, as c8_world's functions state them

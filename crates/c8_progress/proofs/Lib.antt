@@ -37,3 +37,7 @@ pub mod SteadyLemmas
 pub mod PassingLemmas
 pub mod LeavingLemmas
 pub mod FinishingLemmas
+pub mod NewLemmas
+pub mod SeenLemmas
+pub mod WatcherLemmas
+pub mod WatchingLemmas

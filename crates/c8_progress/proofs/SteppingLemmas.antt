@@ -49,7 +49,7 @@ still_pending journal r t same rises =
     let before : epoch (journal ++ t ∷ []) ≡ epoch_after (epoch journal) t = epoch_more journal t in
     omega (arith, rises, same, after ∙ ap (λ (n : ℕ). epoch_after n t) same ∙ sym before)
 
-said_none : (reply : Reply) → said_in reply ≡ None → (x : Packet) → IsAmong (said_by reply) x → ⊥
+pub said_none : (reply : Reply) → said_in reply ≡ None → (x : Packet) → IsAmong (said_by reply) x → ⊥
 said_none (Opened result) none x (n, e) = cc e
 said_none (Ticked result) none x (n, e) = cc e
 said_none (Delivered result) none x (n, e) = cc e
@@ -59,7 +59,7 @@ said_none (Left result) none x (n, e) = cc e
 said_none (Decided result) none x (n, e) = cc e
 said_none (Checked result) none x (n, e) = cc e
 
-said_one : (reply : Reply) (head : HeadValue) → said_in reply ≡ Some head → (x : Packet) → IsAmong (said_by reply) x → x.head ≡ head
+pub said_one : (reply : Reply) (head : HeadValue) → said_in reply ≡ Some head → (x : Packet) → IsAmong (said_by reply) x → x.head ≡ head
 said_one (Opened result) head is x (n, e) = absurd (cc e)
 said_one (Ticked result) head is x (n, e) = absurd (cc e)
 said_one (Delivered result) head is x (n, e) = absurd (cc e)
@@ -70,7 +70,7 @@ said_one (Left result) head is x (n, e) = absurd (cc e)
 said_one (Decided result) head is x (n, e) = absurd (cc e)
 said_one (Checked result) head is x (n, e) = absurd (cc e)
 
-none_by_disk : (call : Call) (why : DiskError) (x : Packet) → IsAmong (said_by (refused_by_disk call why)) x → ⊥
+pub none_by_disk : (call : Call) (why : DiskError) (x : Packet) → IsAmong (said_by (refused_by_disk call why)) x → ⊥
 none_by_disk (states.Tick keys) why x (n, e) = cc e
 none_by_disk (states.Deliver told) why x (n, e) = cc e
 none_by_disk (states.Say to what) why x (n, e) = cc e

@@ -3,3 +3,4 @@ pub mod Ending
 pub mod Meeting
 pub mod Exchange
 pub mod Rounds
+pub mod Watching

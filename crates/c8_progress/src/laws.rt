@@ -1,18 +1,22 @@
 //! Laws of progress. Each is the contract of a function that only calls laws of c8_world, or does nothing.
-ghost use Rattle.std.specs.Prelude.{◌≡◌, ◌≢◌, ◌≤◌, ◌<◌, ◌^◌, ◌+◌, ◌*◌, ℕ, None};
+ghost use Rattle.std.specs.Prelude.{◌≡◌, ◌≢◌, ◌≤◌, ◌<◌, ◌^◌, ◌+◌, ◌*◌, ℕ, None, length, suc, true};
 ghost use Rattle.c8_game.specs.Rules.{Rules, AreInRange};
 ghost use Rattle.c8_wire.specs.Packet.{HeadValue};
 ghost use Rattle.c8_hand.specs.Links.{LinksValue, refusal, heard};
 ghost use Rattle.c8_known.specs.Journal.{epoch};
-ghost use Rattle.c8_known.specs.Confirmed.{confirmed};
+ghost use Rattle.c8_wire.specs.Seats.{is_watcher};
+ghost use Rattle.c8_wire.specs.Sizes.{most_rows};
+ghost use Rattle.c8_known.specs.Confirmed.{confirmed, confirmed_rows};
+ghost use Rattle.c8_known.specs.Growth.{Begins};
 ghost use Rattle.c8_peer.specs.Opening.{last_epoch};
 ghost use Rattle.c8_peer.specs.State.{Open};
-ghost use Rattle.c8_world.specs.World.{World, IsReached, peer_of, journal_of, known_by};
+ghost use Rattle.c8_world.specs.World.{World, IsReached, peer_of, journal_of, known_by, rows_of};
 ghost use Rattle.c8_world.specs.Agreement.{IsPlayer, IsUndropped};
 ghost use Rattle.c8_progress.specs.Ending.{CanAlwaysEnd};
 ghost use Rattle.c8_progress.specs.Exchange.{links_of, got_on, GetOn, Greets};
 ghost use Rattle.c8_progress.specs.Meeting.{AreMatched, IsFresh, Meets, met, met_in_turns};
 ghost use Rattle.c8_progress.specs.Rounds.{Run, IsCalm, FairRounds, FairMatch, DropsAreOver, IsKept, LinksAreOpen};
+ghost use Rattle.c8_progress.specs.Watching.{WatchRounds};
 
 use c8_world::laws::{any_two_moments_agree, openings_find_journals};
 
@@ -122,6 +126,27 @@ pub fn fair_rounds_end_a_match()
         → DropsAreOver rules (run.world 0)
         → IsPlayer rules p → IsUndropped (run.world 0) p
         → rounds.begin (3 + 3 * rules.frames) ≤ t → confirmed (known_by rules (run.world t) p) ≡ rules.frames }
+{
+    any_two_moments_agree();
+    openings_find_journals();
+}
+
+/// Rounds bring a watcher all rows that player 1 had confirmed when the run began, from any reached world.
+///
+/// In a round the watcher hears a SHOW of player 1, and then player 1 hears a SEEN of the watcher. Anything else may happen:
+/// the match goes on, other players crash, datagrams are lost or come late. But player 1 stays open, the watcher does not
+/// start over, and from the SEEN of a round to the next SHOW no older SEEN arrives: it would lead player 1 back.
+///
+/// After the first round player 1 knows what the watcher has, whatever it took it to have before. Each further round brings
+/// a full SHOW, or all that was confirmed.
+pub fn rounds_bring_a_watcher_rows()
+    ensures { (rules : Rules) (room : ℕ) (run : Run rules room) (watcher more t : ℕ)
+        (rounds : WatchRounds rules room run watcher (suc more))
+        → AreInRange rules → room < 2 ^ 64 → IsReached rules room (run.world 0)
+        → ((time : ℕ) → (peer_of (run.world time) 1).mode ≡ Open) → is_watcher watcher ≡ true
+        → confirmed (known_by rules (run.world 0) 1) ≤ length (rows_of (run.world 0) watcher) + most_rows * more
+        → rounds.arrives more ≤ t
+        → Begins (confirmed_rows (known_by rules (run.world 0) 1)) (rows_of (run.world t) watcher) }
 {
     any_two_moments_agree();
     openings_find_journals();
