@@ -16,7 +16,7 @@
  * - A session starts as {0}. Never change `at`, and keep one live copy: pass pointers.
  * - One call at a time on a session. Sessions share nothing, so each may be used by a thread of its own. After fork() a
  *   child uses none of its parent's sessions, and closes none.
- * - A pointer is not null, and points to as many bytes as its length or array bound says. Two pointers of one call that
+ * - A pointer is not null (but for c8_deliver of no bytes), and points to as many bytes as its length or array bound says. Two pointers of one call that
  *   the call writes to do not overlap each other or what it reads.
  *
  * A call whose answer is a c8_answer says 0 for done (some say 1 or 2 for more than that), and from 101 on a refusal:
@@ -97,10 +97,21 @@ typedef struct {
     uint32_t cut;          /* the frame from which on its inputs are empty, once it is known; else C8_UNCUT */
 } c8_player_state;
 
-/* Who is ahead: the own ticks that reached a player are `acknowledged` - delay, its ticks that came here `held` - delay.
- * The own player is ahead of it by about (ticked + delay - held) - (ticked + delay - acknowledged) / 2 frames. If that
- * stays above 1, leave out a tick now and then: it is always allowed, and the other one has fewer rollbacks. With several
- * players the one with the fewest `held` counts, among those that are not `dropped`. */
+/* What happened in a session. */
+typedef struct {
+    uint8_t kind;   /* one of C8_EVENT_LINKED to C8_EVENT_ENDED */
+    uint8_t player; /* whom it is about, 1 to 4; 0 for the session itself */
+    uint32_t frame; /* the frame that it names; 0 if it names none */
+} c8_event_state;
+
+enum {
+    C8_EVENT_LINKED = 1,      /* the link to `player` has opened: for the first time, or after one of both started again */
+    C8_EVENT_INTERRUPTED = 2, /* its link is open, and it has been silent for 60 turns */
+    C8_EVENT_RESUMED = 3,     /* it is heard again after that */
+    C8_EVENT_DROPPED = 4,     /* it was dropped: from `frame` on its inputs are empty. Its own session has no such event */
+    C8_EVENT_DESYNC = 5,      /* its CHIP-8 machine differs from the own one after `frame` frames: once for a frame */
+    C8_EVENT_ENDED = 6        /* c8_is_over has become true, with `frame` frames confirmed */
+};
 
 /* What an input of a row is. */
 enum {
@@ -116,8 +127,8 @@ enum {
  * unless it is refused. The rules of the game, some hundred bytes and its program, are never given back. Use a room once.
  *
  * Only player 1 drops players, and nobody drops player 1: a match without it waits, and ends there if it does not come
- * back. Player 1 drops a player who was silent for `patience` turns; 0 never. This begins with player 1's opening, so
- * choose more turns than the others need to load. At the sessions of other players `patience` does nothing.
+ * back. Player 1 drops a player who was silent for `patience` turns after its link opened; 0 never. It waits for ever for
+ * the first link: c8_patience changes both. At the sessions of other players `patience` does nothing.
  *
  * It reserves 144 bytes for each record of the journal: players times frames, 37 for each 3,600 frames, and 65,536 more.
  * That is 9.6 MB for two players and 600 frames, 161 MB for four and 262,144; what is not used is not touched. */
@@ -135,6 +146,17 @@ c8_answer c8_open_journal(const uint8_t *text, size_t length, uint8_t player, ui
  * name. Returns 0, or -1 with errno; on Windows with GetLastError. On macOS, iOS and Android it is not in the library:
  * compile c8_journal.c with the program. */
 int c8_journal_open(const char *path, int32_t *file, int32_t *folder);
+
+/* From now on player 1 drops a player who was silent for `later` turns, and one that was never heard over an open link for
+ * `first` turns since the opening; 0 never. After an opening `first` is 0. Count them in turns of the present rate. Refused
+ * with C8_CLOSED. */
+c8_answer c8_patience(c8_session *, uint32_t first, uint32_t later);
+
+/* The match ends after this many frames, no more than those of the game, as the engine's own machine says. All players name
+ * the same frame, since their machines agree once it is confirmed. From then on the session is over by the rule of the last
+ * frame: once these frames were confirmed and acknowledged for more than 120 turns. Another number starts these turns again.
+ * Ticks are no longer needed, and do no harm. Refused with C8_CLOSED. */
+c8_answer c8_end(c8_session *, uint32_t frames);
 
 /* Closes a session. At a closed one it does nothing; a closed one may be opened again. */
 void c8_close(c8_session *);
@@ -154,7 +176,7 @@ void c8_memory(void *(*take)(size_t size), void *(*again)(void *at, size_t size)
 /* Processes a received packet: any bytes, at any time between two calls. 0: it added nothing; 1: it added inputs or a
  * decision; 2: it says that player 1 has dropped this player. Refusals are normal, since packets come late, twice or from
  * strangers: only C8_DISK, C8_FULL and C8_DESYNC need an answer. C8_DIFFERS and C8_BAD_ACK, if they go on, tell that a
- * journal was lost: its player cannot play on. */
+ * journal was lost: its player cannot play on. Without bytes the pointer may be null. */
 c8_answer c8_deliver(c8_session *, const uint8_t *bytes, size_t length);
 
 /* Enters the own player's next input, 16 bits. The input of tick t, from 0 on, is in row t + delay; the first rows, as
@@ -180,6 +202,17 @@ c8_answer c8_watched(c8_session *, uint8_t watcher);
  * 120 turns. True for a closed session. */
 bool c8_is_over(c8_session *);
 
+/* Writes the oldest event that waits, and returns true; or false if none waits, and at a closed session. Each event comes
+ * once, in order, none is lost, and none takes memory: one of each kind and player can wait, and a second one takes the place
+ * of the first. A session over a journal has an event for each cut of the journal again after each opening. */
+bool c8_event(c8_session *, c8_event_state *);
+
+/* Returns how many ticks to leave out in this frame: 0 or 1. Call it once a frame, before the tick. It is 1 if the own
+ * player is more than half the window ahead of the player who is furthest behind, among those whose inputs have no end, and
+ * was in each of the last 60 frames, which were all ticked. Who is ahead has all the rollbacks; so all have about as
+ * many. 0 at a closed session. */
+uint32_t c8_wait(c8_session *);
+
 /* Whether another player acknowledged inputs of this player that its journal does not have: the journal was lost or
  * replaced by an older copy, and this session cannot go on. False for a closed session. */
 bool c8_is_lost(c8_session *);
@@ -200,7 +233,7 @@ uint32_t c8_step(c8_session *, uint32_t *from, uint16_t *rows, size_t words);
 
 /* Writes for each of the four players what its input in the best row of a frame is: C8_PREDICTED, C8_HELD or C8_EMPTY. A
  * player that the game has not is C8_PREDICTED. A machine that treats a dropped player otherwise than one with an input of
- * 0 goes back to its `cut` by itself, once that is known, if c8_step gives no earlier frame: its states are still there. */
+ * 0 goes back to the frame of C8_EVENT_DROPPED by itself if c8_step gives no earlier one: its states are still there. */
 c8_answer c8_status(c8_session *, uint32_t frame, uint8_t out[C8_ROW]);
 
 /* For a test of an engine's machine: from now on each step goes back by `depth` frames, as far as they were not

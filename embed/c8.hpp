@@ -105,6 +105,10 @@ public:
     c8_answer deliver(Bytes packet) { return c8_deliver(&handle, packet.data(), packet.size()); }
     c8_answer tick(std::uint16_t input) { return c8_tick(&handle, input); }
     void turn() { done(c8_turn(&handle)); }
+    // How many ticks to leave out in this frame: once a frame, before the tick.
+    std::uint32_t wait() { return c8_wait(&handle); }
+    void patience(std::uint32_t first, std::uint32_t later) { done(c8_patience(&handle, first, later)); }
+    void end(std::uint32_t frames) { done(c8_end(&handle, frames)); }
     // The next packet of this turn, until there is none.
     std::optional<Packet> next() {
         Packet packet;
@@ -134,6 +138,11 @@ public:
     std::uint32_t ticked() const { return c8_ticked(&handle); }
     std::uint32_t confirmed() const { return c8_confirmed(&handle); }
     std::uint32_t epoch() const { return c8_epoch(&handle); }
+    // The oldest event that waits.
+    std::optional<c8_event_state> event() {
+        c8_event_state event{};
+        return c8_event(&handle, &event) ? std::optional(event) : std::nullopt;
+    }
     // What the input of each player in the best row of a frame is.
     std::array<std::uint8_t, C8_ROW> status(std::uint32_t frame) const {
         std::array<std::uint8_t, C8_ROW> out;

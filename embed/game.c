@@ -191,16 +191,16 @@ static void fail(const char *what, uint32_t why) {
     exit(1);
 }
 
-/* Whether the player should leave out a tick: it has been more than half a window ahead of the other for a second. This
- * keeps both players' predictions about equally long. */
-static bool is_too_fast(c8_session *session, uint8_t other) {
-    static int ahead;
-    c8_player_state player;
-    c8_player(session, other, &player);
-    ahead = player.dropped || c8_ticked(session) <= player.held + WINDOW / 2 ? 0 : ahead + 1;
-    if (ahead < 60) return false;
-    ahead = 0;
-    return true;
+/* Reads the events, and returns what to show beside the score: whether the other player is away. */
+static const char *news_of(c8_session *session) {
+    static const char *shown = "";
+    c8_event_state event;
+    while (c8_event(session, &event)) {
+        if (event.kind == C8_EVENT_INTERRUPTED) shown = "waiting for the other";
+        if (event.kind == C8_EVENT_LINKED || event.kind == C8_EVENT_RESUMED) shown = "";
+        if (event.kind == C8_EVENT_DROPPED) shown = "the other is gone";
+    }
+    return shown;
 }
 
 typedef struct {
@@ -299,7 +299,6 @@ static void wait_for_frame(c8_session *session, network *n, bool is_scripted, bo
 
 int main(int count, char **words) {
     const options o = read_options(count, words);
-    const uint8_t other = 3 - o.me;
     c8_session session = {0};
     c8_player_state player = {0};
     bool was_refused = false, quit = false;
@@ -313,7 +312,7 @@ int main(int count, char **words) {
     while (!quit && !c8_is_over(&session)) {
         wait_for_frame(&session, &n, o.is_scripted, was_refused);
         uint16_t keys = o.is_scripted ? scripted(o.seed, c8_ticked(&session)) : typed(&quit);
-        if (o.is_scripted || !is_too_fast(&session, other)) {
+        if (o.is_scripted || !c8_wait(&session)) {
             /* A refused input is lost here; the next frame has its own. */
             uint32_t why = c8_tick(&session, keys);
             was_refused = why != 0;
@@ -328,8 +327,7 @@ int main(int count, char **words) {
         }
         send_all(&session, &n, o.lose);
         run(&session);
-        c8_player(&session, other, &player);
-        if (!o.is_scripted) draw(&states[c8_ticked(&session) % RING], player.silent > 60 ? "waiting for the other" : "");
+        if (!o.is_scripted) draw(&states[c8_ticked(&session) % RING], news_of(&session));
     }
     if (!o.is_scripted) printf("\033[2J\033[H");
     c8_player(&session, o.me, &player);

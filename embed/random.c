@@ -169,7 +169,7 @@ static void deliver(c8_session *s) {
     } else if (kind == 14 && length > 4) { /* any bytes with the head of a datagram */
         bytes[0] = 0x43, bytes[1] = 0x38, bytes[2] = (uint8_t)(1 + roll(2)), bytes[3] = (uint8_t)(1 + roll(9));
     }
-    uint32_t answer = answered(c8_deliver(s, bytes, length));
+    uint32_t answer = answered(c8_deliver(s, length ? bytes : NULL, length));
     sender(s, answer);
     unsealed += answer == C8_NOT_SEALED;
     repeated += answer == C8_SEEN_BEFORE;
@@ -226,9 +226,22 @@ static void read_all(c8_session *s) {
     c8_is_lost(s);
 }
 
-static void look(c8_session *s) {
+/* Events come in no other shape, and a closed session has none. */
+static void tell(c8_session *s) {
+    c8_event_state event = {0};
+    for (int i = 0; c8_event(s, &event); i++) {
+        if (!s->at || event.kind < C8_EVENT_LINKED || event.kind > C8_EVENT_ENDED || event.player > 4) fail("an event", event.kind);
+        if ((event.player == 0) != (event.kind == C8_EVENT_ENDED)) fail("about nobody", event.player);
+        if (i > 24) fail("too many events", event.kind);
+    }
+    if (c8_wait(s) > (s->at ? 1 : 0)) fail("a wait", 2);
     answered(c8_status(s, (uint32_t)roll(2100), clear()));
     untouched(4);
+    if (!roll(50)) answered(c8_patience(s, any_patience(), any_patience()));
+    if (!roll(200)) answered(c8_end(s, (uint32_t)roll(3000)));
+}
+
+static void look(c8_session *s) {
     answered(c8_screen(s, clear()));
     untouched(C8_PICTURE);
     answered(c8_state(s, clear()));
@@ -289,7 +302,7 @@ static void call(c8_session *s) {
     case 2: what = "c8_explain"; explain(); break;
     case 3: what = "c8_rules"; make_rules(); break;
     case 4: what = "c8_secret"; if (!roll(8)) give_secret(s); break;
-    case 5: what = "c8_state"; if (!roll(8)) look(s); break;
+    case 5: what = "c8_state"; if (!roll(8)) look(s); else tell(s); break;
     case 6: case 7: what = "c8_step"; step(s); break;
     case 8: case 9: what = "c8_next"; next(s); break;
     default: change(s);

@@ -6,8 +6,8 @@ import tempfile
 import unittest
 
 import example
-from c8play import (Closed, DiskLocked, Kind, NotSealed, Refusal, SealedAlready, SeenBefore, Session, Status, Threshold, calls,
-                    explain, rules, version)
+from c8play import (Closed, Desync, DiskLocked, Dropped, Event, EventKind, Kind, NotSealed, Refusal, SealedAlready, SeenBefore, Session, Status,
+                    Threshold, calls, explain, rules, version)
 
 HERE = os.path.dirname(os.path.realpath(__file__))
 TEXT = rules(2, 100, 1, 8, b"test 1")
@@ -57,17 +57,104 @@ class Tests(unittest.TestCase):
             self.assertEqual({it for it, _ in two.packets()}, {1})
             self.assertEqual(list(two.packets()), [])
 
-    def test_cut(self) -> None:
+    def test_events(self) -> None:
         text = rules(3, 1000, 0, 8, b"test 2")
-        with Session(text, 1, 7, 20) as one, Session(text, 2, 7) as two, Session(text, 3, 7) as three:
-            play({1: one, 2: two, 3: three}, 10)
-            self.assertIsNone(two.player(3).cut)
-            play({1: one, 2: two}, 40)
-            cut = two.player(3).cut or 0
-            self.assertEqual((one.player(3).cut, cut > 0), (cut, True))
+        with Session(text, 1, 7) as one, Session(text, 2, 7) as two, Session(text, 3, 7) as three:
+            both, all_three = {1: one, 2: two}, {1: one, 2: two, 3: three}
+            play(all_three, 10)
+            told = [list(it.events()) for it in (one, two, three)]
+            linked = [[Event(EventKind.LINKED, it, 0) for it in others] for others in ((2, 3), (1, 3), (1, 2))]
+            self.assertEqual([sorted(it) for it in told], linked)
+            play(both, 59)
+            self.assertEqual((list(one.events()), list(two.events())), ([], []))
+            play(both, 1)
+            self.assertEqual(two.player(3).silent, 60)
+            self.assertEqual(list(two.events()), [Event(EventKind.INTERRUPTED, 3, 0)])
+            play(all_three, 10)
+            self.assertEqual(list(two.events()), [Event(EventKind.RESUMED, 3, 0)])
+            one.patience(0, 100)
+            play(both, 130)
+            cut = two.player(3).cut
+            self.assertIsNotNone(cut)
+            self.assertEqual(list(two.events()), [Event(EventKind.INTERRUPTED, 3, 0), Event(EventKind.DROPPED, 3, cut or 0)])
+            self.assertEqual(list(one.events())[-1], Event(EventKind.DROPPED, 3, cut or 0))
             held = (Status.HELD, Status.HELD)
-            self.assertEqual([two.status(it)[:3] for it in (cut - 1, cut)], [(*held, Status.HELD), (*held, Status.EMPTY)])
+            self.assertEqual([two.status((cut or 0) - 1)[:3], two.status(cut or 0)[:3]], [(*held, Status.HELD), (*held, Status.EMPTY)])
             self.assertEqual(two.status(999)[:3], (Status.PREDICTED, Status.PREDICTED, Status.EMPTY))
+            self.assertRaises(Dropped, play, all_three, 1)
+            self.assertEqual(list(three.events()), [Event(EventKind.ENDED, 0, three.confirmed())])
+            frames = min(one.confirmed(), two.confirmed())
+            one.end(frames)
+            two.end(frames)
+            play(both, 110)
+            self.assertFalse(one.is_over() or two.is_over())
+            one.end(frames - 1)
+            play(both, 20)
+            self.assertEqual((one.is_over(), two.is_over()), (False, True))
+            self.assertEqual([it.kind for it in two.events()], [EventKind.ENDED])
+            play(both, 110)
+            self.assertTrue(one.is_over())
+
+    def test_desync(self) -> None:
+        with Session(TEXT, 1, 7) as one, Session(TEXT, 2, 7) as two:
+            greet(one, two)
+            other = []
+            for frame in (0, 32):
+                packet = bytearray(two.say(1, Kind.DATA))
+                self.assertEqual(int.from_bytes(packet[28:32], "big"), frame)
+                packet[32] ^= 1
+                other.append(bytes(packet))
+                self.assertRaises(Desync, one.deliver, other[-1])
+                self.assertEqual([it for it in one.events() if it.kind != EventKind.LINKED], [Event(EventKind.DESYNC, 2, frame)])
+                for again in other:
+                    self.assertRaises(Desync, one.deliver, again)
+                self.assertEqual(list(one.events()), [])
+                play({1: one, 2: two}, 40)
+
+    def test_cuts_of_a_journal(self) -> None:
+        text = rules(2, 100, 0, 8, b"test 4")
+        with tempfile.TemporaryDirectory() as folder:
+            with Session(text, 1, 7, journal=f"{folder}/one") as one:
+                one.leave(2)
+                one.turn()
+                cut = Event(EventKind.DROPPED, 2, one.player(2).cut or 0)
+                self.assertEqual((list(one.events()), list(one.events())), ([cut], []))
+            with Session(text, 1, 7, journal=f"{folder}/one") as one:
+                self.assertEqual((list(one.events()), list(one.events())), ([cut], []))
+
+    def test_patience(self) -> None:
+        with Session(TEXT, 1, 7, 5) as one:
+            play({1: one}, 50)
+            self.assertFalse(one.player(2).dropped)
+            one.patience(60, 5)
+            play({1: one}, 9)
+            self.assertFalse(one.player(2).dropped)
+            play({1: one}, 2)
+            self.assertTrue(one.player(2).dropped)
+
+    def test_wait(self) -> None:
+        with Session(rules(2, 1000, 0, 12, b"test 3"), 1, 7) as one, Session(rules(2, 1000, 0, 12, b"test 3"), 2, 7) as two:
+            greet(one, two)
+            way: list[list[bytes]] = []
+            waits = []
+            for frame in range(200):
+                if one.wait():
+                    waits.append(frame)
+                else:
+                    one.tick(1)
+                for session, other, number in ((one, two, 2), (two, one, 1)):
+                    session.turn()
+                    sent = [packet for _, packet in session.packets()]
+                    if number == 2:
+                        two.tick(2)
+                        for packet in sent:
+                            other.deliver(packet)
+                    else:
+                        way.append(sent)
+                        for packet in way[frame - 9] if frame >= 9 else []:
+                            other.deliver(packet)
+            self.assertEqual(waits[1:], [it + 60 for it in waits[:-1]])
+            self.assertGreaterEqual(len(waits), 2)
 
     def test_machine(self) -> None:
         with Session(TEXT, 1, 7) as session:

@@ -1,15 +1,18 @@
 -- Rows that are given from a frame on, and the states of an engine that runs them.
-use Rattle.std.proofs.Common.{◌≡◌, ℕ, zero, suc, ◌+◌, ◌<◌, ◌≤◌, List, [], ◌∷◌, ◌++◌, length, take, drop, get_or, Some, refl, sym, ap, ◌∙◌, arith}
+use Rattle.std.proofs.Common.{◌≡◌, ℕ, zero, suc, ◌+◌, ◌<◌, ◌≤◌, List, [], ◌∷◌, ◌++◌, length, take, drop, get_or, Some, inl, inr, refl, sym, ap}
+use Rattle.std.proofs.Common.{◌∙◌, arith}
 use Rattle.std.specs.List.{slice_get}
 use Rattle.std.proofs.Math.Seq.{take-suc}
-use Rattle.std.proofs.lemmas.List.FromFn.{length-map-range_with_len, take-map-range_with_len, map-range_with_len_more}
+use Rattle.std.proofs.lemmas.Bool.{cases_lt}
+use Rattle.std.proofs.lemmas.Option.{slice_get-get_or}
+use Rattle.std.proofs.lemmas.List.FromFn.{length-map-range_with_len, take-map-range_with_len, map-range_with_len_more, get_or-map-range_with_len}
 use Rattle.c8_game.specs.declared.row.Row.{Row}
 use Rattle.c8_game.specs.Rules.{Rules}
 use Rattle.c8_known.specs.Journal.{Record, ticks}
 use Rattle.c8_known.specs.Known.{KnownValue, known_of}
 use Rattle.c8_known.specs.Confirmed.{confirmed, row, rows_below, best_row, best_rows_below}
 use Rattle.c8_known.specs.checked.ConfirmedLaws.{map_same, best_of_confirmed, confirmed_is}
-use Rattle.c8_embed.specs.Steps.{StepsValue, IsTrueTo, run, states, goes_back, IsStepped}
+use Rattle.c8_embed.specs.Steps.{StepsValue, IsTrueTo, IsFirstChange, run, states, goes_back, IsStepped}
 
 -- the state at a frame is the run of the rows before it
 pub state_at : {S : Type 0} (step : S → Row → S) (s : S) (rows : List Row) (n : ℕ) → n ≤ length rows
@@ -75,6 +78,33 @@ settled_ticked k s is =
     let ticked = (confirmed_is k).ticked in
     let within = is.confirmed_is in
     omega (arith, ticked, within)
+
+-- ---- a step goes back to no row that was given as confirmed
+
+got_taken : {X : Type 0} (xs : List X) (n i : ℕ) → i < n → slice_get (take n xs) i ≡ slice_get xs i
+got_taken xs zero i less = absurd (omega (arith, less))
+got_taken [] (suc n) i less = refl
+got_taken (x ∷ xs) (suc n) zero less = refl
+got_taken (x ∷ xs) (suc n) (suc i) less = got_taken xs n i (omega (arith, less))
+
+-- a row that was given as confirmed is the best row still
+settled_row : (k : KnownValue) (s : StepsValue) (i : ℕ) → IsTrueTo k s → i < s.settled → slice_get s.given i ≡ Some (best_row k i)
+settled_row k s i is less =
+    let long : length (best_rows_below k s.settled) ≡ s.settled = best_length k s.settled in
+    let here : get_or (best_rows_below k s.settled) i (best_row k i) ≡ best_row k i =
+    get_or-map-range_with_len (best_row k) 0 s.settled i i (best_row k i) less (omega arith) in
+    sym (got_taken s.given s.settled i less) ∙ ap (λ (rows : List Row). slice_get rows i) is.settled_is
+    ∙ slice_get-get_or (best_rows_below k s.settled) i (best_row k i) (omega (arith, less, long)) ∙ ap (λ (r : Row). Some r) here
+
+pub settled_first : (k : KnownValue) (s : StepsValue) (from : ℕ) → IsTrueTo k s → IsFirstChange k s.given from → s.settled ≤ from
+settled_first k s from is first =
+    elim (cases_lt from s.settled) [
+      | inl less ↦
+          let ticks = settled_ticked k s is in
+          let long = is.within in
+          absurd (first.differs (omega (arith, less, long)) (omega (arith, less, ticks)) (settled_row k s from is less))
+      | inr past ↦ past
+    ]
 
 pub ticked : (rules : Rules) (me : ℕ) (journal : List Record) → ticks journal ≡ (known_of rules me journal).ticks
 unfolding known_of

@@ -17,7 +17,7 @@ use Rattle.c8_transport.specs.Sealer.{SealerValue, HasSealed, IsTaking}
 use Rattle.c8_transport.specs.declared.error.NotTaken.{NotTaken}
 use Rattle.c8_transport.specs.declared.keys.Secrets.{Secrets}
 use Rattle.c8_session.specs.Turns.{IsSayingTo}
-use Rattle.c8_embed.specs.Engine.{EngineValue}
+use Rattle.c8_embed.specs.Engine.{EngineValue, HasLookedAt, HasHeardAt}
 use Rattle.c8_embed.specs.Journal.{disk}
 use Rattle.c8_embed.specs.declared.medium.Medium.{Medium}
 use Rattle.c8_embed.specs.declared.endpoint.Endpoint.{Endpoint}
@@ -29,11 +29,13 @@ use Rattle.c8_embed.specs.declared.endpoint.Undelivered.TheVariants as undeliver
 abbrev pub EngineOf : Type 0
 EngineOf = EngineValue (FileDisk Medium)
 
--- a call of the peer, and the rows that were given stay
+-- a call of the peer, and a look; the rows that were given stay
 pub record HasCalled (old new : EngineOf) (call : Call) (reply : Reply) : Type 0 where
   pub answered : IsAnswered disk old.peer call reply new.peer
   pub steps : new.steps ≡ old.steps
   pub depth : new.depth ≡ old.depth
+  pub lead : new.lead ≡ old.lead
+  pub news : HasLookedAt new.peer old.news new.news
 
 -- nothing has changed: no counter is used up, and the last sender is known as before
 pub record IsAsBefore (old new : Endpoint) : Type 0 where
@@ -65,10 +67,14 @@ abbrev pub answer_of : Result Heard Refused → Result Heard Undelivered
 answer_of (Ok heard) = Ok heard
 answer_of (Err why) = Err (undelivered.Refused why)
 
--- a datagram is delivered to the peer
+-- a datagram is delivered to the peer, and the engine looks, and notes the alarm that it raised
 pub record IsHeard (old new : EngineOf) (datagram : List ℕ) (answer : Result Heard Undelivered) : Type 0 where
   pub reply : Result Heard Refused
-  pub called : HasCalled old new (Deliver (read datagram)) (Delivered reply)
+  pub answered : IsAnswered disk old.peer (Deliver (read datagram)) (Delivered reply) new.peer
+  pub steps : new.steps ≡ old.steps
+  pub depth : new.depth ≡ old.depth
+  pub lead : new.lead ≡ old.lead
+  pub news : HasHeardAt new.peer (read datagram) reply old.news new.news
   pub answer_is : answer ≡ answer_of reply
 
 -- what was found in received bytes: a datagram, and who sealed it, if that is known

@@ -6,9 +6,16 @@ ghost use Rattle.c8_peer.specs.Peer.{IsAnswered, IsSaid, known_by};
 ghost use Rattle.c8_peer.specs.State.{Call, Tick, Deliver, Leave, Decide, Checkpoint, Ticked, Delivered, Left, Decided, Checked};
 ghost use Rattle.c8_session.specs.Runs.{IsStopped};
 ghost use Rattle.c8_session.specs.Turns.{HasTurned, IsSayingTo};
+ghost use Rattle.c8_embed.specs.Engine.{HasLookedAt, HasHeardAt, HasToldAt};
+ghost use Rattle.c8_embed.specs.Lead.{IsNewLead, HasAsked};
+ghost use Rattle.c8_embed.specs.News.{AreNoNews};
 ghost use Rattle.c8_embed.specs.Steps.{IsStepped};
 
+use crate::events::Event;
 use crate::laws::what_was_given_stays;
+use crate::lead::Lead;
+use crate::news::News;
+use crate::patience::{End, Patience};
 use crate::steps::{Stepped, Steps};
 use c8_disk::{Disk, DiskError};
 use c8_game::{Game, Keys, Player};
@@ -32,6 +39,12 @@ pub struct Engine<'g, D: Disk> {
     is_told: bool,
     /// How many frames each step rolls back for a test; 0 if there is no test.
     depth: u32,
+    news: News,
+    lead: Lead,
+    patience: Patience,
+    /// How many turns have begun.
+    turns: u64,
+    end: End,
 }
 
 impl<'g, D: Disk> Model for Engine<'g, D> {
@@ -39,7 +52,7 @@ impl<'g, D: Disk> Model for Engine<'g, D> {
 
     ghost Value = { EngineValue D };
 
-    ghost view = { λ e. record { peer = e.session.peer; steps = e.steps; depth = e.depth } };
+    ghost view = { λ e. record { peer = e.session.peer; steps = e.steps; depth = e.depth; news = e.news; lead = e.lead } };
 
     ghost invariant = { λ e. IsEngine e.session.peer e.steps e.is_told };
 }
@@ -68,6 +81,8 @@ impl<'g, D: Disk> Engine<'g, D> {
         ensures opened { IfOk result (λ engine.
             IsOpened D.Disk disk game.entry.now room me.number engine.peer
             × (engine.steps.given ≡ []) × (engine.depth ≡ 0)) }
+        ensures news { IfOk result (λ engine. AreNoNews engine.news) }
+        ensures lead { IfOk result (λ engine. IsNewLead game.entry.now.window engine.lead) }
         ensures refused { IfErr result (λ refusal.
             IsRefusedOpening D.Disk disk game.entry.now room me.number refusal.0 refusal.1) }
     {
@@ -79,13 +94,21 @@ impl<'g, D: Disk> Engine<'g, D> {
             return Err((OpenError::Memory, disk));
         };
         let peer = Peer::open(alloc, disk, game, me, room)?;
-        let mut session = Session::new(peer, game, patience, interval);
+        let mut session = Session::new(peer, game, None, interval);
         session.begin();
         Ok(Engine {
             session,
             steps,
             is_told: false,
             depth: 0,
+            news: News::new(),
+            lead: Lead::new(game.window()),
+            patience: Patience {
+                first: patience,
+                later: patience,
+            },
+            turns: 1,
+            end: End::new(),
         })
     }
 
@@ -110,7 +133,7 @@ impl<'g, D: Disk> Engine<'g, D> {
     /// Returns whether the match is over for this peer: it knows that it was dropped, or it has rested for more than
     /// 120 turns after everything was confirmed and acknowledged.
     pub fn is_over(&self) -> bool {
-        self.session.is_over()
+        is_over(&self.session, &self.end)
     }
 
     /// Enters the own player's next key set, as [`Peer::tick`] does.
@@ -118,12 +141,17 @@ impl<'g, D: Disk> Engine<'g, D> {
         ensures answered { IsAnswered D.Disk self.old.peer (Tick keys.0) (Ticked result) self.new.peer }
         ensures steps { self.new.steps ≡ self.old.steps }
         ensures depth { self.new.depth ≡ self.old.depth }
+        ensures lead { self.new.lead ≡ self.old.lead }
+        ensures news { HasLookedAt self.new.peer self.old.news self.new.news }
     {
         // For the proof: the rows that were given stay true.
         what_was_given_stays::<D>();
         self.session.is_sound();
         self.is_told = false;
-        self.session.tick(keys)
+        let answer = self.session.tick(keys);
+        self.news
+            .look(&self.session, is_over(&self.session, &self.end));
+        answer
     }
 
     /// Processes a received datagram, as [`Peer::deliver`] does, and notes whether it is a sign of life of its sender.
@@ -131,13 +159,19 @@ impl<'g, D: Disk> Engine<'g, D> {
         ensures answered { IsAnswered D.Disk self.old.peer (Deliver (read bytes.now)) (Delivered result) self.new.peer }
         ensures steps { self.new.steps ≡ self.old.steps }
         ensures depth { self.new.depth ≡ self.old.depth }
+        ensures lead { self.new.lead ≡ self.old.lead }
+        ensures news { HasHeardAt self.new.peer (read bytes.now) result self.old.news self.new.news }
     {
         // For the proof: the rows that were given stay true.
         what_was_given_stays::<D>();
         deliveries_are_calls();
         self.session.is_sound();
         self.is_told = false;
-        self.session.deliver(bytes)
+        let answer = self.session.deliver(bytes);
+        self.news
+            .look(&self.session, is_over(&self.session, &self.end));
+        self.news.hear(bytes, answer);
+        answer
     }
 
     /// Drops a player, as [`Peer::leave`] does.
@@ -145,12 +179,17 @@ impl<'g, D: Disk> Engine<'g, D> {
         ensures answered { IsAnswered D.Disk self.old.peer (Leave leaver.number) (Left result) self.new.peer }
         ensures steps { self.new.steps ≡ self.old.steps }
         ensures depth { self.new.depth ≡ self.old.depth }
+        ensures lead { self.new.lead ≡ self.old.lead }
+        ensures news { HasLookedAt self.new.peer self.old.news self.new.news }
     {
         // For the proof: the rows that were given stay true.
         what_was_given_stays::<D>();
         self.session.is_sound();
         self.is_told = false;
-        self.session.leave(leaver)
+        let answer = self.session.leave(leaver);
+        self.news
+            .look(&self.session, is_over(&self.session, &self.end));
+        answer
     }
 
     /// Cuts a leaver's list, as [`Peer::decide`] does.
@@ -158,12 +197,17 @@ impl<'g, D: Disk> Engine<'g, D> {
         ensures answered { IsAnswered D.Disk self.old.peer (Decide leaver.number) (Decided result) self.new.peer }
         ensures steps { self.new.steps ≡ self.old.steps }
         ensures depth { self.new.depth ≡ self.old.depth }
+        ensures lead { self.new.lead ≡ self.old.lead }
+        ensures news { HasLookedAt self.new.peer self.old.news self.new.news }
     {
         // For the proof: the rows that were given stay true.
         what_was_given_stays::<D>();
         self.session.is_sound();
         self.is_told = false;
-        self.session.decide(leaver)
+        let answer = self.session.decide(leaver);
+        self.news
+            .look(&self.session, is_over(&self.session, &self.end));
+        answer
     }
 
     /// Records the next part of a checkpoint, as [`Peer::checkpoint`] does.
@@ -171,12 +215,17 @@ impl<'g, D: Disk> Engine<'g, D> {
         ensures answered { IsAnswered D.Disk self.old.peer Checkpoint (Checked result) self.new.peer }
         ensures steps { self.new.steps ≡ self.old.steps }
         ensures depth { self.new.depth ≡ self.old.depth }
+        ensures lead { self.new.lead ≡ self.old.lead }
+        ensures news { HasLookedAt self.new.peer self.old.news self.new.news }
     {
         // For the proof: the rows that were given stay true.
         what_was_given_stays::<D>();
         self.session.is_sound();
         self.is_told = false;
-        self.session.checkpoint()
+        let answer = self.session.checkpoint();
+        self.news
+            .look(&self.session, is_over(&self.session, &self.end));
+        answer
     }
 
     /// Makes the part of a turn between ticking and speaking. Player 1 drops players who were silent for too long, and cuts those
@@ -188,6 +237,8 @@ impl<'g, D: Disk> Engine<'g, D> {
         ensures stopped { IfErr result (IsStopped D.Disk self.old.peer self.new.peer) }
         ensures steps { self.new.steps ≡ self.old.steps }
         ensures depth { self.new.depth ≡ self.old.depth }
+        ensures lead { self.new.lead ≡ self.old.lead }
+        ensures news { HasLookedAt self.new.peer self.old.news self.new.news }
     {
         self.end_turn();
         // For the proof: the rows that were given stay true.
@@ -195,7 +246,10 @@ impl<'g, D: Disk> Engine<'g, D> {
         peers_run_on::<D>();
         self.session.is_sound();
         self.is_told = false;
-        self.session.turn()
+        let answer = make_turn(&mut self.session, &self.patience, self.turns);
+        self.news
+            .look(&self.session, is_over(&self.session, &self.end));
+        answer
     }
 
     /// Starts to show a watcher the confirmed rows: one SHOW a turn, from the first row that the watcher has not
@@ -226,8 +280,50 @@ impl<'g, D: Disk> Engine<'g, D> {
         ensures { self.new ≡ self.old }
     {
         if self.session.end() {
+            self.end.rest(self.session.peer());
             self.session.begin();
+            self.turns = self.turns.saturating_add(1);
         }
+    }
+
+    /// Looks at the session, and takes the oldest event that waits.
+    pub fn next_event(&mut self) -> Option<Event>
+        ensures peer { self.new.peer ≡ self.old.peer }
+        ensures steps { self.new.steps ≡ self.old.steps }
+        ensures depth { self.new.depth ≡ self.old.depth }
+        ensures lead { self.new.lead ≡ self.old.lead }
+        ensures told { HasToldAt self.new.peer self.old.news result self.new.news }
+    {
+        self.news
+            .look(&self.session, is_over(&self.session, &self.end));
+        self.news.tell()
+    }
+
+    /// Returns whether to leave out the tick of this frame, as the player runs ahead of another. Call it once a frame,
+    /// before the tick.
+    pub fn leaves_out(&mut self) -> bool
+        ensures peer { self.new.peer ≡ self.old.peer }
+        ensures steps { self.new.steps ≡ self.old.steps }
+        ensures depth { self.new.depth ≡ self.old.depth }
+        ensures news { self.new.news ≡ self.old.news }
+        ensures asked { HasAsked self.old.peer self.old.lead result self.new.lead }
+    {
+        self.lead.leaves_out(self.session.peer())
+    }
+
+    /// From now on player 1 drops silent players by this patience.
+    pub fn set_patience(&mut self, patience: Patience)
+        ensures { self.new ≡ self.old }
+    {
+        self.patience = patience;
+    }
+
+    /// The match ends after this many frames, as the engine's machine says: once they are confirmed and acknowledged, the
+    /// session is over after 120 turns.
+    pub fn end_at(&mut self, frames: u32)
+        ensures { self.new ≡ self.old }
+    {
+        self.end.set(frames);
     }
 
     /// Starts a test of the engine's machine: from now on each step rolls back `depth` frames, unless they are
@@ -236,6 +332,8 @@ impl<'g, D: Disk> Engine<'g, D> {
         ensures peer { self.new.peer ≡ self.old.peer }
         ensures steps { self.new.steps ≡ self.old.steps }
         ensures depth { self.new.depth ≡ depth }
+        ensures news { self.new.news ≡ self.old.news }
+        ensures lead { self.new.lead ≡ self.old.lead }
     {
         self.depth = depth;
     }
@@ -245,6 +343,8 @@ impl<'g, D: Disk> Engine<'g, D> {
     pub fn step(&mut self, most: u32) -> Stepped
         ensures peer { self.new.peer ≡ self.old.peer }
         ensures depth { self.new.depth ≡ self.old.depth }
+        ensures news { self.new.news ≡ self.old.news }
+        ensures lead { self.new.lead ≡ self.old.lead }
         ensures stepped { self.old.depth ≡ 0 → IsStepped (known_by self.old.peer) most
             self.old.steps.given self.new.steps.given result.from result.count }
         ensures tested { (left : ℕ) × IsStepped (known_by self.old.peer) most
@@ -272,4 +372,23 @@ impl<'g, D: Disk> Engine<'g, D> {
     {
         self.steps.given()
     }
+}
+
+/// Makes the part of a turn between ticking and speaking, `turns` turns after the opening. First it gives up the players who
+/// were silent for too long.
+fn make_turn<D: Disk>(
+    session: &mut Session<'_, D>,
+    patience: &Patience,
+    turns: u64,
+) -> Result<(), DiskError>
+    ensures turned { HasTurned D.Disk session.old.peer session.new.peer }
+    ensures stopped { IfErr result (IsStopped D.Disk session.old.peer session.new.peer) }
+{
+    patience.give_up(session, turns);
+    session.turn()
+}
+
+/// Returns whether a session is over, by its own rule or by the end that the engine's machine has set.
+fn is_over<D: Disk>(session: &Session<'_, D>, end: &End) -> bool {
+    session.is_over() || end.has_rested()
 }

@@ -20,7 +20,9 @@ use c8_session::laws::peers_run_on;
 /// - `kept`: then its states are again those of all rows that it was given.
 /// - `now`: after a step that gave all, the last one is the run of the best rows.
 /// - `stays`: its state at each frame that is confirmed is the run of the confirmed rows, which never change.
-/// - `same`: so it is equal to that of each peer that agrees about these rows.
+/// - `same`: so it is equal to that of each other engine whose peer agrees about these rows.
+/// - `back`: no step goes back before what was confirmed when the last one gave its rows, and a peer ticks at most `window`
+///   frames beyond that, so `window` + 1 states suffice.
 pub fn an_engine_has_the_run<S>()
     ensures kept { (step : S → Row → S) (start : S) (k : KnownValue) (most from count : ℕ)
         (before after : List Row)
@@ -35,9 +37,14 @@ pub fn an_engine_has_the_run<S>()
         (before after : List Row)
         → IsStepped k most before after from count → n ≤ confirmed k → n ≤ length after
         → slice_get (states step start after) n ≡ Some (run step start (rows_below k n)) }
-    ensures same { (step : S → Row → S) (start : S) (k j : KnownValue) (n : ℕ)
+    ensures same { (step : S → Row → S) (start : S) (k j : KnownValue)
+        (most from count more since given n : ℕ) (before after earlier later : List Row)
+        → IsStepped k most before after from count → IsStepped j more earlier later since given
+        → n ≤ confirmed k → n ≤ length after → n ≤ confirmed j → n ≤ length later
         → rows_below k n ≡ rows_below j n
-        → run step start (rows_below k n) ≡ run step start (rows_below j n) }
+        → slice_get (states step start after) n ≡ slice_get (states step start later) n }
+    ensures back { (k : KnownValue) (s : StepsValue) (most from count : ℕ) (after : List Row)
+        → IsTrueTo k s → IsStepped k most s.given after from count → s.settled ≤ from }
 {}
 
 /// The rows that an engine was given as confirmed stay true, whatever call its peer makes (`call`), and however it runs on

@@ -8,11 +8,19 @@
 
 mod endpoint;
 mod engine;
+mod events;
 pub mod laws;
+mod lead;
 mod medium;
+mod news;
+mod patience;
 mod steps;
 
 pub use endpoint::{Endpoint, Sender, Undelivered};
 pub use engine::Engine;
+pub use events::{Event, EventKind, Events, Shown, Waiting};
+pub use lead::Lead;
 pub use medium::Medium;
+pub use news::{Alarm, News};
+pub use patience::Patience;
 pub use steps::{Stepped, Steps};

@@ -28,9 +28,14 @@ use Rattle.c8_embed.specs.declared.endpoint.Undelivered.{Undelivered}
 use Rattle.c8_transport.specs.declared.keys.Secrets.{Secrets}
 use Rattle.c8_known.specs.Known.{PlayerValue, KnownValue, player_in}
 use Rattle.c8_known.specs.Confirmed.{past_cut, has_value}
+use Rattle.c8_embed.specs.Engine.{HasLookedAt, HasToldAt}
+use Rattle.c8_embed.specs.Lead.{IsNewLead, HasAsked}
+use Rattle.c8_embed.specs.News.{AreNoNews}
+use Rattle.c8_embed.specs.declared.events.Event.{Event}
 use Rattle.c8_embed.specs.Journal.{disk}
+use Rattle.c8_engine.specs.declared.telling.EventState.{EventState}
 use Rattle.c8_engine.specs.Codes.{delivered_code, bad_secret_code, sealed_already_code, tick_code, leave_code, decide_code, check_code}
-use Rattle.c8_engine.specs.Codes.{turn_code, say_code}
+use Rattle.c8_engine.specs.Codes.{turn_code, say_code, event_code, wait_code}
 
 -- if the handle was open, it still is, and this holds of its session before and after
 abbrev pub IfSession : Option Endpoint → Option Endpoint → (Endpoint → Endpoint → Type 0) → Type 0
@@ -51,6 +56,8 @@ pub record IsOpenedBy (text : List ℕ) (player room : ℕ) (session : Endpoint)
   pub opened : IsOpened disk kept rules room player session.engine.peer
   pub given : session.engine.steps.given ≡ []
   pub depth : session.engine.depth ≡ 0
+  pub news : AreNoNews session.engine.news
+  pub lead : IsNewLead rules.window session.engine.lead
   pub number : session.number ≡ session_of rules room
   pub sealer : session.sealer ≡ None
   pub sender : session.sender ≡ None
@@ -90,7 +97,35 @@ pub record HasMadeTurn (old new : EngineOf) (code : ℕ) : Type 0 where
   pub stopped : IfErr reply (IsStopped disk old.peer new.peer)
   pub steps : new.steps ≡ old.steps
   pub depth : new.depth ≡ old.depth
+  pub lead : new.lead ≡ old.lead
+  pub news : HasLookedAt new.peer old.news new.news
   pub code_is : code ≡ turn_code reply
+
+-- an event as C reads it, or none
+abbrev pub IsWritten : Option Event → Bool → EventState → EventState → Type 0
+IsWritten None there before after = (there ≡ false) × (after ≡ before)
+IsWritten (Some event) there before after =
+    (there ≡ true) × (after.kind ≡ event_code event.kind) × (after.player ≡ event.player) × (after.frame ≡ event.frame)
+
+-- the engine looks at its session, and gives the oldest event that waits
+pub record HasToldEvent (old new : EngineOf) (there : Bool) (before after : EventState) : Type 0 where
+  pub told : Option Event
+  pub news : HasToldAt new.peer old.news told new.news
+  pub written : IsWritten told there before after
+  pub peer : new.peer ≡ old.peer
+  pub steps : new.steps ≡ old.steps
+  pub depth : new.depth ≡ old.depth
+  pub lead : new.lead ≡ old.lead
+
+-- the engine counts a frame, and says whether to leave out its tick
+pub record HasWaited (old new : EngineOf) (code : ℕ) : Type 0 where
+  pub out : Bool
+  pub asked : HasAsked old.peer old.lead out new.lead
+  pub code_is : code ≡ wait_code out
+  pub peer : new.peer ≡ old.peer
+  pub steps : new.steps ≡ old.steps
+  pub depth : new.depth ≡ old.depth
+  pub news : new.news ≡ old.news
 
 -- what an input of a row is: 1 for one that its player entered, 2 for the empty one from a cut on, 0 for a guess
 abbrev pub status_of : PlayerValue → ℕ → ℕ

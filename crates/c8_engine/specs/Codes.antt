@@ -1,5 +1,5 @@
 -- The number that each answer has in C: 0 for an Ok, else one number for each refusal, the same in all calls.
-use Rattle.std.specs.Prelude.{ℕ, ◌+◌, Result, Ok, Err}
+use Rattle.std.specs.Prelude.{ℕ, ◌+◌, Bool, true, false, Result, Ok, Err}
 use Rattle.c8_game.specs.Errors as games
 use Rattle.c8_game.specs.declared.error.GameError.{GameError}
 use Rattle.c8_disk.specs.Errors as disks
@@ -18,6 +18,8 @@ use Rattle.c8_transport.specs.declared.error.NotTaken.{NotTaken}
 use Rattle.c8_transport.specs.declared.error.NotTaken.TheVariants.{NotSealed, SeenBefore}
 use Rattle.c8_embed.specs.declared.endpoint.Undelivered.{Undelivered}
 use Rattle.c8_embed.specs.declared.endpoint.Undelivered.TheVariants as undelivered
+use Rattle.c8_embed.specs.declared.events.EventKind.{EventKind}
+use Rattle.c8_embed.specs.declared.events.EventKind.TheVariants as events
 use Rattle.c8_refusals.specs.Errors as refusing
 use Rattle.c8_refusals.specs.declared.error.OpenError.{OpenError}
 use Rattle.c8_refusals.specs.declared.error.OpenError.TheVariants as opens
@@ -130,6 +132,20 @@ say_code why = 900 + refusing.unsayable_number_of why
 abbrev pub turn_code : Result (Unit {0}) DiskError → ℕ
 turn_code (Ok done) = 0
 turn_code (Err why) = disk_code why
+
+-- the number of an event's kind
+abbrev pub event_code : EventKind → ℕ
+event_code events.Linked = 1
+event_code events.Interrupted = 2
+event_code events.Resumed = 3
+event_code events.Dropped = 4
+event_code events.Desynced = 5
+event_code events.Ended = 6
+
+-- how many ticks to leave out
+abbrev pub wait_code : Bool → ℕ
+wait_code true = 1
+wait_code false = 0
 
 -- A file that cannot be a journal; the last number is of one that another session has open.
 abbrev pub file_code : FileError → ℕ

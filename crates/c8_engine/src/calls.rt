@@ -8,6 +8,7 @@ use crate::codes::{
     turn_code,
 };
 use crate::handle::Handle;
+use c8_embed::Patience;
 use c8_game::{Keys, Player};
 use c8_wire::Watcher;
 
@@ -119,11 +120,52 @@ pub extern "C" fn c8_watched(handle: &mut Handle, watcher: u8) -> u32
 pub extern "C" fn c8_check(handle: &mut Handle, depth: u32) -> u32
     ensures closed { handle.old.value ≡ None → (result ≡ closed_code) × (handle.new ≡ handle.old) }
     ensures checked { IfOpen handle.old.value handle.new.value (λ e f.
-        (result ≡ 0) × (f.peer ≡ e.peer) × (f.steps ≡ e.steps) × (f.depth ≡ depth)) }
+        (result ≡ 0) × (f.peer ≡ e.peer) × (f.steps ≡ e.steps) × (f.depth ≡ depth) × (f.news ≡ e.news)
+        × (f.lead ≡ e.lead)) }
 {
     if !handle.is_open() {
         return closed_code();
     }
     handle.session().engine.check(depth);
+    0
+}
+
+/// From now on player 1 drops a player who was silent for `later` turns, and one that was never heard after `first`; 0
+/// stands for never.
+#[unsafe(no_mangle)]
+pub extern "C" fn c8_patience(handle: &mut Handle, first: u32, later: u32) -> u32
+    ensures closed { handle.old.value ≡ None → (result ≡ closed_code) × (handle.new ≡ handle.old) }
+    ensures set { IfOpen handle.old.value handle.new.value (λ e f. (f ≡ e) × (result ≡ 0)) }
+{
+    if !handle.is_open() {
+        return closed_code();
+    }
+    let patience = Patience {
+        first: turns(first),
+        later: turns(later),
+    };
+    handle.session().engine.set_patience(patience);
+    0
+}
+
+/// The patience of a number of turns; 0 for none.
+pub(crate) fn turns(number: u32) -> Option<u64> {
+    if number == 0 {
+        None
+    } else {
+        Some(u64::from(number))
+    }
+}
+
+/// The match ends after this many frames.
+#[unsafe(no_mangle)]
+pub extern "C" fn c8_end(handle: &mut Handle, frames: u32) -> u32
+    ensures closed { handle.old.value ≡ None → (result ≡ closed_code) × (handle.new ≡ handle.old) }
+    ensures ended { IfOpen handle.old.value handle.new.value (λ e f. (f ≡ e) × (result ≡ 0)) }
+{
+    if !handle.is_open() {
+        return closed_code();
+    }
+    handle.session().engine.end_at(frames);
     0
 }

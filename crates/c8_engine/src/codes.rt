@@ -1,9 +1,9 @@
 //! The number that each answer has in C.
 ghost use Rattle.std.specs.Prelude.{◌≡◌, ◌<◌};
-ghost use Rattle.c8_engine.specs.Codes.{closed_code, nobody_code, not_taken_code, bad_secret_code, sealed_already_code, delivered_code, disk_code, game_code, open_code, tick_code, heard_code, leave_code, decide_code, check_code, turn_code, file_code, say_code};
+ghost use Rattle.c8_engine.specs.Codes.{closed_code, nobody_code, not_taken_code, bad_secret_code, sealed_already_code, delivered_code, disk_code, game_code, open_code, tick_code, heard_code, leave_code, decide_code, check_code, turn_code, file_code, say_code, event_code, wait_code};
 
 use c8_disk::{DiskError, FileError};
-use c8_embed::Undelivered;
+use c8_embed::{EventKind, Undelivered};
 use c8_game::GameError;
 use c8_peer::{
     Check, CheckError, DecideError, Heard, LeaveError, OpenError, Refused, TickError, Unsayable,
@@ -162,4 +162,23 @@ pub(crate) fn say_code(error: Unsayable) -> u32
     ensures some { nobody_code < result }
 {
     900 + u32::from(error.number())
+}
+
+pub(crate) fn event_code(kind: EventKind) -> u8
+    ensures { result ≡ event_code kind }
+{
+    match kind {
+        EventKind::Linked => 1,
+        EventKind::Interrupted => 2,
+        EventKind::Resumed => 3,
+        EventKind::Dropped => 4,
+        EventKind::Desynced => 5,
+        EventKind::Ended => 6,
+    }
+}
+
+pub(crate) fn wait_code(leaves_out: bool) -> u32
+    ensures { result ≡ wait_code leaves_out }
+{
+    if leaves_out { 1 } else { 0 }
 }

@@ -16,10 +16,12 @@ mod rules;
 mod saying;
 mod sealing;
 mod stepping;
+mod telling;
 mod version;
 
 pub use calls::{
-    c8_check, c8_checkpoint, c8_decide, c8_deliver, c8_leave, c8_tick, c8_turn, c8_watched,
+    c8_check, c8_checkpoint, c8_decide, c8_deliver, c8_end, c8_leave, c8_patience, c8_tick,
+    c8_turn, c8_watched,
 };
 pub use explaining::c8_explain;
 pub use handle::Handle;
@@ -32,4 +34,5 @@ pub use rules::c8_rules;
 pub use saying::{c8_next, c8_say};
 pub use sealing::{c8_secrets, c8_sender};
 pub use stepping::c8_step;
+pub use telling::{EventState, c8_event, c8_wait};
 pub use version::c8_version;

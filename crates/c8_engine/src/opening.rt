@@ -6,10 +6,11 @@ ghost use Rattle.c8_engine.specs.Calls.{IsOpenWith};
 ghost use Rattle.c8_engine.specs.Codes.{open_code};
 ghost use Rattle.c8_engine.specs.Refused.{IsNoJournal, IsRefusedAs};
 
+use crate::calls::turns;
 use crate::codes::{file_code, game_code, nobody_code, open_code};
 use crate::handle::Handle;
 use c8_disk::FileDisk;
-use c8_embed::{Endpoint, Engine, Medium};
+use c8_embed::{Endpoint, Engine, Medium, Patience};
 use c8_game::{Game, Player};
 use c8_log::SLOT_LENGTH;
 use c8_peer::OpenError;
@@ -126,16 +127,15 @@ fn open_on(
     ensures why { 0 < result → (text : List ℕ) → Spells text game.now
         → IsRefusedAs text me.number room result }
 {
-    let patience = if patience == 0 {
-        None
-    } else {
-        Some(u64::from(patience))
-    };
     let number = game.session(room);
-    let engine = match Engine::open(alloc, disk, game, me, room, patience, INTERVAL) {
+    let mut engine = match Engine::open(alloc, disk, game, me, room, None, INTERVAL) {
         Ok(engine) => engine,
         Err((error, _)) => return open_code(error),
     };
+    engine.set_patience(Patience {
+        first: None,
+        later: turns(patience),
+    });
     match Box::new(alloc, Endpoint::new(engine, number)) {
         Ok(session) => {
             *handle = Handle::of(session);

@@ -1,5 +1,5 @@
 //! What a session's peer knows, and the machine that its player sees.
-ghost use Rattle.std.specs.Prelude.{◌≡◌, None, take, drop};
+ghost use Rattle.std.specs.Prelude.{◌≡◌, ◌≤◌, None, take, drop};
 ghost use Rattle.c8_digest.specs.StateBytes.{mark_of, state_bytes};
 ghost use Rattle.c8_digest.specs.Origin.{run_since};
 ghost use Rattle.c8_known.specs.Confirmed.{confirmed, best_rows};
@@ -8,7 +8,7 @@ ghost use Rattle.c8_known.specs.Known.{count_in, player_in, is_frozen_in};
 ghost use Rattle.c8_hand.specs.Links.{link_to};
 ghost use Rattle.c8_window.specs.Window.{acked_of};
 ghost use Rattle.c8_peer.specs.Peer.{known_by, begun_by};
-ghost use Rattle.c8_engine.specs.Codes.{closed_code};
+ghost use Rattle.c8_engine.specs.Codes.{closed_code, nobody_code};
 ghost use Rattle.c8_engine.specs.Calls.{IfOpen, cut_code, statuses, status_in};
 
 use crate::codes::{closed_code, nobody_code};
@@ -108,6 +108,9 @@ pub extern "C" fn c8_is_lost(handle: &mut Handle) -> bool
 pub extern "C" fn c8_player(handle: &mut Handle, player: u8, state: &mut PlayerState) -> u32
     ensures same { handle.new.value ≡ handle.old.value }
     ensures closed { handle.old.value ≡ None → result ≡ closed_code }
+    ensures told { 1 ≤ player → player ≤ 4 → IfOpen handle.old.value handle.new.value (λ e f. result ≡ 0) }
+    ensures nobody { (1 ≤ player → player ≤ 4 → ⊥) → (handle.old.value ≡ None → ⊥)
+        → (result ≡ nobody_code) × (state.new ≡ state.old) }
     ensures held { result ≡ 0 → IfOpen handle.old.value handle.new.value (λ e f.
         state.new.held ≡ count_in (known_by e.peer) player) }
     ensures acknowledged { result ≡ 0 → IfOpen handle.old.value handle.new.value (λ e f.
@@ -189,6 +192,7 @@ fn status<D: Disk>(peer: &Peer<'_, D>, player: Player, frame: u32) -> u8
 pub extern "C" fn c8_screen(handle: &mut Handle, out: &mut [u8; 256]) -> u32
     ensures same { handle.new.value ≡ handle.old.value }
     ensures closed { handle.old.value ≡ None → result ≡ closed_code }
+    ensures answer { IfOpen handle.old.value handle.new.value (λ e f. result ≡ 0) }
     ensures picture { IfOpen handle.old.value handle.new.value (λ e f. out.new ≡ take 256 (drop 4149
         (state_bytes (run_since e.peer.rules (begun_by e.peer) (best_rows (known_by e.peer)))))) }
 {
@@ -220,6 +224,7 @@ pub extern "C" fn c8_tone(handle: &mut Handle) -> u32
 pub extern "C" fn c8_state(handle: &mut Handle, out: &mut [u8; 4419]) -> u32
     ensures same { handle.new.value ≡ handle.old.value }
     ensures closed { handle.old.value ≡ None → result ≡ closed_code }
+    ensures answer { IfOpen handle.old.value handle.new.value (λ e f. result ≡ 0) }
     ensures bytes { IfOpen handle.old.value handle.new.value (λ e f. out.new
         ≡ state_bytes (run_since e.peer.rules (begun_by e.peer) (best_rows (known_by e.peer)))) }
 {
@@ -235,6 +240,7 @@ pub extern "C" fn c8_state(handle: &mut Handle, out: &mut [u8; 4419]) -> u32
 pub extern "C" fn c8_mark(handle: &mut Handle, out: &mut [u8; 8]) -> u32
     ensures same { handle.new.value ≡ handle.old.value }
     ensures closed { handle.old.value ≡ None → result ≡ closed_code }
+    ensures answer { IfOpen handle.old.value handle.new.value (λ e f. result ≡ 0) }
     ensures mark { IfOpen handle.old.value handle.new.value (λ e f. out.new
         ≡ mark_of (run_since e.peer.rules (begun_by e.peer) (best_rows (known_by e.peer)))) }
 {

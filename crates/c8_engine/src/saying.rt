@@ -46,6 +46,7 @@ pub extern "C" fn c8_say(
         result ≡ 0 → HasSaidKind e to kind leaver length.new out.new f) }
     ensures refused { IfSession handle.old.value handle.new.value (λ e f.
         nobody_code < result → HasRefusedToSay e to kind leaver result f) }
+    ensures nobody { (1 ≤ to → to ≤ 4 → ⊥) → (handle.old.value ≡ None → ⊥) → result ≡ nobody_code }
     ensures kept { IfSession handle.old.value handle.new.value (λ e f. result ≢ 0 → IsAsBefore e f) }
     ensures fits { result ≡ 0 → length.new ≤ 198 }
 {

@@ -23,6 +23,11 @@ class State(c.Structure):
                 ("cut", c.c_uint32)]
 
 
+class EventState(c.Structure):
+    """c8_event_state"""
+    _fields_ = [("kind", c.c_uint8), ("player", c.c_uint8), ("frame", c.c_uint32)]
+
+
 U8, U16, U32, U64, I32, SIZE, BYTES, FLAG = c.c_uint8, c.c_uint16, c.c_uint32, c.c_uint64, c.c_int32, c.c_size_t, c.c_char_p, c.c_bool
 SESSION = c.POINTER(Handle)
 
@@ -37,6 +42,10 @@ CALLS: dict[str, tuple[Any, ...]] = {
     "c8_turn": (U32, SESSION),
     "c8_next": (U32, SESSION, BYTES, c.POINTER(U8)),
     "c8_watched": (U32, SESSION, U8),
+    "c8_patience": (U32, SESSION, U32, U32),
+    "c8_end": (U32, SESSION, U32),
+    "c8_event": (FLAG, SESSION, c.POINTER(EventState)),
+    "c8_wait": (U32, SESSION),
     "c8_status": (U32, SESSION, U32, BYTES),
     "c8_is_over": (FLAG, SESSION),
     "c8_is_lost": (FLAG, SESSION),

@@ -7,7 +7,7 @@ import os
 from collections.abc import Iterator
 from typing import Any, NamedTuple
 
-from .calls import IS_WINDOWS, LIBRARY, PACKET, PICTURE, ROW, ROWS, RULES, STATE, Handle, State
+from .calls import IS_WINDOWS, LIBRARY, PACKET, PICTURE, ROW, ROWS, RULES, STATE, EventState, Handle, State
 from .refusals import Closed, Desync, DiskFailed, Dropped, End, Refusal, Threshold, done
 
 SECRET = 32
@@ -35,6 +35,23 @@ class PlayerState(NamedTuple):
     linked: bool       # inputs can be sent
     dropped: bool      # player 1 has dropped it
     cut: int | None    # the frame from which on its inputs are empty, once it is known
+
+
+class EventKind(enum.IntEnum):
+    """What an event says."""
+    LINKED = 1       # the link to the player has opened
+    INTERRUPTED = 2  # its link is open, and it has been silent for 60 turns
+    RESUMED = 3      # it is heard again after that
+    DROPPED = 4      # it was dropped: from `frame` on its inputs are empty
+    DESYNC = 5       # its CHIP-8 machine differs after `frame` frames
+    ENDED = 6        # `is_over` has become true, with `frame` frames confirmed
+
+
+class Event(NamedTuple):
+    """What happened in a session."""
+    kind: EventKind
+    player: int  # 0 for the session itself
+    frame: int   # 0 if it names none
 
 
 class Status(enum.IntEnum):
@@ -127,6 +144,19 @@ class Session:
         """Begins a turn, once a frame."""
         done(LIBRARY.c8_turn(self._session))
 
+    def wait(self) -> int:
+        """How many ticks to leave out in this frame, 0 or 1: once a frame, before the tick."""
+        return int(LIBRARY.c8_wait(self._session))
+
+    def patience(self, first: int, later: int) -> None:
+        """From now on player 1 drops a player who was silent for `later` turns, and one that was never heard over an open link for `first`
+        turns since the opening; 0 never."""
+        done(LIBRARY.c8_patience(self._session, first, later))
+
+    def end(self, frames: int) -> None:
+        """The match ends after this many frames, as the engine's own machine says. All players name the same."""
+        done(LIBRARY.c8_end(self._session, frames))
+
     def packets(self) -> Iterator[tuple[int, bytes]]:
         """The packets of this turn that are still to be sent, each with the seat that it is for."""
         while length := LIBRARY.c8_next(self._session, self._out, self._to):
@@ -177,6 +207,12 @@ class Session:
         done(LIBRARY.c8_player(self._session, player, state))
         cut = None if state.cut == UNCUT else state.cut
         return PlayerState(state.silent, state.held, state.acknowledged, state.linked, state.dropped, cut)
+
+    def events(self) -> Iterator[Event]:
+        """The events that wait, the oldest first. Each comes once; one of each kind and player can wait."""
+        state = EventState()
+        while LIBRARY.c8_event(self._session, state):
+            yield Event(EventKind(state.kind), state.player, state.frame)
 
     def status(self, frame: int) -> tuple[Status, ...]:
         """What the input of each player in the best row of a frame is."""

@@ -5,7 +5,7 @@
 //! ROLE is 1 or 2; HOST and PORT are where the other player listens. Keys: a and d turn, w accelerates, space fires, q
 //! quits. `game.c` explains the options.
 
-use c8play_session::{Journal, Refusal, Rules, Session, Steps};
+use c8play_session::{Event, Journal, Refusal, Rules, Session, Steps};
 use std::env;
 use std::error::Error;
 use std::fs;
@@ -309,18 +309,16 @@ impl Network {
 
 const FRAME: Duration = Duration::from_nanos(1_000_000_000 / 60);
 
-/// Whether the player should leave out a tick: it has been more than half a window ahead of the other for a second. So
-/// neither player predicts further than the other has to.
-fn is_too_fast(session: &Session, other: u8, ahead: &mut u32) -> bool {
-    let is_ahead = session
-        .player(other)
-        .is_ok_and(|player| !player.dropped && session.ticked() > player.held + u32::from(WINDOW) / 2);
-    *ahead = if is_ahead { *ahead + 1 } else { 0 };
-    let is_too_fast = *ahead >= 60;
-    if is_too_fast {
-        *ahead = 0;
+/// Reads the events, and tells what to show beside the score: whether the other player is away.
+fn news_of(session: &mut Session, shown: &mut &'static str) {
+    while let Some(event) = session.event() {
+        match event {
+            Event::Linked(_) | Event::Resumed(_) => *shown = "",
+            Event::Interrupted(_) => *shown = "waiting for the other",
+            Event::Dropped { .. } => *shown = "the other is gone",
+            _ => {}
+        }
     }
-    is_too_fast
 }
 
 struct Options {
@@ -396,11 +394,10 @@ fn read_secret(path: &str) -> Result<[u8; 32], Box<dyn Error>> {
 
 /// Plays to the end, or until the person quits.
 fn play(options: &Options, session: &mut Session, states: &mut States) -> Result<(), Box<dyn Error>> {
-    let other = 3 - options.me;
     let mut network = Network::open(options)?;
     let mut keyboard = options.script.is_none().then(Keyboard::open);
     let started = Instant::now();
-    let (mut due, mut ahead, mut was_refused) = (started, 0, false);
+    let (mut due, mut shown, mut was_refused) = (started, "", false);
     states.run(session);
     while !session.is_over() {
         let now = Instant::now();
@@ -419,7 +416,7 @@ fn play(options: &Options, session: &mut Session, states: &mut States) -> Result
             },
             (None, seed) => scripted(seed.unwrap_or(0), session.ticked()),
         };
-        if keyboard.is_none() || !is_too_fast(session, other, &mut ahead) {
+        if keyboard.is_none() || session.wait() == 0 {
             // A refused input is lost here; the next frame has its own.
             let answer = session.tick(keys);
             was_refused = answer.is_err();
@@ -435,8 +432,8 @@ fn play(options: &Options, session: &mut Session, states: &mut States) -> Result
         network.send_all(session);
         states.run(session);
         if keyboard.is_some() {
-            let is_alone = session.player(other)?.silent > 60;
-            draw(states.at(session.ticked()), if is_alone { "waiting for the other" } else { "" })?;
+            news_of(session, &mut shown);
+            draw(states.at(session.ticked()), shown)?;
         }
     }
     Ok(())

@@ -43,5 +43,5 @@ mod sys;
 pub use packet::{Packet, Sender};
 pub use refusal::Refusal;
 pub use rules::{version, Rules};
-pub use session::{Heard, Journal, Kind, Packets, Session, Status, Steps};
+pub use session::{Event, Heard, Journal, Kind, Packets, Session, Status, Steps};
 pub use sys::PlayerState;

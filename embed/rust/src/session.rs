@@ -2,7 +2,7 @@
 
 use crate::packet::{Packet, Sender};
 use crate::refusal::Refusal;
-use crate::sys::{self, Handle, PlayerState};
+use crate::sys::{self, EventState, Handle, PlayerState};
 use std::fmt;
 use std::fs::{File, OpenOptions};
 use std::io;
@@ -57,6 +57,40 @@ pub enum Kind {
     Freeze(u8),
     Frozen(u8),
     Cut(u8),
+}
+
+/// What happened in a session.
+#[derive(Clone, Copy, Debug, PartialEq, Eq, Hash)]
+#[non_exhaustive]
+pub enum Event {
+    /// The link to this player has opened.
+    Linked(u8),
+    /// The link to this player is open, and it has been silent for 60 turns.
+    Interrupted(u8),
+    /// This player is heard again after that.
+    Resumed(u8),
+    /// A player was dropped: from this frame on its inputs are empty, for all who stay.
+    Dropped { player: u8, frame: u32 },
+    /// The CHIP-8 machine of a player differs from the own one after this many frames.
+    Desync { player: u8, frame: u32 },
+    /// [`Session::is_over`] has become true, with this many confirmed frames.
+    Ended { frames: u32 },
+}
+
+impl Event {
+    /// The event that the library wrote; `None` for a kind of a newer one.
+    fn of(state: EventState) -> Option<Event> {
+        let EventState { kind, player, frame } = state;
+        match kind {
+            1 => Some(Event::Linked(player)),
+            2 => Some(Event::Interrupted(player)),
+            3 => Some(Event::Resumed(player)),
+            4 => Some(Event::Dropped { player, frame }),
+            5 => Some(Event::Desync { player, frame }),
+            6 => Some(Event::Ended { frames: frame }),
+            _ => None,
+        }
+    }
 }
 
 /// What an input of a row is.
@@ -221,6 +255,36 @@ impl Session {
     /// [`Refusal::NoPlayer`] for any other number.
     pub fn show_to(&mut self, watcher: u8) -> Result<(), Refusal> {
         done(self.handle.watched(watcher))
+    }
+
+    /// The oldest event that waits. Each comes once, in order; one of each kind and player can wait, and a
+    /// second one takes the place of the first.
+    pub fn event(&mut self) -> Option<Event> {
+        let mut state = EventState::default();
+        while self.handle.event(&mut state) {
+            if let Some(event) = Event::of(state) {
+                return Some(event);
+            }
+        }
+        None
+    }
+
+    /// How many ticks to leave out in this frame, 0 or 1: once a frame, before the tick. 1 if the player was more than half
+    /// the window ahead of another one in each of the last 60 frames.
+    pub fn wait(&mut self) -> u32 {
+        self.handle.wait()
+    }
+
+    /// From now on player 1 drops a player who was silent for `later` turns, and one that was never heard over an open
+    /// link for `first` turns since the opening; 0 never.
+    pub fn patience(&mut self, first: u32, later: u32) {
+        self.handle.patience(first, later);
+    }
+
+    /// The match ends after this many frames, as the engine's own machine says in a confirmed state. From then on the
+    /// session is over by the rule of the last frame. All players name the same frame.
+    pub fn end(&mut self, frames: u32) {
+        self.handle.end(frames);
     }
 
     /// What the input of each player in the best row of a frame is.

@@ -15,6 +15,7 @@ use c8play_sys::*;
 use std::cell::UnsafeCell;
 use std::ptr;
 
+pub use c8play_sys::c8_event_state as EventState;
 pub use c8play_sys::c8_player_state as PlayerState;
 
 #[cfg(unix)]
@@ -86,6 +87,22 @@ impl Handle {
 
     pub fn watched(&mut self, watcher: u8) -> u32 {
         unsafe { c8_watched(self.0.get(), watcher) }
+    }
+
+    pub fn patience(&mut self, first: u32, later: u32) -> u32 {
+        unsafe { c8_patience(self.0.get(), first, later) }
+    }
+
+    pub fn end(&mut self, frames: u32) -> u32 {
+        unsafe { c8_end(self.0.get(), frames) }
+    }
+
+    pub fn event(&mut self, event: &mut EventState) -> bool {
+        unsafe { c8_event(self.0.get(), event) }
+    }
+
+    pub fn wait(&mut self) -> u32 {
+        unsafe { c8_wait(self.0.get()) }
     }
 
     pub fn status(&self, frame: u32, out: &mut [u8; 4]) -> u32 {

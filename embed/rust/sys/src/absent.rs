@@ -1,7 +1,7 @@
 //! Stands in for the library where there is none, so that the crate can still be compiled. Each call panics, but for the close of a handle
 //! that was never opened.
 
-use super::{c8_player_state, c8_session};
+use super::{c8_event_state, c8_player_state, c8_session};
 
 fn absent() -> ! {
     panic!("c8play-sys was compiled without its library: set C8PLAY_LIB to the folder of libc8.a")
@@ -34,6 +34,22 @@ pub unsafe fn c8_next(_: *mut c8_session, _: *mut u8, _: *mut u8) -> u32 {
 }
 
 pub unsafe fn c8_watched(_: *mut c8_session, _: u8) -> u32 {
+    absent()
+}
+
+pub unsafe fn c8_patience(_: *mut c8_session, _: u32, _: u32) -> u32 {
+    absent()
+}
+
+pub unsafe fn c8_end(_: *mut c8_session, _: u32) -> u32 {
+    absent()
+}
+
+pub unsafe fn c8_event(_: *mut c8_session, _: *mut c8_event_state) -> bool {
+    absent()
+}
+
+pub unsafe fn c8_wait(_: *mut c8_session) -> u32 {
     absent()
 }
 

@@ -29,6 +29,18 @@ pub struct c8_player_state {
     pub cut: u32,
 }
 
+/// What happened in a session.
+#[repr(C)]
+#[derive(Clone, Copy, Debug, Default, PartialEq, Eq)]
+pub struct c8_event_state {
+    /// 1 linked, 2 interrupted, 3 resumed, 4 dropped, 5 desynchronised, 6 ended.
+    pub kind: u8,
+    /// Whom it is about, 1 to 4; 0 for the session itself.
+    pub player: u8,
+    /// The frame that it names; 0 if it names none.
+    pub frame: u32,
+}
+
 #[cfg(c8_absent)]
 mod absent;
 #[cfg(c8_absent)]
@@ -54,6 +66,10 @@ extern "C" {
     pub fn c8_turn(session: *mut c8_session) -> u32;
     pub fn c8_next(session: *mut c8_session, out: *mut u8, to: *mut u8) -> u32;
     pub fn c8_watched(session: *mut c8_session, watcher: u8) -> u32;
+    pub fn c8_patience(session: *mut c8_session, first: u32, later: u32) -> u32;
+    pub fn c8_end(session: *mut c8_session, frames: u32) -> u32;
+    pub fn c8_event(session: *mut c8_session, event: *mut c8_event_state) -> bool;
+    pub fn c8_wait(session: *mut c8_session) -> u32;
     pub fn c8_status(session: *mut c8_session, frame: u32, out: *mut u8) -> u32;
     pub fn c8_is_over(session: *mut c8_session) -> bool;
     pub fn c8_is_lost(session: *mut c8_session) -> bool;

@@ -1,8 +1,8 @@
 -- The rows before a step's first frame are best rows already, so to go back there and run the rest is one run.
-use Rattle.std.proofs.Common.{◌≡◌, ◌+◌, List, length, Some, ap, ◌∙◌, arith}
+use Rattle.std.proofs.Common.{◌≡◌, ◌+◌, List, length, Some, ap, sym, ◌∙◌, arith}
 use Rattle.c8_game.specs.declared.row.Row.{Row}
 use Rattle.c8_embed.specs.Steps.{run}
-use Rattle.c8_embed.proofs.StepsLemmas.{best_length, best_confirmed, step_resumes, state_now}
+use Rattle.c8_embed.proofs.StepsLemmas.{best_length, best_confirmed, step_resumes, state_now, settled_first}
 use Rattle.c8_embed.proofs.laws.an_engine_has_the_run.Goals as goal
 
 pub returns-clause-kept : goal.returns-clause-kept
@@ -20,4 +20,11 @@ returns-clause-stays g c step start k most from count n before after is confirme
     ∙ ap (λ (rows : List Row). Some (run step start rows)) (best_confirmed k n confirmed_is)
 
 pub returns-clause-same : goal.returns-clause-same
-returns-clause-same g c step start k j n same = ap (λ (rows : List Row). run step start rows) same
+unfolding returns-clause-stays
+returns-clause-same g c step start k j most from count more since given n before after earlier later is other known long there far same =
+    returns-clause-stays g c step start k most from count n before after is known long
+    ∙ ap (λ (rows : List Row). Some (run step start rows)) same
+    ∙ sym (returns-clause-stays g c step start j more since given n earlier later other there far)
+
+pub returns-clause-back : goal.returns-clause-back
+returns-clause-back g c k s most from count after is stepped = settled_first k s from is stepped.first

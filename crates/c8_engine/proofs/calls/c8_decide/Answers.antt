@@ -17,6 +17,8 @@ returns-clause-decided c = λ from to.
               c.decide.new.self.peer) same c.decide.ensures.answered;
           steps = c.decide.ensures.steps;
           depth = c.decide.ensures.depth;
+          lead = c.decide.ensures.lead;
+          news = c.decide.ensures.news;
         };
         code_is = c.decide_code.ensures;
       }),

@@ -17,6 +17,8 @@ returns-clause-left c = λ from to.
               c.leave.new.self.peer) same c.leave.ensures.answered;
           steps = c.leave.ensures.steps;
           depth = c.leave.ensures.depth;
+          lead = c.leave.ensures.lead;
+          news = c.leave.ensures.news;
         };
         code_is = c.leave_code.ensures;
       }),

@@ -3,13 +3,15 @@ use Rattle.std.proofs.Common.{◌≡◌, ◌∙◌, Some, inl, inr, ap, sym, sub
 use Rattle.c8_embed.specs.Endpoint.{EngineOf}
 use Rattle.c8_embed.specs.declared.endpoint.Endpoint.{Endpoint}
 use Rattle.c8_embed.specs.Journal.{disk}
+use Rattle.c8_embed.specs.Lead.{IsNewLead}
+use Rattle.c8_embed.specs.News.{AreNoNews}
 use Rattle.c8_peer.specs.Opened.{IsOpened}
 use Rattle.c8_engine.proofs.opening.open_on.Goals as goal
 
 pub returns-in-Ok-new-clause-opened : goal.returns-in-Ok-new-clause-opened
 returns-in-Ok-new-clause-opened c = λ done text spells.
     let opened = c.in-Ok.ensures.opened in
-    let engine : c.new.result.engine ≡ c.in-Ok.engine = c.new.ensures.engine in
+    let engine : c.new.result.engine ≡ c.in-Ok.engine = c.new.ensures.engine ∙ c.set_patience.ensures in
     let session : c.of.result.value ≡ Some c.new.result = c.of.ensures ∙ ap (λ (s : Endpoint). Some s) c.in-Ok-new.ensures.ok in
     rw session (record {
       rules = c.args.game.now;
@@ -18,6 +20,8 @@ returns-in-Ok-new-clause-opened c = λ done text spells.
       opened = subst (λ (e : EngineOf). IsOpened disk c.args.disk c.args.game.now c.args.room c.args.me.number e.peer) (sym engine) opened.0;
       given = ap (λ (e : EngineOf). e.steps.given) engine ∙ opened.1;
       depth = ap (λ (e : EngineOf). e.depth) engine ∙ opened.2;
+      news = subst (λ (e : EngineOf). AreNoNews e.news) (sym engine) c.in-Ok.ensures.news;
+      lead = subst (λ (e : EngineOf). IsNewLead c.args.game.now.window e.lead) (sym engine) c.in-Ok.ensures.lead;
       number = c.new.ensures.number ∙ c.session-number.ensures;
       sealer = c.new.ensures.sealer;
       sender = c.new.ensures.sender;

@@ -7,8 +7,10 @@ use Rattle.c8_embed.proofs.engine.Engine.checkpoint.Goals as goal
 pub invariant_of-self : goal.invariant_of-self
 invariant_of-self g c =
     let old = c.self.inside.session.peer in
-    let new = c.checkpoint.new.self.peer in
+    let new = c.checkpoint-answer.new.self.peer in
     let is : IsCall (Checkpoint) = tt in
-    engine_after g.D.Disk old new (Checkpoint) (Checked c.checkpoint.result) c.self.inside.steps c.self.inside.is_told c.checkpoint.ensures
-    (c.what_was_given_stays.ensures.call old new (Checkpoint) (Checked c.checkpoint.result) c.self.inside.steps c.is_sound.ensures is
-    c.checkpoint.ensures) c.self.invariant
+    let call = Checkpoint in
+    let reply = Checked c.checkpoint-answer.result in
+    let steps = c.self.inside.steps in
+    engine_after g.D.Disk old new call reply steps c.self.inside.is_told c.checkpoint-answer.ensures
+    (c.what_was_given_stays.ensures.call old new call reply steps c.is_sound.ensures is c.checkpoint-answer.ensures) c.self.invariant

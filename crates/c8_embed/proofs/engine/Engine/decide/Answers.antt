@@ -7,8 +7,10 @@ use Rattle.c8_embed.proofs.engine.Engine.decide.Goals as goal
 pub invariant_of-self : goal.invariant_of-self
 invariant_of-self g c =
     let old = c.self.inside.session.peer in
-    let new = c.decide.new.self.peer in
+    let new = c.decide-answer.new.self.peer in
     let is : IsCall (Decide c.args.leaver.number) = tt in
-    engine_after g.D.Disk old new (Decide c.args.leaver.number) (Decided c.decide.result) c.self.inside.steps c.self.inside.is_told c.decide.ensures
-    (c.what_was_given_stays.ensures.call old new (Decide c.args.leaver.number) (Decided c.decide.result) c.self.inside.steps
-    c.is_sound.ensures is c.decide.ensures) c.self.invariant
+    let call = Decide c.args.leaver.number in
+    let reply = Decided c.decide-answer.result in
+    let steps = c.self.inside.steps in
+    engine_after g.D.Disk old new call reply steps c.self.inside.is_told c.decide-answer.ensures
+    (c.what_was_given_stays.ensures.call old new call reply steps c.is_sound.ensures is c.decide-answer.ensures) c.self.invariant

@@ -7,8 +7,10 @@ use Rattle.c8_embed.proofs.engine.Engine.leave.Goals as goal
 pub invariant_of-self : goal.invariant_of-self
 invariant_of-self g c =
     let old = c.self.inside.session.peer in
-    let new = c.leave.new.self.peer in
+    let new = c.leave-answer.new.self.peer in
     let is : IsCall (Leave c.args.leaver.number) = tt in
-    engine_after g.D.Disk old new (Leave c.args.leaver.number) (Left c.leave.result) c.self.inside.steps c.self.inside.is_told c.leave.ensures
-    (c.what_was_given_stays.ensures.call old new (Leave c.args.leaver.number) (Left c.leave.result) c.self.inside.steps c.is_sound.ensures
-    is c.leave.ensures) c.self.invariant
+    let call = Leave c.args.leaver.number in
+    let reply = Left c.leave-answer.result in
+    let steps = c.self.inside.steps in
+    engine_after g.D.Disk old new call reply steps c.self.inside.is_told c.leave-answer.ensures
+    (c.what_was_given_stays.ensures.call old new call reply steps c.is_sound.ensures is c.leave-answer.ensures) c.self.invariant

@@ -7,8 +7,10 @@ use Rattle.c8_embed.proofs.engine.Engine.tick.Goals as goal
 pub invariant_of-self : goal.invariant_of-self
 invariant_of-self g c =
     let old = c.self.inside.session.peer in
-    let new = c.tick.new.self.peer in
-    let is : IsCall (Tick c.args.keys.0) = search in
-    engine_after g.D.Disk old new (Tick c.args.keys.0) (Ticked c.tick.result) c.self.inside.steps c.self.inside.is_told c.tick.ensures
-    (c.what_was_given_stays.ensures.call old new (Tick c.args.keys.0) (Ticked c.tick.result) c.self.inside.steps c.is_sound.ensures is
-    c.tick.ensures) c.self.invariant
+    let new = c.tick-answer.new.self.peer in
+    let is : IsCall (Tick c.args.keys.0) = c.well_formed.1.0.1.1.0.1 in
+    let call = Tick c.args.keys.0 in
+    let reply = Ticked c.tick-answer.result in
+    let steps = c.self.inside.steps in
+    engine_after g.D.Disk old new call reply steps c.self.inside.is_told c.tick-answer.ensures
+    (c.what_was_given_stays.ensures.call old new call reply steps c.is_sound.ensures is c.tick-answer.ensures) c.self.invariant
