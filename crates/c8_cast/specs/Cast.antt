@@ -1,8 +1,8 @@
 -- What the files of a cast spell.
-use Rattle.std.specs.Prelude.{◌≡◌, ◌≤◌, ℕ, zero, suc, ◌*◌, List, [], ◌∷◌, ◌++◌, length, drop, Bool, true, false, Option, None, Some}
+use Rattle.std.specs.Prelude.{◌≡◌, ◌≢◌, ◌≤◌, ◌<◌, ◌⊎◌, ℕ, zero, suc, ◌*◌, List, [], ◌∷◌, ◌++◌, length, drop, Bool, true, false, Option, None, Some}
 use Rattle.c8_game.specs.Rules.{most_frames}
 use Rattle.c8_game.specs.declared.row.Row.{Row}
-use Rattle.c8_cast.specs.Spelling.{chunk_rows, chunk_bytes, tail_at}
+use Rattle.c8_cast.specs.Spelling.{chunk_rows, chunk_bytes, tail_at, count_of}
 
 -- A cast: its folder, how many players' keys each row has, the rows that it was given, and the tail that an earlier cast
 -- left, while the rows have not reached that.
@@ -45,12 +45,21 @@ HasTail players rows (Some earlier) before after = after ≡ before
 abbrev pub IsTailOf : ℕ → List Row → List ℕ → Type 0
 IsTailOf players rows tail = (count : ℕ) × (count ≤ length rows) × (tail ≡ tail_at players rows count)
 
--- the tail of an earlier cast is given up only once it is found to be one of these rows
+-- a tail that says that there are more rows than these
+abbrev pub IsBeyond : List Row → List ℕ → Type 0
+IsBeyond rows tail = (4 ≤ length tail) × (length rows < count_of tail)
+
+-- a tail that says nothing, or that says a number of rows that there are and is not the tail of these rows
+abbrev pub IsOtherTail : ℕ → List Row → List ℕ → Type 0
+IsOtherTail players rows tail =
+    (length tail < 4) ⊎ ((count_of tail ≤ length rows) × (tail ≢ tail_at players rows (count_of tail)))
+
+-- the tail of an earlier cast is given up once it is found to be one of these rows, and stays while there are fewer rows
 abbrev pub MayForget : ℕ → List Row → Option (List ℕ) → Option (List ℕ) → Type 0
 MayForget players rows None None = Unit {0}
 MayForget players rows None (Some now) = ⊥
 MayForget players rows (Some earlier) None = IsTailOf players rows earlier
-MayForget players rows (Some earlier) (Some now) = now ≡ earlier
+MayForget players rows (Some earlier) (Some now) = (now ≡ earlier) × IsBeyond rows earlier
 
 -- whether there is no tail of an earlier cast any more
 abbrev pub IsCaughtUp : Bool → Option (List ℕ) → Type 0
@@ -63,4 +72,4 @@ abbrev pub IsReached : Bool → ℕ → List Row → Option (List ℕ) → Type 
 IsReached true players rows None = Unit {0}
 IsReached true players rows (Some earlier) = IsTailOf players rows earlier
 IsReached false players rows None = ⊥
-IsReached false players rows (Some earlier) = Unit {0}
+IsReached false players rows (Some earlier) = IsBeyond rows earlier

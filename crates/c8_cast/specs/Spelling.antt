@@ -1,6 +1,6 @@
 -- Rows in the bytes of the files of a cast.
 use Rattle.std.specs.Prelude.{ℕ, ◌+◌, ◌++◌, ◌*◌, ◌/◌, List, take}
-use Rattle.std.specs.Int.{to_be_bytes, w16, w32}
+use Rattle.std.specs.Int.{to_be_bytes, from_be_bytes, w16, w32}
 use Rattle.std.specs.List.{flat_map, slice_range}
 use Rattle.c8_game.specs.declared.row.Keys.{Keys}
 use Rattle.c8_game.specs.declared.row.Row.{Row}
@@ -27,6 +27,10 @@ chunk_bytes players rows number = rows_bytes players (slice_range rows (number *
 -- the bytes of a tail: how many rows there are in all, and those that no chunk has
 abbrev pub tail_bytes : ℕ → ℕ → List Row → List ℕ
 tail_bytes players count rows = to_be_bytes w32 count ++ rows_bytes players rows
+
+-- how many rows there are in all, as a tail says in its first four bytes
+abbrev pub count_of : List ℕ → ℕ
+count_of tail = from_be_bytes w32 (take 4 tail)
 
 -- the tail of the first rows
 abbrev pub tail_at : ℕ → List Row → ℕ → List ℕ

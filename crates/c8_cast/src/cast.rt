@@ -1,6 +1,6 @@
 //! The rows of a watcher, in files.
-ghost use Rattle.std.specs.Prelude.{◌≡◌, ◌≤◌, ◌+◌, ◌*◌, ◌/◌, ◌++◌, ◌∷◌, [], true, length, IfOk, OnOk};
-ghost use Rattle.c8_cast.specs.Cast.{SpellsBeginning, HasTail, MayForget, IsGrown, IsCaughtUp, IsReached, IsTailOf};
+ghost use Rattle.std.specs.Prelude.{◌≡◌, ◌≤◌, ◌+◌, ◌*◌, ◌/◌, ◌++◌, ◌∷◌, [], true, false, length, IfOk, IfErr, IsErrOf, OnOk};
+ghost use Rattle.c8_cast.specs.Cast.{SpellsBeginning, HasTail, MayForget, IsGrown, IsCaughtUp, IsReached, IsTailOf, IsBeyond, IsOtherTail};
 ghost use Rattle.c8_cast.specs.Spelling.{chunk_rows, tail_at};
 
 use crate::error::CastError;
@@ -181,7 +181,9 @@ impl<F: Folder> Cast<F> {
 /// the tail is too short to name a count.
 fn reaches(alloc: Global, players: usize, rows: &[Row], tail: &Spelled) -> Result<bool, CastError>
     requires { players ≤ MOST_PLAYERS }
-    ensures { IfOk result (λ reaches. reaches ≡ true → IsTailOf players rows.now tail.now) }
+    ensures yes { IfOk result (λ reaches. reaches ≡ true → IsTailOf players rows.now tail.now) }
+    ensures no { IfOk result (λ reaches. reaches ≡ false → IsBeyond rows.now tail.now) }
+    ensures differs { IsErrOf result CastError.Differs → IsOtherTail players rows.now tail.now }
 {
     let Some(count) = count_in(&tail.bytes) else {
         return Err(CastError::Differs);
@@ -200,7 +202,8 @@ fn reaches(alloc: Global, players: usize, rows: &[Row], tail: &Spelled) -> Resul
 fn first_tail(alloc: Global, players: usize, rows: &[Row], count: u32) -> Result<Spelled, CastError>
     requires players { players ≤ MOST_PLAYERS }
     requires count { count ≤ length rows.now }
-    ensures { IfOk result (λ tail. tail ≡ tail_at players rows.now count) }
+    ensures tail { IfOk result (λ tail. tail ≡ tail_at players rows.now count) }
+    ensures memory { IfErr result (λ error. error ≡ CastError.Memory) }
 {
     let end = count as usize;
     let first = end / CHUNK_ROWS * CHUNK_ROWS;

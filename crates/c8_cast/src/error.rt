@@ -38,6 +38,11 @@ impl CastError {
 }
 
 impl From<AllocError> for CastError {
+    ghost use Rattle.std.specs.Prelude.{◌≡◌};
+    ghost use Rattle.c8_cast.specs.declared.error.CastError.TheVariants.{Memory};
+
+    ghost from_gives = { λ _ result. result ≡ Memory };
+
     fn from(_: AllocError) -> CastError {
         CastError::Memory
     }

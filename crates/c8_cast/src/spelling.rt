@@ -1,6 +1,6 @@
 //! Rows in the bytes of files.
-ghost use Rattle.std.specs.Prelude.{◌≡◌, ◌≤◌, ◌++◌, IfOk, OnOk};
-ghost use Rattle.c8_cast.specs.Spelling.{row_bytes, rows_bytes, tail_bytes};
+ghost use Rattle.std.specs.Prelude.{◌≡◌, ◌≤◌, ◌<◌, ◌++◌, length, IfOk, IfErr, IfSome, IfNone, OnOk};
+ghost use Rattle.c8_cast.specs.Spelling.{row_bytes, rows_bytes, tail_bytes, count_of};
 
 use crate::error::CastError;
 use crate::folder::Spelled;
@@ -28,7 +28,8 @@ pub(crate) fn tail_of(
     rows: &[Row],
 ) -> Result<Spelled, CastError>
     requires { players ≤ MOST_PLAYERS }
-    ensures { IfOk result (λ tail. tail ≡ tail_bytes players count rows.now) }
+    ensures tail { IfOk result (λ tail. tail ≡ tail_bytes players count rows.now) }
+    ensures memory { IfErr result (λ error. error ≡ CastError.Memory) }
 {
     let mut bytes = Vec::from_slice(alloc, &count.to_be_bytes())?;
     add_rows(&mut bytes, players, rows)?;
@@ -36,7 +37,10 @@ pub(crate) fn tail_of(
 }
 
 /// Returns how many rows a tail has in all; `None` if it is too short to say.
-pub(crate) fn count_in(tail: &[u8]) -> Option<u32> {
+pub(crate) fn count_in(tail: &[u8]) -> Option<u32>
+    ensures count { IfSome result (λ count. (4 ≤ length tail.now) × (count ≡ count_of tail.now)) }
+    ensures short { IfNone result (length tail.now < 4) }
+{
     match tail {
         [one, two, three, four, ..] => Some(u32::from_be_bytes([*one, *two, *three, *four])),
         _ => None,
