@@ -12,9 +12,9 @@ use Rattle.std.proofs.lemmas.List.Sums.{sum_by-append, count_by-le-length}
 use Rattle.std.proofs.lemmas.Option.{slice_get_within, get_or_from_slice_get}
 use Rattle.c8_journals.specs.declared.summary.Summary.{Summary}
 use Rattle.c8_journals.specs.Counted.{Counts, IsSummedTo, form_after}
-use Rattle.c8_journals.specs.Summary.{IsSummed, Sums, forms, forms_of}
+use Rattle.c8_journals.specs.Summary.{IsSummed, Sums, forms, forms_of, tells_drop, was_dropped}
 use Rattle.c8_known.specs.Journal.{Record, Head, Epoch, Own, Got, Freeze, Leave, Cut, State, Check}
-use Rattle.c8_known.specs.Journal.{is_own, epochs, epochs_of, has_leave, lets_go, ticks}
+use Rattle.c8_known.specs.Journal.{is_own, epochs, epochs_of, ticks}
 use Rattle.c8_record.specs.Body.{Spells, record_of, records_of}
 use Rattle.c8_record.specs.Replay.{BeginsWithHead}
 use Rattle.c8_record.specs.checked.BodyLaws.{reads_back}
@@ -58,15 +58,15 @@ unfolding ticks
 ticks_more records r = omega (arith, sum_by-append (λ (x : Record). cond (is_own x) 1 0) records (r ∷ []))
 
 pub sums_more : (records : List Record) (r : Record) (old new : Summary) → Counts r old new → Sums records old → Sums (records ++ r ∷ []) new
-unfolding ticks epochs has_leave forms
+unfolding ticks epochs was_dropped forms
 sums_more records r old new c sums = record {
   entered = c.entered ∙ ap (λ (n : ℕ). n + cond (is_own r) 1 0) sums.entered ∙ ticks_more records r;
   epochs = c.epochs ∙ ap (λ (n : ℕ). n + length (epochs_of r)) sums.epochs ∙ sym (length-append (flat_map epochs_of records) (epochs_of r))
       ∙ ap (λ (xs : List ℕ). length xs) (sym (flat_more epochs_of records r));
   form = c.form ∙ form_more records old.form r sums.form
       ∙ ap (λ (xs : List ℕ). slice_index xs (length xs - 1)) (sym (flat_more forms_of records r));
-  dropped = λ place within. c.dropped place within ∙ ap (λ (b : Bool). b || lets_go (place + 1) r) (sums.dropped place within)
-      ∙ sym (any_more (lets_go (place + 1)) records r);
+  dropped = λ place within. c.dropped place within ∙ ap (λ (b : Bool). b || tells_drop (place + 1) r) (sums.dropped place within)
+      ∙ sym (any_more (tells_drop (place + 1)) records r);
 }
 
 pub summed_more : (bodies : List (List ℕ)) (n : ℕ) (body : List ℕ) (r : Record) (old new : Summary) → IsSummedTo bodies n old
@@ -139,7 +139,7 @@ no_leave (suc (suc (suc (suc n)))) = refl
 pub head_summed : (bodies : List (List ℕ)) (body : List ℕ) (s : Summary) → slice_get bodies 0 ≡ Some body
     → Spells body (Head s.player.number s.form s.id s.room) → s.entered ≡ 0 → s.epochs ≡ 1 → s.dropped ≡ false ∷ false ∷ false ∷ false ∷ []
     → IsSummedTo bodies 1 s
-unfolding ticks epochs has_leave forms
+unfolding ticks epochs was_dropped forms
 head_summed bodies body s first spells none once nobody =
     let r : Record = Head s.player.number s.form s.id s.room in
     let is : record_of body ≡ r = reads_back body r spells in

@@ -2,8 +2,8 @@
 use Rattle.std.specs.Prelude.{◌≡◌, ◌<◌, ◌≤◌, ◌+◌, ℕ, List, length, take, get_or, false, ◌||◌, cond}
 use Rattle.std.specs.List.{All}
 use Rattle.c8_journals.specs.declared.summary.Summary.{Summary}
-use Rattle.c8_journals.specs.Summary.{IsOf, Sums}
-use Rattle.c8_known.specs.Journal.{Record, Head, Epoch, Own, Got, Freeze, Leave, Cut, State, Check, is_own, epochs_of, lets_go}
+use Rattle.c8_journals.specs.Summary.{IsOf, Sums, tells_drop}
+use Rattle.c8_known.specs.Journal.{Record, Head, Epoch, Own, Got, Freeze, Leave, Cut, State, Check, is_own, epochs_of}
 use Rattle.c8_record.specs.Body.{Spells, record_of, records_of}
 
 -- the form after one more record
@@ -26,7 +26,7 @@ pub record Counts (r : Record) (old new : Summary) : Type 0 where
   pub form : new.form ≡ form_after old.form r
   pub entered : new.entered ≡ old.entered + cond (is_own r) 1 0
   pub epochs : new.epochs ≡ old.epochs + length (epochs_of r)
-  pub dropped : (place : ℕ) → place < 4 → get_or new.dropped place false ≡ (get_or old.dropped place false || lets_go (place + 1) r)
+  pub dropped : (place : ℕ) → place < 4 → get_or new.dropped place false ≡ (get_or old.dropped place false || tells_drop (place + 1) r)
 
 -- The summary has the first n bodies.
 pub record IsSummedTo (bodies : List (List ℕ)) (n : ℕ) (s : Summary) : Type 0 where

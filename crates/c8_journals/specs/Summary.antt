@@ -1,11 +1,11 @@
 -- What the bodies of a journal's file say of it, and why there may be no summary.
-use Rattle.std.specs.Prelude.{◌≡◌, ◌⊎◌, ◌<◌, ◌+◌, ◌-◌, ℕ, List, [], ◌∷◌, length, take, slice_index, get_or, Some, false}
-use Rattle.std.specs.List.{slice_get, flat_map, All}
+use Rattle.std.specs.Prelude.{◌≡◌, ◌⊎◌, ◌<◌, ◌+◌, ◌-◌, ◌||◌, ℕ, List, [], ◌∷◌, length, take, slice_index, get_or, Some, Bool, false}
+use Rattle.std.specs.List.{slice_get, flat_map, list_any, All}
 use Rattle.c8_audit.specs.Journal.{HasNoHead}
 use Rattle.c8_audit.specs.declared.error.JournalError.{JournalError}
 use Rattle.c8_audit.specs.declared.error.JournalError.TheVariants.{WrongGame, BadRecord, Memory}
 use Rattle.c8_journals.specs.declared.summary.Summary.{Summary}
-use Rattle.c8_known.specs.Journal.{Record, Head, Epoch, Own, Got, Freeze, Leave, Cut, State, Check, ticks, epochs, has_leave}
+use Rattle.c8_known.specs.Journal.{Record, Head, Epoch, Own, Got, Freeze, Leave, Cut, State, Check, freezes, lets_go, ticks, epochs}
 use Rattle.c8_record.specs.Body.{Spells, record_of, records_of}
 use Rattle.c8_record.specs.Replay.{BeginsWithHead}
 
@@ -29,12 +29,19 @@ forms_of (Check player frames digest) = []
 unfoldable pub forms : List Record → List ℕ
 forms records = flat_map forms_of records
 
--- What a summary has of records: the key sets that were entered, how often the peer was opened, the last form, and who has a LEAVE.
+-- the record says that player 1 has dropped this player: a LEAVE, or a FREEZE where another player heard of it
+abbrev pub tells_drop : ℕ → Record → Bool
+tells_drop q r = lets_go q r || freezes q r
+
+unfoldable pub was_dropped : ℕ → List Record → Bool
+was_dropped q records = list_any (tells_drop q) records
+
+-- What a summary has of records: the key sets that were entered, how often the peer was opened, the last form, and who was dropped.
 pub record Sums (records : List Record) (s : Summary) : Type 0 where
   pub entered : s.entered ≡ ticks records
   pub epochs : s.epochs ≡ length (epochs records)
   pub form : s.form ≡ slice_index (forms records) (length (forms records) - 1)
-  pub dropped : (place : ℕ) → place < 4 → get_or s.dropped place false ≡ has_leave (place + 1) records
+  pub dropped : (place : ℕ) → place < 4 → get_or s.dropped place false ≡ was_dropped (place + 1) records
 
 -- Each body spells a record, the first is the HEAD, and the summary has what the records say.
 pub record IsSummed (bodies : List (List ℕ)) (s : Summary) : Type 0 where

@@ -24,7 +24,7 @@ pub struct Summary {
     pub entered: usize,
     /// How often the peer was opened: the HEAD and the EPOCH records.
     pub epochs: usize,
-    /// Whether each player has a LEAVE, player 1 first.
+    /// Whether player 1 has dropped each player, as a LEAVE or a FREEZE says; player 1 first.
     pub dropped: [bool; MOST_PLAYERS],
 }
 
@@ -86,7 +86,9 @@ impl Summary {
                 self.epochs += 1;
             }
             Record::Own { .. } => self.entered += 1,
-            Record::Leave { player } => self.dropped[player.place()] = true,
+            Record::Leave { player } | Record::Freeze { player } => {
+                self.dropped[player.place()] = true;
+            }
             _ => {}
         }
     }
