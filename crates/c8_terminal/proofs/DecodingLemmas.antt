@@ -2,11 +2,11 @@
 use Rattle.std.proofs.Common.{rules, sym, subst, ◌≡◌, ℕ, ◌<◌, Bool, true, false, cond, Option, Some, None}
 use Rattle.std.specs.Prelude.{◌==◌, nat_lt, IfSome}
 use Rattle.c8_terminal.specs.declared.signal.Signal.{Signal}
-use Rattle.c8_terminal.specs.declared.signal.Signal.TheVariants.{LetGo, Quit, Repaint, GiveUp}
+use Rattle.c8_terminal.specs.declared.signal.Signal.TheVariants.{LetGo, Quit, Repaint, GiveUp, Help}
 use Rattle.c8_terminal.specs.Decoder.{IsOfKeypad}
 use Rattle.c8_terminal.specs.Decoding.{Reading, Nothing, Escape, Single, Control, Answer, Foreign, Numbers, Step, alone, answer_with, arrow}
 use Rattle.c8_terminal.specs.Decoding.{character, control_ended, control_with, exact_after, exact_after_answer, has_control, is_last}
-use Rattle.c8_terminal.specs.Decoding.{is_letter, is_text, key_at, key_event, meaning, no_numbers, reads, step_in, tells, told_of_any}
+use Rattle.c8_terminal.specs.Decoding.{is_letter, is_text, key_at, key_event, meaning, named, no_numbers, reads, step_in, tells, told_of_any}
 use Rattle.c8_terminal.specs.Keyboard.{key_of, arrow_key}
 use Rattle.c8_terminal.proofs.KeyboardLemmas.{key_of-below}
 
@@ -39,6 +39,9 @@ arrow_fine b event exact =
     (either_key (b == 0x42) (Some 8) _ (search rules)
     (either_key (b == 0x43) (Some 9) _ (search rules) (either_key (b == 0x44) (Some 7) None (search rules) tt))))
 
+named_fine : (b event : ℕ) (exact : Bool) → Fine (named b event exact)
+named_fine b event exact = either (b == 0x50) _ _ (either (nat_lt 1 event) None (Some Help) tt tt) (arrow_fine b event exact)
+
 key_event_fine : (n : Numbers) (exact : Bool) → Fine (key_event n exact)
 key_event_fine n exact =
     let key : IfSome (key_at n) (λ k. k < 16) =
@@ -50,7 +53,7 @@ key_event_fine n exact =
     (either (is_letter 0x64 n) (Some GiveUp) _ tt (either (is_letter 0x6C n) (Some Repaint) None tt tt))) told))
 
 meaning_fine : (b : ℕ) (n : Numbers) (exact : Bool) → Fine (meaning b n exact)
-meaning_fine b n exact = either (b == 0x75) _ _ (key_event_fine n exact) (either (b == 0x4F) (Some LetGo) _ tt (arrow_fine b n.event exact))
+meaning_fine b n exact = either (b == 0x75) _ _ (key_event_fine n exact) (either (b == 0x4F) (Some LetGo) _ tt (named_fine b n.event exact))
 
 alone_fine : (b : ℕ) (exact : Bool) → IsFine (alone b exact)
 alone_fine b exact =
@@ -63,7 +66,7 @@ step_fine Nothing b exact = alone_fine b exact
 step_fine Escape b exact =
     either_step (b == 0x1B) _ _ tt (either_step (b == 0x5B) (reads (Control no_numbers) exact) _ tt
     (either_step (b == 0x4F) (reads Single exact) (tells None exact) tt tt))
-step_fine Single b exact = either_step (is_text b) (tells (arrow b 0 exact) exact) (alone b exact) (arrow_fine b 0 exact) (alone_fine b exact)
+step_fine Single b exact = either_step (is_text b) (tells (named b 0 exact) exact) (alone b exact) (named_fine b 0 exact) (alone_fine b exact)
 step_fine (Control n) b exact =
     either_step (is_last b) (control_ended b n exact) _ (meaning_fine b n (exact_after n exact))
     (either_step (is_text b) (reads (control_with b n) exact) (alone b exact) tt (alone_fine b exact))

@@ -1,5 +1,5 @@
 -- The bytes that a terminal sends are decoded.
-use Rattle.std.proofs.Common.{◌≡◌, ℕ, ◌+◌, ◌/◌, ◌%◌, ◌<◌, ◌≤◌, Bool, true, false, cond, List, [], ◌∷◌, ◌++◌, Option, None, refl, sym, ap}
+use Rattle.std.proofs.Common.{◌≡◌, ℕ, ◌+◌, ◌/◌, ◌%◌, ◌<◌, ◌≤◌, Bool, true, false, cond, List, [], ◌∷◌, ◌++◌, Option, None, Some, refl, sym, ap}
 use Rattle.std.proofs.Common.{subst, ◌∙◌, arith}
 use Rattle.std.specs.Prelude.{◌==◌, ◌&&◌, ◌||◌, nat_lt, nat_le}
 use Rattle.std.specs.Fmt.{decimal}
@@ -7,13 +7,14 @@ use Rattle.std.proofs.lemmas.Bool.{and_from, false_from_ne_true, eqb-true}
 use Rattle.std.proofs.lemmas.Bool.Decides.{nat_tests}
 use Rattle.std.proofs.lemmas.Fmt.{decimal_by_steps}
 use Rattle.c8_terminal.specs.declared.signal.Signal.{Signal}
-use Rattle.c8_terminal.specs.Decoding.{Decoding, Numbers, Reading, Nothing, Escape, Single, Control, Answer, Step, character, is_digit}
+use Rattle.c8_terminal.specs.declared.signal.Signal.TheVariants.{Help}
+use Rattle.c8_terminal.specs.Decoding.{Decoding, Numbers, Reading, Nothing, Escape, Single, Control, Answer, Step, character, help_of, is_digit}
 use Rattle.c8_terminal.specs.Decoding.{is_last, is_text, key_event, names_event, no_numbers, reads, reports_events, step, step_in, tells}
 use Rattle.c8_terminal.specs.Decoding.{told_of, with_digit, with_number}
-use Rattle.c8_terminal.specs.Sent.{AreOne, AreSent, Arrow, ArrowEvent, Direction, Downward, Fits, Flags, FocusCame, FocusLost, IsRead}
-use Rattle.c8_terminal.specs.Sent.{IsSent, KeyEvent, KeyPress, Leftward, ModifiedKeyPress, PlacedKeyEvent, Rightward, Sent, SingleArrow}
-use Rattle.c8_terminal.specs.Sent.{Typed, Upward, all_bytes, arrow_key, bytes_of, capped, exact_after, letter, numbers, ready, told}
-use Rattle.c8_terminal.specs.Sent.{told_by, told_of_all, with_told}
+use Rattle.c8_terminal.specs.Sent.{AreOne, AreSent, Arrow, ArrowEvent, Direction, Downward, Fits, Flags, FocusCame, FocusLost, HelpEvent, HelpPress}
+use Rattle.c8_terminal.specs.Sent.{IsRead, IsSent, KeyEvent, KeyPress, Leftward, ModifiedKeyPress, PlacedKeyEvent, Rightward, Sent}
+use Rattle.c8_terminal.specs.Sent.{SingleArrow, SingleHelp, Typed, Upward, all_bytes, arrow_key, bytes_of, capped, exact_after, letter}
+use Rattle.c8_terminal.specs.Sent.{numbers, ready, told, told_by, told_of_all, with_told}
 
 abbrev in_mode : Reading → Bool → Decoding
 in_mode reading exact = record { reading = reading; exact = exact }
@@ -231,6 +232,29 @@ arrow_event_read direction modifiers event fits exact =
     (last_arrow direction (with_event 1 0 (capped modifiers) (capped event)) exact some
     ∙ ap (λ (v : ℕ). tells (told_of v true (arrow_key direction)) true) is))))
 
+last_help : (n : Numbers) (exact : Bool) → nat_lt 0 n.event ≡ true → step_in (Control n) 0x50 exact ≡ tells (help_of n.event) true
+last_help n true some = refl
+last_help n false some = ap (λ (e : Bool). tells (help_of n.event) e) some
+
+help_event_read : (modifiers event : ℕ) → IsSent (HelpEvent modifiers event) → IsRead (HelpEvent modifiers event)
+help_event_read modifiers event fits exact =
+    let is : capped event ≡ event = omega (arith, fits.2) in
+    let some : nat_lt 0 (capped event) ≡ true = grind (arith, nat_tests, fits.1, is) in
+    let end : Step = tells (help_of event) true in
+    let one : Numbers = with_code 1 in
+    led (0x1B ∷ 0x5B ∷ []) (0x31 ∷ 0x3B ∷ (decimal modifiers ++ 0x3A ∷ (decimal event ++ 0x50 ∷ []))) Nothing
+    (Control (with_code 0)) exact end (by_control exact)
+    (led (0x31 ∷ []) (0x3B ∷ (decimal modifiers ++ 0x3A ∷ (decimal event ++ 0x50 ∷ []))) (Control (with_code 0)) (Control one)
+    exact end (by_one 0x31 _ _ exact refl)
+    (led (0x3B ∷ []) (decimal modifiers ++ 0x3A ∷ (decimal event ++ 0x50 ∷ [])) (Control one) (Control (with_modifiers 1 0 0))
+    exact end (by_one 0x3B _ _ exact refl)
+    (tail_read 1 0 modifiers event 0x50 exact end fits.0 (omega (arith, fits.2))
+    (last_help (with_event 1 0 (capped modifiers) (capped event)) exact some ∙ ap (λ (v : ℕ). tells (help_of v) true) is))))
+
+help_read : (exact : Bool) → step_in (Control no_numbers) 0x50 exact ≡ tells (Some Help) exact
+help_read true = refl
+help_read false = refl
+
 arrow_read : (direction : Direction) (exact : Bool)
     → step_in (Control no_numbers) (letter direction) exact ≡ tells (told_of 0 exact (arrow_key direction)) exact
 arrow_read Upward true = refl
@@ -270,6 +294,9 @@ sent_is_read (Typed byte) fits exact = typed_read byte fits exact
 sent_is_read (Arrow direction) fits exact = (refl, (refl, arrow_read direction exact))
 sent_is_read (SingleArrow direction) fits exact = (refl, (refl, single_read direction exact))
 sent_is_read (ArrowEvent direction modifiers event) fits exact = arrow_event_read direction modifiers event fits exact
+sent_is_read SingleHelp fits exact = (refl, (refl, refl))
+sent_is_read HelpPress fits exact = (refl, (refl, help_read exact))
+sent_is_read (HelpEvent modifiers event) fits exact = help_event_read modifiers event fits exact
 sent_is_read (KeyPress code) fits exact = press_read code fits exact
 sent_is_read (ModifiedKeyPress code modifiers) fits exact = modified_read code modifiers fits exact
 sent_is_read (KeyEvent code modifiers event) fits exact = key_event_read code modifiers event fits exact

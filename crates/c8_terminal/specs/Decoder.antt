@@ -1,7 +1,7 @@
 -- What a caller knows of a decoder, and of its signals.
 use Rattle.std.specs.Prelude.{◌<◌}
 use Rattle.c8_terminal.specs.declared.signal.Signal.{Signal}
-use Rattle.c8_terminal.specs.declared.signal.Signal.TheVariants.{Struck, Down, Up, LetGo, Quit, Repaint, GiveUp}
+use Rattle.c8_terminal.specs.declared.signal.Signal.TheVariants.{Struck, Down, Up, LetGo, Quit, Repaint, GiveUp, Help}
 use Rattle.c8_terminal.specs.declared.sequence.Numbers.{Numbers}
 use Rattle.c8_terminal.specs.declared.decoder.Mode.{Mode}
 use Rattle.c8_terminal.specs.declared.decoder.Mode.TheVariants as modes
@@ -17,6 +17,7 @@ IsOfKeypad LetGo = Unit {0}
 IsOfKeypad Quit = Unit {0}
 IsOfKeypad Repaint = Unit {0}
 IsOfKeypad GiveUp = Unit {0}
+IsOfKeypad Help = Unit {0}
 
 abbrev pub numbers_of : Numbers → decoding.Numbers
 numbers_of n = record { field = n.field; part = n.part; code = n.code; base = n.base; modifiers = n.modifiers; event = n.event }

@@ -1,7 +1,7 @@
 -- The state of a decoder, and what one more byte does to it.
 use Rattle.std.specs.Prelude.{ℕ, ◌+◌, ◌-◌, ◌*◌, ◌/◌, ◌%◌, ◌==◌, ◌&&◌, ◌||◌, Bool, false, min, nat_lt, nat_le, Option, Some, None, if◌then◌else◌}
 use Rattle.c8_terminal.specs.declared.signal.Signal.{Signal}
-use Rattle.c8_terminal.specs.declared.signal.Signal.TheVariants.{Struck, Down, Up, LetGo, Quit, Repaint, GiveUp}
+use Rattle.c8_terminal.specs.declared.signal.Signal.TheVariants.{Struck, Down, Up, LetGo, Quit, Repaint, GiveUp, Help}
 use Rattle.c8_terminal.specs.Keyboard.{key_of, arrow_key, small}
 
 -- The numbers of a control sequence so far. `;` separates its fields, `:` the parts of a field; both are counted from
@@ -104,6 +104,14 @@ escaped b exact =
 abbrev pub arrow : ℕ → ℕ → Bool → Option Signal
 arrow b event exact = told_of_any (arrow_key b) event exact
 
+-- the signal of the key F1, by its event: a press asks for help
+abbrev pub help_of : ℕ → Option Signal
+help_of event = if nat_lt 1 event then None else Some Help
+
+-- the signal of F1 or of an arrow, by the last byte of the sequence
+abbrev pub named : ℕ → ℕ → Bool → Option Signal
+named b event exact = if b == 0x50 then help_of event else arrow b event exact
+
 -- a number with one more digit; numbers above 65535 become 65535
 abbrev pub with_digit : ℕ → ℕ → ℕ
 with_digit n b = min (10 * n + (b - 0x30)) 65535
@@ -173,12 +181,12 @@ key_event n exact =
     else if has_control n then with_control n
     else told_of_any (key_at n) n.event exact
 
--- the signal of a control sequence: u is an event of a key, O the loss of the focus, A to D an arrow
+-- the signal of a control sequence: u is an event of a key, O the loss of the focus, P is F1, A to D an arrow
 abbrev pub meaning : ℕ → Numbers → Bool → Option Signal
 meaning b n exact =
     if b == 0x75 then key_event n exact
     else if b == 0x4F then Some LetGo
-    else arrow b n.event exact
+    else named b n.event exact
 
 abbrev pub names_event : Numbers → Bool
 names_event n = nat_lt 0 n.event
@@ -202,7 +210,7 @@ control_ended b n exact = tells (meaning b n (exact_after n exact)) (exact_after
 abbrev pub step_in : Reading → ℕ → Bool → Step
 step_in Nothing b exact = alone b exact
 step_in Escape b exact = escaped b exact
-step_in Single b exact = if is_text b then tells (arrow b 0 exact) exact else alone b exact
+step_in Single b exact = if is_text b then tells (named b 0 exact) exact else alone b exact
 step_in (Control n) b exact =
     if is_last b then control_ended b n exact
     else if is_text b then reads (control_with b n) exact

@@ -3,8 +3,8 @@ use Rattle.std.specs.Prelude.{◌≡◌, ℕ, ◌<◌, ◌≤◌, ◌^◌, ◌||
 use Rattle.std.specs.Fmt.{decimal}
 use Rattle.std.specs.List.{flat_map}
 use Rattle.c8_terminal.specs.declared.signal.Signal.{Signal}
-use Rattle.c8_terminal.specs.declared.signal.Signal.TheVariants.{LetGo}
-use Rattle.c8_terminal.specs.Decoding.{Decoding, Nothing, Numbers, Step, character, key_event, reports_events, step, tells, told_of}
+use Rattle.c8_terminal.specs.declared.signal.Signal.TheVariants.{LetGo, Help}
+use Rattle.c8_terminal.specs.Decoding.{Decoding, Nothing, Numbers, Step, character, help_of, key_event, reports_events, step, tells, told_of}
 
 pub data Direction : Type 0 where
   Upward : Direction
@@ -22,6 +22,10 @@ pub data Sent : Type 0 where
   SingleArrow : Direction → Sent
   -- an event of an arrow
   ArrowEvent : Direction → (modifiers event : ℕ) → Sent
+  -- a press of F1, in the form that most terminals send, and in the other form; an event of F1
+  SingleHelp : Sent
+  HelpPress : Sent
+  HelpEvent : (modifiers event : ℕ) → Sent
   -- a press of a key: its character, with modifiers or with none
   KeyPress : (code : ℕ) → Sent
   ModifiedKeyPress : (code modifiers : ℕ) → Sent
@@ -51,6 +55,9 @@ bytes_of (Typed byte) = byte ∷ []
 bytes_of (Arrow direction) = control (letter direction ∷ [])
 bytes_of (SingleArrow direction) = 0x1B ∷ 0x4F ∷ letter direction ∷ []
 bytes_of (ArrowEvent direction modifiers event) = control (0x31 ∷ 0x3B ∷ (decimal modifiers ++ 0x3A ∷ (decimal event ++ letter direction ∷ [])))
+bytes_of SingleHelp = 0x1B ∷ 0x4F ∷ 0x50 ∷ []
+bytes_of HelpPress = control (0x50 ∷ [])
+bytes_of (HelpEvent modifiers event) = control (0x31 ∷ 0x3B ∷ (decimal modifiers ++ 0x3A ∷ (decimal event ++ 0x50 ∷ [])))
 bytes_of (KeyPress code) = control (decimal code ++ 0x75 ∷ [])
 bytes_of (ModifiedKeyPress code modifiers) = control (decimal code ++ 0x3B ∷ (decimal modifiers ++ 0x75 ∷ []))
 bytes_of (KeyEvent code modifiers event) = control (decimal code ++ 0x3B ∷ (decimal modifiers ++ 0x3A ∷ (decimal event ++ 0x75 ∷ [])))
@@ -80,6 +87,9 @@ told (Typed byte) exact = character byte
 told (Arrow direction) exact = told_of 0 exact (arrow_key direction)
 told (SingleArrow direction) exact = told_of 0 exact (arrow_key direction)
 told (ArrowEvent direction modifiers event) exact = told_of event true (arrow_key direction)
+told SingleHelp exact = Some Help
+told HelpPress exact = Some Help
+told (HelpEvent modifiers event) exact = help_of event
 told (KeyPress code) exact = key_event (numbers code 0 0 0) exact
 told (ModifiedKeyPress code modifiers) exact = key_event (numbers code 0 modifiers 0) exact
 told (KeyEvent code modifiers event) exact = key_event (numbers code 0 modifiers event) true
@@ -95,6 +105,9 @@ exact_after (Typed byte) exact = exact
 exact_after (Arrow direction) exact = exact
 exact_after (SingleArrow direction) exact = exact
 exact_after (ArrowEvent direction modifiers event) exact = true
+exact_after SingleHelp exact = exact
+exact_after HelpPress exact = exact
+exact_after (HelpEvent modifiers event) exact = true
 exact_after (KeyPress code) exact = exact
 exact_after (ModifiedKeyPress code modifiers) exact = exact
 exact_after (KeyEvent code modifiers event) exact = true
@@ -107,12 +120,15 @@ exact_after (Flags flags) exact = exact || reports_events (capped flags)
 abbrev pub Fits : ℕ → Type 0
 Fits n = n < 2 ^ 64
 
--- a typed byte is not ESC, an event of an arrow is one of the three, and an event of a key is named
+-- a typed byte is not ESC, an event of an arrow or of F1 is one of the three, and an event of a key is named
 abbrev pub IsSent : Sent → Type 0
 IsSent (Typed byte) = (byte ≡ 0x1B → ⊥)
 IsSent (Arrow direction) = Unit {0}
 IsSent (SingleArrow direction) = Unit {0}
 IsSent (ArrowEvent direction modifiers event) = Fits modifiers × (1 ≤ event) × (event ≤ 3)
+IsSent SingleHelp = Unit {0}
+IsSent HelpPress = Unit {0}
+IsSent (HelpEvent modifiers event) = Fits modifiers × (1 ≤ event) × (event ≤ 3)
 IsSent (KeyPress code) = Fits code
 IsSent (ModifiedKeyPress code modifiers) = Fits code × Fits modifiers
 IsSent (KeyEvent code modifiers event) = Fits code × Fits modifiers × (1 ≤ event) × Fits event

@@ -1,7 +1,7 @@
 -- Which keys count as held in a frame, by the signals before it.
 use Rattle.std.specs.Prelude.{ℕ, zero, suc, ◌+◌, ◌-◌, ◌==◌, ◌||◌, Bool, true, false, min, max, nat_lt, nat_le, if◌then◌else◌}
 use Rattle.c8_terminal.specs.declared.signal.Signal.{Signal}
-use Rattle.c8_terminal.specs.declared.signal.Signal.TheVariants.{Struck, Down, Up, LetGo, Quit, Repaint, GiveUp}
+use Rattle.c8_terminal.specs.declared.signal.Signal.TheVariants.{Struck, Down, Up, LetGo, Quit, Repaint, GiveUp, Help}
 
 -- the state of a key between two frames
 pub record Press : Type 0 where
@@ -45,6 +45,7 @@ noted hold LetGo key p = no_press
 noted hold Quit key p = p
 noted hold Repaint key p = p
 noted hold GiveUp key p = p
+noted hold Help key p = p
 
 -- the key counts as held in the next frame
 abbrev pub is_held : Press → Bool

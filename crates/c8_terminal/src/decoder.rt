@@ -5,7 +5,7 @@ ghost use Rattle.c8_terminal.specs.Decoding as decoding;
 ghost use Rattle.c8_terminal.specs.Decoding.{step_in, is_text, is_last, character, control_with, answer_with, reports_events};
 
 use crate::keyboard::key_of;
-use crate::sequence::{Numbers, arrow, told_of, with_digit};
+use crate::sequence::{Numbers, named, told_of, with_digit};
 use crate::signal::Signal;
 
 const ESC: u8 = 0x1b;
@@ -36,7 +36,7 @@ enum Mode {
 /// Decodes the bytes that a terminal sends, one at a time, into what a person does at the keyboard.
 ///
 /// Characters are mapped by their place on the left block of the keyboard to the keys of the keypad, and the arrows up,
-/// down, right and left to the keys 5, 8, 9 and 7. Most terminals report only key presses. A terminal with kitty's
+/// down, right and left to the keys 5, 8, 9 and 7. F1 asks for help. Most terminals report only key presses. A terminal with kitty's
 /// keyboard protocol also reports releases, once it is asked to. A terminal counts as exact once it answers that it
 /// reports event types, or names an event. Until then a key is reported as struck, since some terminals have only a
 /// part of the protocol.
@@ -117,7 +117,7 @@ impl Decoder {
         ensures next { read_by self.new ≡ (step_in decoding.Single byte self.old.exact).next }
     {
         if is_text(byte) {
-            self.tell(arrow(byte, 0, self.exact))
+            self.tell(named(byte, 0, self.exact))
         } else {
             self.alone(byte)
         }

@@ -36,7 +36,8 @@ impl Held {
         }
     }
 
-    /// Takes a signal. Its key is 0 to 15. [`Signal::Quit`], [`Signal::Repaint`] and [`Signal::GiveUp`] change nothing.
+    /// Takes a signal. Its key is 0 to 15. [`Signal::Quit`], [`Signal::Repaint`], [`Signal::GiveUp`] and
+    /// [`Signal::Help`] change nothing.
     pub fn note(&mut self, signal: Signal)
         requires { IsOfKeypad signal }
         ensures hold { hold_of self.new ≡ hold_of self.old }
@@ -57,7 +58,7 @@ impl Held {
                 self.presses[key] = self.presses[key].released();
             }
             Signal::LetGo => self.presses = [Press::NONE; KEYS],
-            Signal::Quit | Signal::Repaint | Signal::GiveUp => {}
+            Signal::Quit | Signal::Repaint | Signal::GiveUp | Signal::Help => {}
         }
     }
 

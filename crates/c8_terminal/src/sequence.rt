@@ -2,13 +2,19 @@
 ghost use Rattle.std.specs.Prelude.{◌≡◌, ◌<◌, ◌≤◌, ◌+◌, true, false};
 ghost use Rattle.c8_terminal.specs.Decoder.{numbers_of};
 ghost use Rattle.c8_terminal.specs.Decoding as decoding;
-ghost use Rattle.c8_terminal.specs.Decoding.{arrow, has_control, is_blank, is_letter, key_event, meaning, told_of, with_control, with_digit, with_number};
+ghost use Rattle.c8_terminal.specs.Decoding.{arrow, has_control, help_of, is_blank, is_letter, key_event, meaning, named, told_of, with_control, with_digit, with_number};
 
 use crate::keyboard::{arrow_key, key_of, small};
 use crate::signal::Signal;
 
+/// The event number of a press; 0 if the terminal names none.
+const PRESSED: u16 = 1;
+
 /// The event number of a release. Lower numbers are of a key that is down.
 const LET_GO: u16 = 3;
+
+/// The last byte of the sequence of F1.
+const F1: u8 = b'P';
 
 /// The character of the escape key.
 const ESCAPE: u16 = 27;
@@ -97,7 +103,7 @@ impl Numbers {
         match last {
             b'u' => self.key_event(exact),
             b'O' => Some(Signal::LetGo),
-            _ => arrow(last, self.event, exact),
+            _ => named(last, self.event, exact),
         }
     }
 
@@ -164,8 +170,30 @@ pub(crate) fn with_digit(number: u16, digit: u8) -> u16
         .saturating_add(u16::from(digit - b'0'))
 }
 
+/// Returns the signal of F1 or of an arrow, by the last byte of the sequence and the event.
+pub(crate) fn named(last: u8, event: u16, exact: bool) -> Option<Signal>
+    ensures { result ≡ named last event exact }
+{
+    if last == F1 {
+        help_of(event)
+    } else {
+        arrow(last, event, exact)
+    }
+}
+
+/// Returns the signal of F1, by its event: a press asks for help.
+fn help_of(event: u16) -> Option<Signal>
+    ensures { result ≡ help_of event }
+{
+    if event > PRESSED {
+        None
+    } else {
+        Some(Signal::Help)
+    }
+}
+
 /// Returns the signal of an arrow, by the last byte of the sequence and the event.
-pub(crate) fn arrow(last: u8, event: u16, exact: bool) -> Option<Signal>
+fn arrow(last: u8, event: u16, exact: bool) -> Option<Signal>
     ensures { result ≡ arrow last event exact }
 {
     told_of(arrow_key(last), event, exact)

@@ -17,4 +17,6 @@ pub enum Signal {
     Repaint,
     /// Control-D: the person wants to give up the player for whom the match waits.
     GiveUp,
+    /// F1: the person wants to know the own keys.
+    Help,
 }
