@@ -1,13 +1,15 @@
 //! What all command lines share: their words, the parser's messages, and the exit status (`front`). A command is a table
 //! of what it takes, an [`Outline`], from which [`command_of`] makes clap's `Command` (`outline`); those of `run` and
-//! `show` are here (`commands`). [`is_same_file`] knows a file by another name, [`Unhurried`] is a standard error that nobody
-//! has to read, and [`System`] and [`Threaded`] name what commands ask of the system.
+//! `show` are here (`commands`), and the [`options`] that commands of a match share. [`is_same_file`] knows a file by
+//! another name, [`Unhurried`] is a standard error that nobody has to read, and [`System`] and [`Threaded`] name what
+//! commands ask of the system.
 #![tactic(auto)]
 
 mod commands;
 mod files;
 mod front;
 mod help;
+pub mod options;
 mod outline;
 mod stderr;
 mod system;

@@ -1,11 +1,11 @@
 //! The options of the command `peer`, and what they ask for.
 
 use crate::help::PEER_ENDING;
-use crate::options::{
+use crate::reached::Named;
+use c8_front::options::{
     CHECKPOINT, GAME, LOCAL, PATIENCE, RELAY, REMOTES, ROOM, SECRET, STOP, WATCH_SECRET, WATCH5,
     WATCH6,
 };
-use crate::reached::Named;
 use c8_front::{Argument, Outline, is_explained, word_of};
 use c8_game::Player;
 use c8_udp::MOST_WATCHERS;
@@ -70,6 +70,7 @@ impl<'m, 'a> Asked<'m, 'a> {
             relay: self.relay,
             watchers: self.watchers,
             may_learn: self.secret.is_some(),
+            is_watcher: false,
         }
     }
 

@@ -2,7 +2,7 @@
 //!
 //! c8_live makes the turns, and `play` runs the match. This file opens the files, and writes the report.
 
-ghost use Rattle.std.specs.Prelude.{◌≡◌, ◌≢◌, ◌≤◌, ◌⊎◌, MatchResult, IfOk, IfErr, Result};
+ghost use Rattle.std.specs.Prelude.{◌≡◌, ◌≢◌, IfOk, IfErr};
 ghost use Rattle.c8_command.specs.Status.{status_of};
 ghost use Rattle.c8_command.specs.declared.status.Status.TheVariants as statuses;
 ghost use Rattle.c8_game.specs.Rules.{Rules};
@@ -12,10 +12,11 @@ ghost use Rattle.c8_net.specs.Errors.{peer_part};
 
 use crate::arguments::{Asked, asked_of};
 use crate::error::PeerError;
-use crate::fault::{Fault, INPUT, Why, game_at};
+use crate::fault::{Fault, INPUT, Remotes, Why, game_at};
+use crate::mistake::{Mistake, mistake_in};
 use crate::performance::Performance;
 use crate::play::{Prepared, Unprepared, perform_on, play_on, prepare};
-use crate::reached::Reached;
+use crate::reached::{Named, Reached};
 use crate::seals::{sealing_at, warn_of_secrets};
 use c8_command::{Refusal, Status, TextError};
 use c8_disk::FileError;
@@ -93,36 +94,11 @@ where
 }
 
 /// Refuses a command line.
-fn refuse_line<E: Write>(mistake: &str, refused: &mut E) -> io::Result<Status>
+fn refuse_line<E: Write>(mistake: Mistake<'_>, refused: &mut E) -> io::Result<Status>
     ensures { IfOk result (λ status. status ≡ statuses.CommandLine) }
 {
     writeln!(refused, "error: {mistake}")?;
     Ok(Status::CommandLine)
-}
-
-/// Returns why the options do not fit together; `None` if they do.
-fn mistake_in(asked: &Asked<'_, '_>) -> Option<&'static str> {
-    let [five, six] = asked.watchers;
-    if !asked.player.is_chair() && (five.is_some() || six.is_some()) {
-        return Some("--watch5 and --watch6 are for player 1 alone");
-    }
-    if asked.watch_secret.is_some() && (asked.secret.is_none() || !asked.player.is_chair()) {
-        return Some("--watch-secret is for player 1 alone, beside --secret");
-    }
-    if asked.relay.is_some() && asked.secret.is_none() {
-        return Some("--relay needs --secret: a relay may read and keep what it carries");
-    }
-    if asked.relay.is_some() && asked.remotes.is_some() {
-        return Some("--relay stands for the other players' addresses: give no REMOTE beside it");
-    }
-    if asked.relay.is_none() && asked.local.is_empty() && asked.remotes.is_none() {
-        return Some("give LOCAL and each REMOTE, or --relay");
-    }
-    // A journal in memory is empty at each start. In a used room the others would take its epochs for old ones.
-    if asked.has_no_journal() && !asked.has_room {
-        return Some("without a journal ('-') --room has to be given, a new one for each match");
-    }
-    None
 }
 
 /// Plays a game with others, in threads. It reads the key sets from `input` and writes the report of the confirmed
@@ -255,16 +231,32 @@ fn tell_fault<R: Net + AllocGlobal, E: Write>(
 ) -> io::Result<Status>
     ensures { IfOk result (λ status. status ≡ status_of (peer_part fault.entry.error)) }
 {
-    let word = match fault.error {
-        PeerError::Socket(SocketError::Address) => asked.named().refused(rt),
-        _ => None,
-    };
-    let fault = fault.because_of_word(word);
-    refuse(rt.alloc(), asked.explain, word, &fault, refused)
+    refuse_among(rt, asked.explain, &asked.named(), fault, refused)
 }
 
-/// Writes the line of a refusal, and its explanation if asked for; `no_address` is the first word that is refused as an
-/// address, if any.
+/// Writes the line of a refusal, and its explanation if asked for: if the fault is an address, which of these words is none,
+/// and why.
+pub fn refuse_among<R: Net + AllocGlobal, E: Write>(
+    rt: &R,
+    explain: bool,
+    named: &Named<'_, '_>,
+    fault: Fault<'_>,
+    refused: &mut E,
+) -> io::Result<Status>
+    ensures status_is { IfOk result (λ status. status ≡ status_of (peer_part fault.entry.error)) }
+    ensures never_done { IfOk result (λ status. status ≢ statuses.Done) }
+{
+    let found = match fault.error {
+        PeerError::Socket(SocketError::Address) if explain => named.refused(rt),
+        _ => None,
+    };
+    let fault = fault.because_of_word(found);
+    let word = found.map(|it| it.word);
+    refuse(rt.alloc(), explain, word, &fault, refused)
+}
+
+/// Writes the line of a refusal, and its explanation if asked for; `no_address` is the word that is refused as an address,
+/// if any.
 pub fn refuse<E: Write>(
     alloc: Global,
     explain: bool,
@@ -280,15 +272,15 @@ pub fn refuse<E: Write>(
         return refusal.tell(refused);
     }
     let site = Some(fault.site(alloc, no_address));
-    match fault.why {
+    match fault.detail(no_address) {
         Some(why) => refusal.tell_at(site, &why, refused),
         None => refusal.tell_at(site, &fault.error, refused),
     }
 }
 
-/// Prepares a match, and opens the disk of its journal. Faults are found in this order: the game's file, the game, the
-/// secrets, all that `prepare` checks, a player that the game does not have, the journal's file. The journal's opening
-/// and the socket come later.
+/// Prepares a match, and opens the disk of its journal. Faults are found in this order: the game's file, the game, two
+/// players at one address, the secrets, all that `prepare` checks, a player that the game does not have, the journal's
+/// file. The journal's opening and the socket come later.
 fn begun<'a, 't, R, I>(
     rt: &R,
     asked: &Asked<'_, 'a>,
@@ -302,9 +294,7 @@ where
 {
     let game = game_at(rt, asked.game)?;
     let players = game.players();
-    let Ok(reached) = Reached::of(rt, &asked.named(), players - 1) else {
-        return Err(out_of_memory(rt.alloc(), asked.game));
-    };
+    let reached = reached_by(rt, asked, players - 1)?;
     let Ok(remotes) = reached.remotes(rt.alloc()) else {
         return Err(out_of_memory(rt.alloc(), asked.game));
     };
@@ -320,7 +310,7 @@ where
         input,
     ) {
         Ok(it) => it,
-        Err(it) => return Err(at_start(it, players, remotes.len())),
+        Err(it) => return Err(at_start(it, players, remotes.len(), asked.journal)),
     };
     // The opening would refuse it too, but only after it has made a journal.
     if asked.player.number > it.game.players() {
@@ -329,6 +319,25 @@ where
     }
     let journal = journal_at(rt, asked, &it.game, trouble)?;
     Ok((it, journal))
+}
+
+/// Finds the hosts of a match with so many other players. Two players at one address are refused.
+fn reached_by<'a, R>(rt: &R, asked: &Asked<'_, 'a>, others: u8) -> Result<Reached, Fault<'a>>
+where
+    R: Net + AllocGlobal,
+    ensures { IfErr result (λ fault. IsUnbegun fault.error) }
+{
+    let Ok(reached) = Reached::of(rt, &asked.named(), others) else {
+        return Err(out_of_memory(rt.alloc(), asked.game));
+    };
+    match reached.shared() {
+        Some(address) => {
+            let error = PeerError::Socket(SocketError::Remotes);
+            let fault = Fault::new(rt.alloc(), error, asked.game);
+            Err(fault.because(Some(Why::Shared(address))))
+        }
+        None => Ok(reached),
+    }
 }
 
 /// Memory ran out before the journal was opened.
@@ -361,19 +370,19 @@ where
 }
 
 /// Turns the refusal of `prepare` into a fault with its file, for a game of this many players and as many addresses of
-/// others.
-fn at_start<'a>(it: Unprepared, players: u8, remotes: usize) -> Fault<'a>
-    requires { 2 ≤ players }
+/// others. One that is missing may stand in the place of the journal.
+fn at_start<'a>(it: Unprepared, players: u8, remotes: usize, journal: &str) -> Fault<'a>
     ensures { result.error ≡ it.error }
 {
     let Unprepared { error, input } = it;
     let why = match error {
         PeerError::Disk(_) => Some(Why::Unread(TextError::Failed)),
-        PeerError::Socket(SocketError::Remotes) => Some(Why::Remotes {
+        PeerError::Socket(SocketError::Remotes) => Some(Why::Remotes(Remotes {
             players,
-            needed: players - 1,
             found: remotes,
-        }),
+            lacks_journal: remotes.saturating_add(2) == usize::from(players)
+                && journal.contains(':'),
+        })),
         _ => None,
     };
     Fault {

@@ -4,25 +4,26 @@ ghost use Rattle.std.specs.Prelude.{◌≡◌, IfErr};
 ghost use Rattle.c8_net.specs.Answers.{IsUnbegun};
 
 use crate::error::PeerError;
+use crate::no_address::{NoAddress, Place};
+use crate::reached::Unreached;
 use c8_command::{Site, Text, TextError, read_file};
 use c8_disk::{DiskError, FileError};
 use c8_files::Trouble;
 use c8_game::{Game, GameError};
 use c8_keys::{KeysError, game_site, key_sets_site};
 use c8_peer::OpenError;
-use c8_program::{ProgramError, usual_game};
+use c8_program::{NO_TEXT, ProgramError, is_binary, is_program, usual_game};
 use c8_udp::SocketError;
 use std::alloc::Global;
+use std::fmt::Display;
 use std::fs::File;
-use std::io;
+use std::net::SocketAddr;
 use std::rt::Files;
+use std::{fmt, io};
 use thiserror::Error;
 
 /// The name of standard input in messages.
 pub(crate) const INPUT: &str = "standard input";
-
-/// The word for an address that is learnt.
-const LEARNT: &str = "-";
 
 /// Why nothing was played, and the file at fault.
 #[derive(Drop)]
@@ -44,16 +45,18 @@ pub(crate) enum Why {
     /// The bytes of a program make no game.
     #[error("{0}")]
     Program(ProgramError),
-    /// An address is to be learnt in a match without a secret.
-    #[error("an address is learnt from sealed packets: give --secret")]
-    Learnt,
-    /// There are as many players, and as many addresses of other players.
-    #[error("{players} players: give {needed} REMOTE, found {found}")]
-    Remotes {
-        players: u8,
-        needed: u8,
-        found: usize,
-    },
+    /// The bytes are neither a game's text nor, by the name of their file, a program.
+    #[error("{0}")]
+    NoText(&'static str),
+    /// A word is no address that can be reached.
+    #[error("{0}")]
+    Address(NoAddress),
+    /// The wrong number of addresses of other players.
+    #[error("{0}")]
+    Remotes(Remotes),
+    /// Two words name this address.
+    #[error("two players are at {0}: each has an address of its own")]
+    Shared(SocketAddr),
     /// Watchers of a match with a secret have none of their own.
     #[error("--watch5 and --watch6 need --watch-secret beside --secret")]
     Watchers,
@@ -63,6 +66,28 @@ pub(crate) enum Why {
     /// The system refused a call at the file of the journal.
     #[error("the journal's file: {0}")]
     System(io::Error),
+}
+
+/// How many addresses of other players there are, in a game of so many players.
+#[derive(Clone, Copy, Debug)]
+pub(crate) struct Remotes {
+    pub players: u8,
+    pub found: usize,
+    /// Whether one is missing, and an address may stand in the place of the journal.
+    pub lacks_journal: bool,
+}
+
+impl Display for Remotes {
+    fn fmt<W: fmt::Write>(&self, f: &mut fmt::Formatter<W>) -> fmt::Result {
+        let Remotes { players, found, .. } = self;
+        let needed = players.saturating_sub(1);
+        let word = if needed == 1 { "REMOTE" } else { "REMOTEs" };
+        write!(f, "{players} players: give {needed} {word}, found {found}")?;
+        if self.lacks_journal {
+            f.write_str(" (is JOURNAL missing?)")?;
+        }
+        Ok(())
+    }
 }
 
 impl<'a> Fault<'a> {
@@ -126,15 +151,25 @@ impl<'a> Fault<'a> {
         Fault { why, ..self }
     }
 
-    /// The same fault, with what says more if this word is no address.
-    pub(crate) fn because_of_word(self, word: Option<&str>) -> Self
+    /// The same fault, with why a word is no address, if it is one.
+    pub(crate) fn because_of_word(self, word: Option<Unreached<'_>>) -> Self
         ensures { result.error ≡ self.entry.error }
     {
-        match (self.error, word) {
-            (PeerError::Socket(SocketError::Address), Some(LEARNT)) => {
-                self.because(Some(Why::Learnt))
+        match word {
+            Some(word) => self.because(Some(Why::Address(word.why))),
+            None => self,
+        }
+    }
+
+    /// What says more: the detail of the error; without one what is wrong with the word of a host that the system does not
+    /// find.
+    pub(crate) fn detail(&self, no_address: Option<&str>) -> Option<Why> {
+        match (self.why, self.error, no_address) {
+            (None, PeerError::Socket(SocketError::Address), Some(word)) => {
+                let place = Place::Host { is_found: false };
+                Some(Why::Address(NoAddress::of(word, place)))
             }
-            _ => self,
+            (why, _, _) => why,
         }
     }
 
@@ -185,11 +220,8 @@ impl<'a> Fault<'a> {
     }
 }
 
-/// The name of a file ends so if it has the bytes of a program, and not a game's text.
-const PROGRAM: &[u8] = b".ch8";
-
-/// Reads the game in a file: a game's text, or the bytes of a program, which get the usual settings. Faults are found
-/// in this order: the file, the game.
+/// Reads the game in a file: a game's text, or the bytes of a program (`.ch8`), which get the usual settings. Faults are
+/// found in this order: the file, the game.
 pub fn game_at<'a, R>(rt: &R, path: &'a str) -> Result<Game, Fault<'a>>
 where
     R: Files<File = File> + AllocGlobal,
@@ -199,7 +231,7 @@ where
         Ok(text) => text,
         Err(error) => return Err(Fault::unread(rt.alloc(), error, path)),
     };
-    if path.as_bytes().ends_with(PROGRAM) {
+    if is_program(path) {
         return match usual_game(rt.alloc(), &text) {
             Ok(game) => Ok(game),
             Err(why) => {
@@ -211,6 +243,10 @@ where
     }
     match Game::read(rt.alloc(), &text) {
         Ok(game) => Ok(game),
+        Err(error) if is_binary(&text) => {
+            let fault = Fault::new(rt.alloc(), PeerError::Game(error), path);
+            Err(fault.because(Some(Why::NoText(NO_TEXT))))
+        }
         Err(error) => Err(Fault::of_text(PeerError::Game(error), path, text)),
     }
 }

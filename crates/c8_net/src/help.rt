@@ -43,7 +43,8 @@ Refusals, each one line on standard error, as 'refused: game 5 Hex':
   disk 1 Failed       a file that cannot be read or written, or a text above 16777216 bytes
   disk 2 Full         the journal is at its greatest length, 1073741824 bytes
   socket 1 Failed     the socket cannot be opened, or was closed, or 4294967295 packets were sealed
-  socket 2 Remotes    not one REMOTE for each other player; watchers and --secret without --watch-secret
+  socket 2 Remotes    not one REMOTE for each other player, or two players at one address; watchers and
+                      --secret without --watch-secret
   socket 3 Address    an address that is not written as 127.0.0.1:4001, or a name that the system does not
                       find; another player's or a watcher's with port 0, or of another IP version than
                       LOCAL; - without --secret

@@ -1,5 +1,6 @@
 //! The addresses that a command line names, once the system has found the hosts that it names.
 
+use crate::no_address::{LEARNT, NoAddress, Place};
 use c8_udp::{MOST_WATCHERS, address_at, refused_address};
 use std::alloc::{AllocError, Global};
 use std::net::{Net, SocketAddr};
@@ -16,6 +17,15 @@ pub struct Named<'m, 'a> {
     pub watchers: [Option<&'a str>; MOST_WATCHERS],
     /// Whether `-` stands for an address that is learnt.
     pub may_learn: bool,
+    /// Whether they are a watcher's, who has to know player 1's address.
+    pub is_watcher: bool,
+}
+
+/// A word that names no address which can be reached.
+#[derive(Clone, Copy, Debug)]
+pub(crate) struct Unreached<'a> {
+    pub(crate) word: &'a str,
+    pub(crate) why: NoAddress,
 }
 
 /// The same words with addresses in the place of names. A name that the system does not find stays, and is refused as an
@@ -52,7 +62,7 @@ impl Reached {
             remotes.push(format!(in rt.alloc(); "{found}")?)?;
         }
         let local = if named.local.is_empty() {
-            any_for(found.as_str())
+            any_of(!found.as_str().starts_with('['))
         } else {
             named.local
         };
@@ -71,6 +81,25 @@ impl Reached {
     /// The relay's address, if the match goes through one that has one.
     pub fn relay(&self) -> Option<SocketAddr> {
         self.relay
+    }
+
+    /// An address that two of the players have, if there is one. Through a relay all are at the relay's.
+    pub(crate) fn shared(&self) -> Option<SocketAddr> {
+        if self.relay.is_some() {
+            return None;
+        }
+        for place in 0..self.remotes.len() {
+            let remote = self.remotes[place].as_str();
+            let is_own = is_same_place(self.local.as_str(), remote);
+            if is_own
+                || self.remotes[..place]
+                    .iter()
+                    .any(|it| is_same_place(it.as_str(), remote))
+            {
+                return remote.parse::<SocketAddr>().ok();
+            }
+        }
+        None
     }
 
     /// The first other player's address; empty if there is none.
@@ -92,27 +121,94 @@ impl Reached {
 }
 
 impl<'a> Named<'_, 'a> {
-    /// The first of these words that names no address which can be reached, if any.
-    pub fn refused<R: Net>(&self, rt: &R) -> Option<&'a str> {
-        let none = [None; MOST_WATCHERS];
-        if let Some(relay) = self.relay {
-            let is_found = address_at(rt, relay, None).is_some_and(|it| it.port() != 0);
-            return if is_found {
-                Some(self.local)
-            } else {
-                Some(relay)
+    /// The first of these words that names no address which can be reached, if any, and why.
+    pub(crate) fn refused<R: Net>(&self, rt: &R) -> Option<Unreached<'a>> {
+        let Some(relay) = self.relay else {
+            let Ok(own) = self.local.parse::<SocketAddr>() else {
+                return Some(Unreached::number(self.local));
             };
-        }
-        let Ok(own) = self.local.parse::<SocketAddr>() else {
-            return Some(self.local);
+            return (&*self)
+                .refused_remote(rt, own)
+                .or((&*self).refused_watcher(self.local));
         };
+        let found = address_at(rt, relay, None);
+        let Some(address) = found.filter(|it| it.port() != 0) else {
+            return Some(Unreached::host(relay, found.is_some()));
+        };
+        let local = if self.local.is_empty() {
+            any_of(address.is_ipv4())
+        } else {
+            self.local
+        };
+        let Ok(own) = local.parse::<SocketAddr>() else {
+            return Some(Unreached::number(local));
+        };
+        if is_reached(rt, relay, own) {
+            (&*self).refused_watcher(local)
+        } else {
+            Some(Unreached::new(self.local, NoAddress::OtherThanRelay))
+        }
+    }
+
+    /// The first other player's word that names no address which can be reached from the own one.
+    fn refused_remote<R: Net>(&self, rt: &R, own: SocketAddr) -> Option<Unreached<'a>> {
         for remote in self.remotes.unwrap_or(&[]) {
-            let is_refused = refused_address(self.local, &[remote], none, self.may_learn).is_some();
-            if is_refused && !is_reached(rt, remote, own) {
-                return Some(remote);
+            if *remote != LEARNT {
+                let is_found = address_at(rt, remote, None).is_some();
+                if !is_found || !is_reached(rt, remote, own) {
+                    return Some(Unreached::host(remote, is_found));
+                }
+            } else if !self.may_learn {
+                return Some(Unreached::new(remote, self.learnt()));
             }
         }
-        refused_address(self.local, &[], self.watchers, self.may_learn)
+        None
+    }
+
+    /// The first watcher's word that is refused beside this own address.
+    fn refused_watcher(&self, local: &'a str) -> Option<Unreached<'a>> {
+        match refused_address(local, &[], self.watchers, self.may_learn) {
+            Some(LEARNT) => Some(Unreached::new(LEARNT, self.learnt())),
+            Some(word) => Some(Unreached::number(word)),
+            None => None,
+        }
+    }
+
+    /// Why no address is learnt.
+    fn learnt(&self) -> NoAddress {
+        if self.is_watcher {
+            NoAddress::LearntByWatcher
+        } else {
+            NoAddress::Learnt
+        }
+    }
+}
+
+impl<'a> Unreached<'a> {
+    fn new(word: &'a str, why: NoAddress) -> Self {
+        Unreached { word, why }
+    }
+
+    /// A word that is refused where only a number is taken.
+    fn number(word: &'a str) -> Self {
+        Unreached::new(word, NoAddress::of(word, Place::Number))
+    }
+
+    /// A word that is refused where a name is taken too, and whether the system finds a host of this name.
+    fn host(word: &'a str, is_found: bool) -> Self {
+        Unreached::new(word, NoAddress::of(word, Place::Host { is_found }))
+    }
+}
+
+/// Whether two words name one port of one host: they spell one address whose port is not 0, or name it by one name. A word
+/// that stands for an address to be learnt names none, and a word without a port is none.
+pub fn is_same_place(one: &str, other: &str) -> bool {
+    if one == LEARNT || !one.contains(':') {
+        return false;
+    }
+    match (one.parse::<SocketAddr>(), other.parse::<SocketAddr>()) {
+        (Ok(one), Ok(other)) => one == other && one.port() != 0,
+        _ => one == other,
     }
 }
 
@@ -136,11 +232,7 @@ fn found_at<R: Net + AllocGlobal>(
     }
 }
 
-/// The word for any port at all addresses of this machine, of the IP version of another address.
-fn any_for(address: &str) -> &'static str {
-    if address.starts_with('[') {
-        "[::]:0"
-    } else {
-        "0.0.0.0:0"
-    }
+/// The word for any port at all addresses of this machine, of an IP version.
+fn any_of(is_ipv4: bool) -> &'static str {
+    if is_ipv4 { "0.0.0.0:0" } else { "[::]:0" }
 }

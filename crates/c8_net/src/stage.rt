@@ -7,6 +7,7 @@ use crate::arguments::Asked;
 use crate::error::Unopened;
 use crate::pace::{Pace, VIEWER_PAUSE};
 use crate::performance::Ended;
+use crate::quiet::Quiet;
 use c8_disk::Disk;
 use c8_game::Game;
 use c8_live::{
@@ -62,6 +63,13 @@ struct Turner<'g, D: Disk, K> {
     pen: Pen,
     /// How many turns it makes at most.
     turns: u64,
+}
+
+/// What the viewer's thread prints.
+#[derive(Clone, Copy)]
+struct Telling {
+    progress: Progress,
+    quiet: Quiet,
 }
 
 /// A viewer, and its board.
@@ -141,7 +149,11 @@ impl Stage {
             outbox,
             inbox,
         };
-        let told = Progress::new(now(rt), asked.player, session.peer().players());
+        let players = session.peer().players();
+        let told = Telling {
+            progress: Progress::new(now(rt), asked.player, players),
+            quiet: Quiet::new(now(rt), session.peer(), asked.player),
+        };
         let onlooker = Onlooker {
             board: &shared.board,
             viewer,
@@ -268,12 +280,13 @@ fn move_packets<R: Clock + Wait, W: Wire + Drop>(
 }
 
 /// Runs the viewer's thread until the game thread has ended. It asks for the end once the frames of `--stop` are
-/// confirmed. With `--progress` it prints the progress, and a line at the end if packets were turned away, with all counts.
+/// confirmed. With `--progress` it prints the progress, and a line at the end if packets were turned away, with all counts;
+/// without, where refusals are explained, who was not heard.
 fn watch<R: Clock + Wait, E: Write>(
     rt: &R,
     asked: &Asked<'_, '_>,
     onlooker: Onlooker<'_>,
-    told: Progress,
+    told: Telling,
     progress: &mut E,
     shared: &Shared<'_, R>,
 ) {
@@ -286,13 +299,18 @@ fn watch<R: Clock + Wait, E: Write>(
         let confirmed = onlooker.look(asked.stop);
         shared.pace.see(confirmed);
         if asked.progress {
-            let _ = told.tell(progress, now(rt), confirmed, &shared.counters.take());
+            let standing = shared.counters.take();
+            let _ = told.progress.tell(progress, now(rt), confirmed, &standing);
+        } else if asked.explain {
+            let _ = told.quiet.tell(progress, now(rt), &shared.counters.take());
         }
         thread::sleep(rt, Duration::from_millis(VIEWER_PAUSE));
     }
     let standing = shared.counters.take();
     if asked.progress && has_turned_away(&standing) {
-        let _ = told.tell_last(progress, now(rt), onlooker.look(None), &standing);
+        let _ = told
+            .progress
+            .tell_last(progress, now(rt), onlooker.look(None), &standing);
     }
 }
 

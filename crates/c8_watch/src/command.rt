@@ -14,7 +14,10 @@ use c8_files::warn_of_readers;
 use c8_front::{Terminals, Threaded};
 use c8_game::Game;
 use c8_keys::{Played, write_report};
-use c8_net::{Fault, Line, Named, PeerError, Reached, Sealing, game_at, refuse, watch_sealing_at};
+use c8_net::{
+    Fault, Line, Named, PeerError, Reached, Sealing, game_at, is_same_place, refuse_among,
+    watch_sealing_at,
+};
 use c8_peer::OpenError;
 use c8_spectator::Spectator;
 use c8_transport::{Counters, Sealed, Sealer, Wire};
@@ -73,6 +76,9 @@ fn mistake_in(
     if !asked.has_relay && given.get_str("REMOTE").is_none() {
         return Some("give LOCAL and REMOTE, or --relay");
     }
+    if !asked.has_relay && is_same_place(asked.local, asked.remote) {
+        return Some("REMOTE is LOCAL too: it is player 1's address");
+    }
     None
 }
 
@@ -101,8 +107,7 @@ where
         }
         Err(fault) => {
             let remotes = [asked.remote];
-            let word = named(asked, &remotes).refused(rt);
-            refuse(rt.alloc(), asked.explain, word, &fault, refused)
+            refuse_among(rt, asked.explain, &named(asked, &remotes), fault, refused)
         }
     }
 }
@@ -143,6 +148,7 @@ fn named<'m, 'a>(asked: &WatchAsked<'a>, remotes: &'m [&'a str]) -> Named<'m, 'a
         relay: asked.has_relay.then_some(asked.remote),
         watchers: [None, None],
         may_learn: false,
+        is_watcher: true,
     }
 }
 

@@ -7,4 +7,4 @@ pub returns-in_ok-write_report-in-Ok : goal.returns-in_ok-write_report-in-Ok
 returns-in_ok-write_report-in-Ok g c = (Ok c.in-Ok.played, c.in-Ok.ensures, refl)
 
 pub returns-in-Err : goal.returns-in-Err
-returns-in-Err g c = watched_refused c.refuse.result c.in-Err.fault.error c.refuse.ensures.status_is
+returns-in-Err g c = watched_refused c.refuse_among.result c.in-Err.fault.error c.refuse_among.ensures.status_is

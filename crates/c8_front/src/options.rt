@@ -1,6 +1,6 @@
 //! Arguments that the commands of a match share.
 
-use c8_front::{Argument, Form};
+use crate::outline::{Argument, Form};
 
 /// The path of the game.
 pub const GAME: Argument = Argument {

@@ -1,0 +1,109 @@
+//! Why a word is no address that can be reached.
+
+use std::net::{Ipv6Addr, SocketAddr};
+use thiserror::Error;
+
+/// The word for an address that is learnt.
+pub(crate) const LEARNT: &str = "-";
+
+/// Why a word is no address that can be reached.
+#[derive(Clone, Copy, Debug, PartialEq, Eq, Error)]
+pub(crate) enum NoAddress {
+    #[error("an address is empty: give one such as 127.0.0.1:4001")]
+    Empty,
+    /// An address is to be learnt in a match without a secret.
+    #[error("an address is learnt from sealed packets: give --secret")]
+    Learnt,
+    /// An address is to be learnt by a watcher.
+    #[error("a watcher learns no address: give player 1's")]
+    LearntByWatcher,
+    /// A name where only a number may stand.
+    #[error("a name; give a number such as 127.0.0.1:4001")]
+    Name,
+    #[error("the system finds no host of this name")]
+    Unknown,
+    #[error("no host before the port: write it as 127.0.0.1:4001")]
+    NoHost,
+    #[error("no port: write it as 127.0.0.1:4001")]
+    NoPort,
+    #[error("a port is a number from 1 to 65535")]
+    Port,
+    #[error("an address of IP version 6 stands in brackets, as [::1]:4001")]
+    Brackets,
+    #[error("port 0 is nobody's: give the port of the other program")]
+    PortZero,
+    #[error("of another IP version than LOCAL")]
+    OtherVersion,
+    #[error("of another IP version than the relay")]
+    OtherThanRelay,
+    #[error("not an address such as 127.0.0.1:4001 or [::1]:4001")]
+    Malformed,
+}
+
+/// Where a refused word stands.
+#[derive(Clone, Copy, Debug, PartialEq, Eq)]
+pub(crate) enum Place {
+    /// Where only a number is taken: LOCAL, or a watcher's address.
+    Number,
+    /// Where a name is taken too, REMOTE or the relay's address, and the system finds a host of this name, or none.
+    Host { is_found: bool },
+}
+
+impl NoAddress {
+    /// Returns what is wrong with a word that is refused at a place.
+    pub(crate) fn of(word: &str, place: Place) -> NoAddress {
+        if word.is_empty() {
+            return NoAddress::Empty;
+        }
+        if let Ok(address) = word.parse::<SocketAddr>() {
+            return NoAddress::out_of_reach(address.port());
+        }
+        if word.parse::<Ipv6Addr>().is_ok() {
+            return NoAddress::Brackets;
+        }
+        match word.rsplit_once(':') {
+            Some(_) if word.ends_with(']') => NoAddress::NoPort,
+            Some((host, port)) => NoAddress::of_parts(host, port, place),
+            None => NoAddress::NoPort,
+        }
+    }
+
+    /// Returns what is wrong with a host and a port that spell no address.
+    fn of_parts(host: &str, port: &str, place: Place) -> NoAddress {
+        if host.is_empty() {
+            return NoAddress::NoHost;
+        }
+        let is_bracketed = host.starts_with('[') && host.ends_with(']');
+        if host.contains(':') && !is_bracketed {
+            return NoAddress::Malformed;
+        }
+        match (port.parse::<u16>(), place) {
+            (Err(_), _) => NoAddress::Port,
+            (Ok(port), Place::Host { is_found: true }) => NoAddress::out_of_reach(port),
+            (Ok(_), _) if !is_name(host) => NoAddress::Malformed,
+            (Ok(_), Place::Number) => NoAddress::Name,
+            (Ok(_), Place::Host { .. }) => NoAddress::Unknown,
+        }
+    }
+
+    /// Returns why nobody is reached at this port of an address.
+    fn out_of_reach(port: u16) -> NoAddress {
+        if port == 0 {
+            NoAddress::PortZero
+        } else {
+            NoAddress::OtherVersion
+        }
+    }
+}
+
+/// Whether a word can be the name of a host: it has a letter, and else digits, hyphens, underscores and points.
+fn is_name(word: &str) -> bool {
+    let bytes = word.as_bytes();
+    bytes.iter().any(|byte| byte.is_ascii_alphabetic())
+        && bytes.iter().all(|byte| is_of_name(*byte))
+}
+
+/// Whether a byte may stand in the name of a host.
+fn is_of_name(byte: u8) -> bool {
+    byte.is_ascii_alphanumeric() || matches!(byte, b'-' | b'_' | b'.')
+}
