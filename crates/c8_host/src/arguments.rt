@@ -2,8 +2,8 @@
 
 use crate::help::{HOST_ENDING, JOIN_ENDING};
 use c8_front::{Argument, Form, Outline};
-use c8_net::options::RELAY;
-use c8_play::{HOLD, MUTE};
+use c8_net::options::{PATIENCE, RELAY};
+use c8_play::{HOLD, MUTE, REPORT};
 use clap::builder::ValueParser;
 
 const GAME: Argument = Argument {
@@ -58,8 +58,10 @@ pub static HOST: Outline = Outline {
         },
         JOURNAL,
         NO_JOURNAL,
+        PATIENCE,
         HOLD,
         MUTE,
+        REPORT,
         Argument::EXPLAIN,
     ],
 };
@@ -103,6 +105,7 @@ pub static JOIN: Outline = Outline {
         NO_JOURNAL,
         HOLD,
         MUTE,
+        REPORT,
         Argument::EXPLAIN,
     ],
 };

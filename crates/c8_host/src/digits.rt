@@ -10,8 +10,8 @@ const MOST: usize = 80;
 /// How many digits a secret has.
 const DIGITS: usize = 64;
 
-/// Reads the first line of an input, without its end: LF, CR or the end of the input. It reads no byte after that, and
-/// stops after 80 bytes. The error is the reader's, or that memory ran out.
+/// Reads the first line of an input, without spaces and tabs, and without its end: LF, CR or the end of the input. It reads
+/// no byte after that, and stops after 80 bytes. The error is the reader's, or that memory ran out.
 pub fn digits_in<I: Read>(alloc: Global, input: &mut I) -> io::Result<Vec<u8>> {
     let mut digits = Vec::with_capacity(alloc, MOST)?;
     let mut byte = [0];
@@ -19,7 +19,9 @@ pub fn digits_in<I: Read>(alloc: Global, input: &mut I) -> io::Result<Vec<u8>> {
         if input.read(&mut byte)? == 0 || byte == [b'\n'] || byte == [b'\r'] {
             break;
         }
-        digits.push(byte[0])?;
+        if byte != [b' '] && byte != [b'\t'] {
+            digits.push(byte[0])?;
+        }
     }
     Ok(digits)
 }

@@ -5,13 +5,13 @@ ghost use Rattle.c8_command.specs.declared.status.Status.TheVariants as statuses
 ghost use Rattle.c8_command.specs.declared.status.Status.{Status};
 ghost use Rattle.c8_host.specs.declared.friends.Found.TheVariants as found;
 ghost use Rattle.c8_net.specs.Answers.{EndsMatch};
+ghost use Rattle.c8_play.specs.Answers.{IsSilent, WantsReport, WantsNoReport};
 
-use crate::journals::journal_for;
 use c8_command::Status;
-use c8_front::{System, is_explained, word_of};
+use c8_front::{System, Terminals, is_explained, word_of};
 use c8_game::{Game, Player};
 use c8_net::{Asked, Fault, PeerError, game_at, perform_given, refuse};
-use c8_play::{Live, Tempo, Terminal};
+use c8_play::{Drawn, Ending, Live, Tempo, Terminal, keys_at, tell_ending, wants_report};
 use c8_udp::{SocketError, address_at};
 use clap::ArgMatches;
 use std::alloc::{AllocError, Global};
@@ -39,17 +39,23 @@ pub(crate) struct Match {
     /// The relay's address or name, if the match goes through one.
     pub(crate) relay: Option<String>,
     pub(crate) room: u64,
+    /// Whether the room was drawn, so that no word of the command line names it.
+    pub(crate) is_drawn: bool,
+    /// After how many silent turns player 1 drops a player; `None` for never.
+    pub(crate) patience: Option<u64>,
     /// The path of the secret.
     pub(crate) secret: String,
+    /// The path of the journal, or `-` for none.
+    pub(crate) journal: String,
 }
 
 impl Match {
     /// What `play` is asked for. Nothing is said of the tone and of refusals.
-    fn asked<'m, 'a>(&'a self, journal: &'a str, remotes: &'m [&'a str]) -> Asked<'m, 'a> {
+    fn asked<'m, 'a>(&'a self, remotes: &'m [&'a str]) -> Asked<'m, 'a> {
         Asked {
             game: self.game.as_str(),
             player: self.player,
-            journal,
+            journal: self.journal.as_str(),
             local: self.local.as_str(),
             remotes: self.relay.is_none().then_some(remotes),
             relay: self.relay.as_deref(),
@@ -59,11 +65,11 @@ impl Match {
             room: self.room,
             has_room: true,
             turns: u64::MAX,
-            patience: None,
+            patience: self.patience,
             stop: None,
             checkpoint: 0,
             progress: false,
-            says_end: true,
+            says_end: false,
             is_muted: false,
             explain: false,
         }
@@ -81,17 +87,12 @@ pub(crate) enum Found {
 /// Whether a match can begin.
 #[derive(Drop)]
 pub(crate) enum Begun {
-    /// The note stands on the screen, below the picture. `waits`: first a key has to be pressed.
-    Match {
-        wanted: Match,
-        note: String,
-        waits: bool,
-    },
+    Match(Match),
     /// What is missing was written.
     Refused(Status),
 }
 
-/// A match through a relay.
+/// A match through a relay, whose journal is not known yet.
 pub(crate) fn met_at(
     alloc: Global,
     given: &ArgMatches<'_>,
@@ -113,7 +114,10 @@ pub(crate) fn met_at(
         remote: String::new(alloc),
         relay: Some(format!(in alloc; "{relay}")?),
         room,
+        is_drawn: false,
+        patience: None,
         secret,
+        journal: String::new(alloc),
     })
 }
 
@@ -147,8 +151,34 @@ where
     Ok(Some(status))
 }
 
-/// Plays the match with the journal that the command line asks for.
+/// Plays the match. It writes the report only if `--report` is given, or if `out` is no terminal.
 pub(crate) fn play<R, W, E>(
+    rt: &R,
+    given: &ArgMatches<'_>,
+    terminals: Terminals,
+    wanted: Match,
+    console: Terminal<'_, R>,
+    out: &mut W,
+    refused: &mut E,
+) -> io::Result<Status>
+where
+    R: System,
+    W: Write,
+    E: Write,
+    ensures report { WantsReport given.now terminals
+        → IfOk result (EndsMatch (W.contents out.old) (W.contents out.new)) }
+    ensures silent { WantsNoReport given.now terminals
+        → IfOk result (IsSilent EndsMatch (W.contents out.old) (W.contents out.new)) }
+{
+    if wants_report(given, terminals) {
+        return play_match(rt, given, wanted, console, out, refused);
+    }
+    let mut unread = Vec::new(rt.alloc());
+    play_match(rt, given, wanted, console, &mut unread, refused)
+}
+
+/// Plays as `play` does, and writes the report to `out`.
+fn play_match<R, W, E>(
     rt: &R,
     given: &ArgMatches<'_>,
     wanted: Match,
@@ -162,23 +192,26 @@ where
     E: Write,
     ensures { IfOk result (EndsMatch (W.contents out.old) (W.contents out.new)) }
 {
-    let journal = journal_for(rt, given, &wanted, refused)?;
     let remotes = [wanted.remote.as_str()];
     let asked = Asked {
         is_muted: given.get_flag("mute"),
         explain: is_explained(given),
-        ..wanted.asked(journal.as_str(), &remotes)
+        ..wanted.asked(&remotes)
     };
+    let room = wanted.is_drawn.then_some(wanted.room);
     let hold = given.get_one::<u8>("hold").unwrap_or(9).max(1);
     let pace = Tempo { rate: RATE, hold };
-    play_asked(rt, &asked, Live { console, pace }, out, refused)
+    play_asked(rt, given, &asked, room, console, pace, out, refused)
 }
 
-/// Plays as `play` does, and says how a match with a journal is seen again.
+/// Plays as `play` does, and says how the match ended. `room` is the room if it was drawn.
 fn play_asked<R, W, E>(
     rt: &R,
+    given: &ArgMatches<'_>,
     asked: &Asked<'_, '_>,
-    live: Live<Terminal<'_, R>>,
+    room: Option<u64>,
+    console: Terminal<'_, R>,
+    pace: Tempo,
     out: &mut W,
     refused: &mut E,
 ) -> io::Result<Status>
@@ -188,15 +221,40 @@ where
     E: Write,
     ensures { IfOk result (EndsMatch (W.contents out.old) (W.contents out.new)) }
 {
+    let mut ending = Ending::NONE;
+    let live = Live {
+        console,
+        pace,
+        keys: keys_at(rt, asked.game, asked.player),
+        ending: &mut ending,
+    };
     let status = perform_given(rt, asked, live, out, refused)?;
-    if status == Status::Done && !asked.has_no_journal() {
-        let (game, journal) = (asked.game, asked.journal);
-        writeln!(
-            refused,
-            "to see it again: ./c8play replay {game} {journal} --screen"
-        )?;
+    if status == Status::Done {
+        tell_end(rt.alloc(), given, asked, room, ending, refused)?;
     }
     Ok(status)
+}
+
+/// Writes how a match ended, and the line to go on with: it names the room if it was drawn, and of a list of relays the one
+/// that was drawn.
+fn tell_end<E: Write>(
+    alloc: Global,
+    given: &ArgMatches<'_>,
+    asked: &Asked<'_, '_>,
+    room: Option<u64>,
+    ending: Ending,
+    out: &mut E,
+) -> io::Result<()> {
+    let list = format!(in alloc; "{}", word_of(given, "relay"))?;
+    let one = format!(in alloc; "{}", asked.relay.unwrap_or(""))?;
+    let drawn = Drawn {
+        room,
+        word: asked
+            .relay
+            .is_some()
+            .then_some((list.as_str(), one.as_str())),
+    };
+    tell_ending(alloc, out, asked, ending, drawn)
 }
 
 /// The path of the secret: the one that is given, or that of the game with `.secret` behind it.

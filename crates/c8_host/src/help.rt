@@ -18,8 +18,9 @@ Without a relay a friend in another network needs your router's address, and the
 port to this machine. Keys, screen and the rest are as in the command play; both players have 60 frames a second.
 
 Each player keeps a journal beside the secret, as rally.game.3735928559.1.journal: a player whose program ends
-comes back with the same line, the one who hosts with --room ROOM. If the disk is too slow for that, the
-program says so and plays without one, as with --no-journal.
+comes back with the line that the program shows at its end: the same, the one who hosts with --room ROOM. If
+the disk is too slow for that, the program says so and plays without one, as with --no-journal. Before the
+invitation is shown, port, secret and journal are tried.
 
 Refusals and exit statuses are those of the command peer; a secret that cannot be made is disk 1 Failed.";
 

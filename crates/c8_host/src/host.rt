@@ -5,16 +5,19 @@ ghost use Rattle.c8_command.specs.declared.status.Status.TheVariants as statuses
 ghost use Rattle.c8_command.specs.declared.status.Status.{Status};
 ghost use Rattle.c8_host.specs.declared.friends.Begun.TheVariants as begun;
 ghost use Rattle.c8_net.specs.Answers.{EndsMatch};
+ghost use Rattle.c8_play.specs.Answers.{IsSilent, WantsReport, WantsNoReport};
 
 use crate::addresses::{LIST, own_addresses};
+use crate::checks::refuse_start;
 use crate::friends::{
     Begun, Found, Match, NONE, game_for, met_at, play, refuse_relay, secret_path,
 };
-use crate::inviting::{invitation, note};
+use crate::inviting::{invitation, kept, note};
+use crate::journals::journal_for;
 use crate::meeting::{Invitation, Meeting, invitation_over};
 use c8_command::{Refusal, Site, Status};
 use c8_files::{make_secret, random_bytes};
-use c8_front::{System, is_explained, word_of};
+use c8_front::{System, Terminals, is_explained, word_of};
 use c8_game::{Game, Player};
 use c8_net::number_of;
 use c8_play::{Console, KEY_BYTES, Terminal};
@@ -24,7 +27,7 @@ use std::fs::File;
 use std::io::Write;
 use std::net::Net;
 use std::rt::Files;
-use std::time::Duration;
+use std::time::{Clock, Duration};
 use std::{fs, io};
 
 /// The UDP port of a host without a relay.
@@ -35,11 +38,12 @@ const LOOK: u64 = 50;
 
 const MOST_LOOKS: u32 = 72_000;
 
-/// Runs `host` as the command line asks: makes the secret if it is missing, shows the invitation, and plays as player 1.
-/// The error is a writer's, or that memory ran out.
+/// Runs `host` as the command line asks: makes the secret if it is missing, checks that the match can begin, shows the
+/// invitation, and plays as player 1. The error is a writer's, or that memory ran out.
 pub fn host_given<R, W, E>(
     rt: &R,
     given: &ArgMatches<'_>,
+    terminals: Terminals,
     out: &mut W,
     refused: &mut E,
 ) -> io::Result<Status>
@@ -47,7 +51,10 @@ where
     R: System,
     W: Write,
     E: Write,
-    ensures { IfOk result (EndsMatch (W.contents out.old) (W.contents out.new)) }
+    ensures report { WantsReport given.now terminals
+        → IfOk result (EndsMatch (W.contents out.old) (W.contents out.new)) }
+    ensures silent { WantsNoReport given.now terminals
+        → IfOk result (IsSilent EndsMatch (W.contents out.old) (W.contents out.new)) }
 {
     let game = match game_for(rt, given, "host", refused)? {
         Found::Game(game) => game,
@@ -57,21 +64,42 @@ where
         writeln!(refused, "error: host wants a terminal")?;
         return Ok(Status::CommandLine);
     };
-    match invited(rt, given, &game, refused)? {
-        Begun::Match {
-            wanted,
-            note,
-            waits,
-        } => {
-            if waits {
-                writeln!(refused, "Press a key to begin.")?;
-                wait_for_key(&mut console);
-            }
-            let console = console.with_note(note.as_bytes());
-            play(rt, given, wanted, console, out, refused)
-        }
-        Begun::Refused(status) => Ok(status),
+    let wanted = match wanted_by(rt, given, refused)? {
+        Begun::Match(wanted) => wanted,
+        Begun::Refused(status) => return Ok(status),
+    };
+    let note = invite(rt, given, &game, &wanted, &mut console, refused)?;
+    let console = console.with_note(note.as_bytes());
+    play(rt, given, terminals, wanted, console, out, refused)
+}
+
+/// Writes the invitation, and returns what stands below the picture. An invitation that does not fit there waits for a key.
+fn invite<R, C, E>(
+    rt: &R,
+    given: &ArgMatches<'_>,
+    game: &Game,
+    wanted: &Match,
+    console: &mut C,
+    refused: &mut E,
+) -> io::Result<String>
+where
+    R: Files<File = File> + Net + AllocGlobal,
+    C: Console,
+    E: Write,
+{
+    let Invitation { lines, fits } = invitation_to(rt, given, game, wanted)?;
+    refused.write_all(lines.as_bytes())?;
+    if wanted.relay.is_some() {
+        // Below the picture there is no room for it.
+        let kept = kept(rt.alloc(), wanted.journal.as_str())?;
+        refused.write_all(kept.as_bytes())?;
     }
+    if fits {
+        return Ok(note(rt.alloc(), lines.as_str())?);
+    }
+    writeln!(refused, "Press a key to begin.")?;
+    wait_for_key(console);
+    Ok(String::new(rt.alloc()))
 }
 
 /// Waits until a key is pressed, for an hour at most.
@@ -85,11 +113,11 @@ fn wait_for_key<C: Console>(console: &mut C) {
     }
 }
 
-/// The match that a host invites to; the invitation is written. It is refused if the relay has no address, or if the
-/// secret's file fails.
-fn invited<R, E>(rt: &R, given: &ArgMatches<'_>, game: &Game, refused: &mut E) -> io::Result<Begun>
+/// The match that a host invites to. It is refused if the relay has no address, if a file of the match fails, or if the own
+/// port cannot be opened.
+fn wanted_by<R, E>(rt: &R, given: &ArgMatches<'_>, refused: &mut E) -> io::Result<Begun>
 where
-    R: Files<File = File> + Net + AllocGlobal,
+    R: Files<File = File> + Net + Clock + AllocGlobal,
     E: Write,
     ensures { (status : Status) → result ≡ Ok (begun.Refused status) → status ≢ statuses.Done }
 {
@@ -109,35 +137,46 @@ where
             return Ok(Begun::Refused(status));
         }
     };
-    if let Some(relay) = relay {
-        let meeting = Meeting {
-            path: word_of(given, "GAME"),
-            game,
-            relay,
-            secret: secret.as_str(),
-            room,
-        };
-        let Invitation { lines, fits } = invitation_over(rt, meeting)?;
-        refused.write_all(lines.as_bytes())?;
-        let below = if fits { lines.as_str() } else { "" };
-        let note = note(rt.alloc(), below)?;
-        let wanted = met_at(rt.alloc(), given, relay, Player::CHAIR, room, secret)?;
-        let waits = !fits;
-        return Ok(Begun::Match {
-            wanted,
-            note,
-            waits,
-        });
+    let mut wanted = match relay {
+        Some(relay) => met_at(rt.alloc(), given, relay, Player::CHAIR, room, secret)?,
+        None => hosted(rt.alloc(), given, secret, room)?,
+    };
+    wanted.is_drawn = number_of(given, "room").is_none();
+    wanted.patience = number_of(given, "patience");
+    wanted.journal = journal_for(rt, given, &wanted, refused)?;
+    match refuse_start(rt, given, &wanted, refused)? {
+        Some(status) => Ok(Begun::Refused(status)),
+        None => Ok(Begun::Match(wanted)),
     }
-    let port = given.get_one::<u16>("port").unwrap_or(PORT);
-    let note = invite(rt, given, secret.as_str(), port, room, refused)?;
-    let wanted = hosted(rt.alloc(), given, secret, port, room)?;
-    let waits = false;
-    Ok(Begun::Match {
-        wanted,
-        note,
-        waits,
-    })
+}
+
+/// The invitation to a match. One through a relay fits below the picture only if its links are short.
+fn invitation_to<R>(
+    rt: &R,
+    given: &ArgMatches<'_>,
+    game: &Game,
+    wanted: &Match,
+) -> io::Result<Invitation>
+where
+    R: Files<File = File> + Net + AllocGlobal,
+{
+    let Some(relay) = &wanted.relay else {
+        let lines = lines_of(rt, given, wanted)?;
+        return Ok(Invitation { lines, fits: true });
+    };
+    let meeting = Meeting {
+        path: word_of(given, "GAME"),
+        game,
+        relay: relay.as_str(),
+        secret: wanted.secret.as_str(),
+        room: wanted.room,
+    };
+    Ok(invitation_over(rt, meeting)?)
+}
+
+/// The own port of a host without a relay.
+fn port_in(given: &ArgMatches<'_>) -> u16 {
+    given.get_one::<u16>("port").unwrap_or(PORT)
 }
 
 /// Draws one of the relays of a list with commas.
@@ -151,32 +190,14 @@ where
     Ok(list.split(',').nth(place).unwrap_or(list))
 }
 
-/// Writes the invitation, and returns the note on the screen.
-fn invite<R, E>(
-    rt: &R,
-    given: &ArgMatches<'_>,
-    secret: &str,
-    port: u16,
-    room: u64,
-    refused: &mut E,
-) -> io::Result<String>
-where
-    R: Files<File = File> + AllocGlobal,
-    E: Write,
-{
-    let lines = lines_of(rt, given, secret, port, room)?;
-    refused.write_all(lines.as_bytes())?;
-    Ok(note(rt.alloc(), lines.as_str())?)
-}
-
-/// The match of a host.
+/// The match of a host, whose journal is not known yet.
 fn hosted(
     alloc: Global,
     given: &ArgMatches<'_>,
     secret: String,
-    port: u16,
     room: u64,
 ) -> Result<Match, AllocError> {
+    let port = port_in(given);
     Ok(Match {
         game: format!(in alloc; "{}", word_of(given, "GAME"))?,
         player: Player::CHAIR,
@@ -184,7 +205,10 @@ fn hosted(
         remote: format!(in alloc; "{NONE}")?,
         relay: None,
         room,
+        is_drawn: false,
+        patience: None,
         secret,
+        journal: String::new(alloc),
     })
 }
 
@@ -196,13 +220,7 @@ fn made<R: Files<File = File> + AllocGlobal>(rt: &R, secret: &str) -> io::Result
 }
 
 /// The lines of the invitation, with the addresses of this machine.
-fn lines_of<R>(
-    rt: &R,
-    given: &ArgMatches<'_>,
-    secret: &str,
-    port: u16,
-    room: u64,
-) -> io::Result<String>
+fn lines_of<R>(rt: &R, given: &ArgMatches<'_>, wanted: &Match) -> io::Result<String>
 where
     R: Files<File = File> + AllocGlobal,
 {
@@ -212,6 +230,19 @@ where
         Err(_) => String::new(rt.alloc()),
     };
     let addresses = own_addresses(rt.alloc(), list.as_str())?;
-    let game = word_of(given, "GAME");
-    Ok(invitation(rt.alloc(), game, secret, &addresses, port, room)?)
+    let Match {
+        secret,
+        journal,
+        room,
+        ..
+    } = wanted;
+    Ok(invitation(
+        rt.alloc(),
+        word_of(given, "GAME"),
+        secret.as_str(),
+        journal.as_str(),
+        &addresses,
+        port_in(given),
+        *room,
+    )?)
 }

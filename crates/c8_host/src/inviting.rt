@@ -1,5 +1,7 @@
 //! The line that a friend types.
 
+use crate::friends::NONE;
+use c8_play::quoted;
 use std::alloc::{AllocError, Global};
 
 /// The first row of the terminal below the picture and its row of text, with a row between.
@@ -11,23 +13,36 @@ const COLUMNS: usize = 64;
 /// How a link begins.
 const LINK: &str = "http://";
 
-/// The lines for the person who hosts: what a friend has to have and to type. `game` and `secret` are paths, `addresses`
-/// those of this machine.
+/// The lines for the person who hosts: what a friend has to have and to type. `game`, `secret` and `journal` are paths,
+/// `addresses` those of this machine. Names are in quotes where a shell needs that.
 pub fn invitation(
     alloc: Global,
     game: &str,
     secret: &str,
+    journal: &str,
     addresses: &[&str],
     port: u16,
     room: u64,
 ) -> Result<String, AllocError> {
-    let (name, file) = (friends_path(game), last_part(secret));
+    let name = quoted(alloc, friends_path(game))?;
+    let file = quoted(alloc, last_part(secret))?;
     let first = addresses.first().copied().unwrap_or("ADDRESS");
     let here = shown(alloc, addresses)?;
     // The line to type is on two rows, so that it fits a terminal of 80 columns.
-    format!(in alloc;
+    let mut lines = format!(in alloc;
         "Your friend needs the same game and the file {secret}, and types:\n  ./c8play join {name} {first}:{port} {room} \\\n    --secret {file}\nThis machine:{here}\nFrom another network: your router's address, UDP port {port} forwarded.\n"
-    )
+    )?;
+    lines.push_str(&kept(alloc, journal)?)?;
+    Ok(lines)
+}
+
+/// The line about the own journal.
+pub(crate) fn kept(alloc: Global, journal: &str) -> Result<String, AllocError> {
+    if journal == NONE {
+        format!(in alloc; "You keep no journal: if this program ends, you cannot come back.\n")
+    } else {
+        format!(in alloc; "Your journal, to come back with: {journal}\n")
+    }
 }
 
 /// The addresses behind one another, or that there is none.

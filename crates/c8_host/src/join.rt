@@ -5,9 +5,12 @@ ghost use Rattle.c8_command.specs.declared.status.Status.TheVariants as statuses
 ghost use Rattle.c8_command.specs.declared.status.Status.{Status};
 ghost use Rattle.c8_host.specs.declared.friends.Begun.TheVariants as begun;
 ghost use Rattle.c8_net.specs.Answers.{EndsMatch};
+ghost use Rattle.c8_play.specs.Answers.{IsSilent, WantsReport, WantsNoReport};
 
+use crate::checks::refuse_start;
 use crate::digits::{digits_in, is_secret};
 use crate::friends::{Begun, Found, Match, game_for, met_at, play, refuse_relay, secret_path};
+use crate::journals::journal_for;
 use c8_command::{Part, Refusal, Site, Status};
 use c8_files::write_secret;
 use c8_front::{System, Terminals, is_explained, word_of};
@@ -19,6 +22,7 @@ use std::fs::File;
 use std::io::{Read, Write};
 use std::net::Net;
 use std::rt::Files;
+use std::time::Clock;
 use std::{fs, io};
 
 /// The refusal of digits that are no secret.
@@ -43,7 +47,10 @@ where
     I: Read + Drop,
     W: Write,
     E: Write,
-    ensures { IfOk result (EndsMatch (W.contents out.old) (W.contents out.new)) }
+    ensures report { WantsReport given.now terminals
+        → IfOk result (EndsMatch (W.contents out.old) (W.contents out.new)) }
+    ensures silent { WantsNoReport given.now terminals
+        → IfOk result (IsSilent EndsMatch (W.contents out.old) (W.contents out.new)) }
 {
     if let Found::Refused(status) = game_for(rt, given, "join", refused)? {
         return Ok(status);
@@ -56,12 +63,13 @@ where
         return Ok(Status::CommandLine);
     };
     match joined(rt, given, input, terminals, refused)? {
-        Begun::Match { wanted, .. } => play(rt, given, wanted, console, out, refused),
+        Begun::Match(wanted) => play(rt, given, terminals, wanted, console, out, refused),
         Begun::Refused(status) => Ok(status),
     }
 }
 
-/// The match that a friend joins. It is refused if the secret is none, or its file fails.
+/// The match that a friend joins. It is refused if the secret is none, if a file of the match fails, or if the own port
+/// cannot be opened.
 fn joined<R, I, E>(
     rt: &R,
     given: &ArgMatches<'_>,
@@ -70,7 +78,7 @@ fn joined<R, I, E>(
     refused: &mut E,
 ) -> io::Result<Begun>
 where
-    R: Files<File = File> + AllocGlobal,
+    R: Files<File = File> + Net + Clock + AllocGlobal,
     I: Read + Drop,
     E: Write,
     ensures { (status : Status) → result ≡ Ok (begun.Refused status) → status ≢ statuses.Done }
@@ -79,17 +87,15 @@ where
     if let Some(status) = ask(rt, given, secret.as_str(), input, terminals, refused)? {
         return Ok(Begun::Refused(status));
     }
-    let wanted = met(rt.alloc(), given, secret)?;
-    let note = String::new(rt.alloc());
-    let waits = false;
-    Ok(Begun::Match {
-        wanted,
-        note,
-        waits,
-    })
+    let mut wanted = met(rt.alloc(), given, secret)?;
+    wanted.journal = journal_for(rt, given, &wanted, refused)?;
+    match refuse_start(rt, given, &wanted, refused)? {
+        Some(status) => Ok(Begun::Refused(status)),
+        None => Ok(Begun::Match(wanted)),
+    }
 }
 
-/// Refuses a ROOM that is no number or not given, and a relay that has no address; `None` if all is well.
+/// Refuses a ROOM that is no number or not given, and a friend or a relay that has no address; `None` if all is well.
 fn refuse_words<R, E>(rt: &R, given: &ArgMatches<'_>, refused: &mut E) -> io::Result<Option<Status>>
 where
     R: Net + AllocGlobal,
@@ -111,7 +117,8 @@ where
         )?;
         return Ok(Some(Status::CommandLine));
     }
-    refuse_relay(rt, given, relay, refused)
+    let there = relay.unwrap_or(word_of(given, "ADDRESS"));
+    refuse_relay(rt, given, Some(there), refused)
 }
 
 /// The number of the match: the word after the address, or with a relay the one after the game.
@@ -126,7 +133,7 @@ fn room_in(given: &ArgMatches<'_>) -> Option<u64> {
     word.parse::<u64>().ok()
 }
 
-/// The match of a friend who joins.
+/// The match of a friend who joins, whose journal is not known yet.
 fn met(alloc: Global, given: &ArgMatches<'_>, secret: String) -> Result<Match, AllocError> {
     let room = room_in(given).unwrap_or(0);
     if let Some(relay) = given.get_str("relay") {
@@ -143,7 +150,10 @@ fn met(alloc: Global, given: &ArgMatches<'_>, secret: String) -> Result<Match, A
         remote: format!(in alloc; "{address}")?,
         relay: None,
         room,
+        is_drawn: false,
+        patience: None,
         secret,
+        journal: String::new(alloc),
     })
 }
 

@@ -8,6 +8,7 @@ use crate::served::{Served, pages_at};
 use c8_command::read_file;
 use c8_files::secret_in;
 use c8_game::Game;
+use c8_play::quoted;
 use c8_program::{is_program, text_of};
 use c8_transport::Secret;
 use std::alloc::{AllocError, Global};
@@ -94,7 +95,8 @@ fn line_for(alloc: Global, meeting: Meeting<'_>, seat: u8) -> Result<String, All
         room,
         ..
     } = meeting;
-    let (name, file) = (friends_path(path), last_part(secret));
+    let name = quoted(alloc, friends_path(path))?;
+    let file = quoted(alloc, last_part(secret))?;
     if seat == 2 {
         format!(in alloc; "  ./c8play join {name} {room} --relay {relay} \\\n    --secret {file}\n")
     } else {

@@ -3,3 +3,4 @@ pub mod TypingLemmas
 pub mod DeskLemmas
 pub mod FrameLemmas
 pub mod LeadLemmas
+pub mod SilentLemmas

@@ -1,7 +1,10 @@
 -- What `play` answers.
-use Rattle.std.specs.Prelude.{◌≡◌, ◌⊎◌, ℕ, List, length, Option}
+use Rattle.std.specs.Prelude.{◌≡◌, ◌⊎◌, ℕ, true, false, List, length, codes, Option, Some, None}
+use Rattle.clap.specs.Matches.{found_of, one_text}
+use Rattle.clap.specs.declared.parser.matches.ArgMatches.{ArgMatches}
 use Rattle.c8_command.specs.declared.status.Status.{Status}
 use Rattle.c8_command.specs.declared.status.Status.TheVariants.{Done}
+use Rattle.c8_front.specs.declared.front.Terminals.{Terminals}
 use Rattle.c8_game.specs.Rules.{Rules}
 use Rattle.c8_game.specs.declared.row.Row.{Row}
 use Rattle.c8_keys.specs.Report.{Reports}
@@ -19,3 +22,21 @@ HasReportedAlone old new =
 -- done only after a game alone, or a match, with its report
 abbrev pub EndsPlay : Option (List ℕ) → Option (List ℕ) → Status → Type 0
 EndsPlay old new status = status ≡ Done → HasReportedAlone old new ⊎ HasReported old new
+
+-- the value of the option `--report`, if the command line has one
+abbrev pub report_in : ArgMatches → Option (List ℕ)
+report_in given = one_text (found_of given) (codes "report")
+
+-- the report is wanted: with `--report`, and where standard output is no terminal
+abbrev pub WantsReport : ArgMatches → Terminals → Type 0
+WantsReport given terminals = (report_in given ≡ Some (codes "true")) ⊎ (terminals.output ≡ false)
+
+-- it is not: standard output is a terminal, and the option is not given
+abbrev pub WantsNoReport : ArgMatches → Terminals → Type 0
+WantsNoReport given terminals =
+    (terminals.output ≡ true) × ((report_in given ≡ None) ⊎ (report_in given ≡ Some (codes "false")))
+
+-- nothing is written; it is done only where it could have written its report
+abbrev pub IsSilent : (Option (List ℕ) → Option (List ℕ) → Status → Type 0) → Option (List ℕ) → Option (List ℕ) → Status → Type 0
+IsSilent Ends old new status =
+    (new ≡ old) × (status ≡ Done → (before : Option (List ℕ)) × (after : Option (List ℕ)) × Ends before after status)

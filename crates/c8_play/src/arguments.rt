@@ -1,8 +1,11 @@
 //! The options of the command `play`, and what they ask for.
 
+ghost use Rattle.std.specs.Prelude.{◌≡◌, true, false};
+ghost use Rattle.c8_play.specs.Answers.{WantsReport, WantsNoReport};
+
 use crate::desk::Tempo;
 use crate::help::PLAY_ENDING;
-use c8_front::{Argument, Form, Outline, word_of};
+use c8_front::{Argument, Form, Outline, Terminals, word_of};
 use c8_game::Player;
 use c8_net::options::{
     CHECKPOINT, GAME, LOCAL, PATIENCE, RELAY, REMOTES, ROOM, SECRET, STOP, WATCH_SECRET, WATCH5,
@@ -33,6 +36,13 @@ pub const HOLD: Argument = Argument {
 pub const MUTE: Argument = Argument {
     name: "mute",
     help: "Rings no bell when a tone begins",
+    ..Argument::FLAG
+};
+
+/// The option `--report`.
+pub const REPORT: Argument = Argument {
+    name: "report",
+    help: "Prints the machine's report at the end also on a terminal",
     ..Argument::FLAG
 };
 
@@ -72,7 +82,7 @@ pub static PLAY: Outline = Outline {
         WATCH_SECRET,
         Argument {
             name: "progress",
-            help: "Says at the end, on standard error, how late frames were, and how the match ended",
+            help: "Says at the end, on standard error, how late frames were, and which packets were dropped",
             ..Argument::FLAG
         },
         Argument::EXPLAIN,
@@ -85,6 +95,7 @@ pub static PLAY: Outline = Outline {
         },
         HOLD,
         MUTE,
+        REPORT,
     ],
 };
 
@@ -102,6 +113,14 @@ pub(crate) fn who_of(given: &ArgMatches<'_>) -> Option<Who> {
         "4" if has_match => Some(Who::Player(Player { number: 4 })),
         _ => None,
     }
+}
+
+/// Whether the report is printed: with `--report`, or where standard output is no terminal.
+pub fn wants_report(given: &ArgMatches<'_>, terminals: Terminals) -> bool
+    ensures wants { WantsReport given.now terminals → result ≡ true }
+    ensures none { WantsNoReport given.now terminals → result ≡ false }
+{
+    given.get_flag("report") || !terminals.output
 }
 
 /// How fast the game goes; the parser has checked the ranges.

@@ -2,28 +2,34 @@
 
 ghost use Rattle.std.specs.Prelude.{◌≡◌, IfOk};
 ghost use Rattle.c8_command.specs.declared.status.Status.TheVariants as statuses;
-ghost use Rattle.c8_play.specs.Answers.{HasReportedAlone, EndsPlay};
+ghost use Rattle.c8_net.specs.Answers.{EndsMatch};
+ghost use Rattle.c8_play.specs.Answers.{HasReportedAlone, EndsPlay, IsSilent, WantsReport, WantsNoReport};
 
+use crate::again::Drawn;
 use crate::alone::play_alone;
-use crate::arguments::{Who, pace_of, who_of};
+use crate::arguments::{Who, pace_of, wants_report, who_of};
 use crate::chime::Chime;
 use crate::desk::{Desk, Tempo};
+use crate::ending::{Ending, tell_ending};
+use crate::key_words::KeyWords;
 use crate::live::{Live, tell_lateness};
 use crate::terminal::Terminal;
-use c8_command::Status;
-use c8_front::{System, is_explained, word_of};
+use c8_command::{Status, read_file};
+use c8_front::{System, Terminals, is_explained, word_of};
+use c8_game::Player;
 use c8_keys::write_report;
 use c8_net::{Asked, asked_for, game_at, number_of, perform_given, refuse};
 use clap::ArgMatches;
 use std::io;
 use std::io::Write;
 
-/// Runs `play` as the command line asks. It draws the screen on the terminal of the process, and writes the report of
-/// the machine at the end to `out`. The line of a refusal goes to `refused`. Without a terminal it refuses the command
-/// line. The error is a writer's.
+/// Runs `play` as the command line asks. It draws the screen on the terminal of the process. At the end it writes the report
+/// of the machine to `out`, if `--report` is given or `out` is no terminal; and to `refused` how it ended. The line of a
+/// refusal goes there too. Without a terminal it refuses the command line. The error is a writer's, or that memory ran out.
 pub fn play_given<R, W, E>(
     rt: &R,
     given: &ArgMatches<'_>,
+    terminals: Terminals,
     out: &mut W,
     refused: &mut E,
 ) -> io::Result<Status>
@@ -31,7 +37,10 @@ where
     R: System,
     W: Write,
     E: Write,
-    ensures { IfOk result (EndsPlay (W.contents out.old) (W.contents out.new)) }
+    ensures report { WantsReport given.now terminals
+        → IfOk result (EndsPlay (W.contents out.old) (W.contents out.new)) }
+    ensures silent { WantsNoReport given.now terminals
+        → IfOk result (IsSilent EndsPlay (W.contents out.old) (W.contents out.new)) }
 {
     let Some(who) = who_of(given) else {
         writeln!(
@@ -44,21 +53,79 @@ where
         writeln!(refused, "error: play wants a terminal")?;
         return Ok(Status::CommandLine);
     };
+    if wants_report(given, terminals) {
+        return play_by(rt, given, who, console, out, refused);
+    }
+    let mut unread = Vec::new(rt.alloc());
+    play_by(rt, given, who, console, &mut unread, refused)
+}
+
+/// Plays alone or with others, and writes the report to `out`.
+fn play_by<R, W, E>(
+    rt: &R,
+    given: &ArgMatches<'_>,
+    who: Who,
+    console: Terminal<'_, R>,
+    out: &mut W,
+    refused: &mut E,
+) -> io::Result<Status>
+where
+    R: System,
+    W: Write,
+    E: Write,
+    ensures { IfOk result (EndsPlay (W.contents out.old) (W.contents out.new)) }
+{
     let pace = pace_of(given);
     match who {
         Who::Alone => alone(rt, given, console, pace, out, refused),
-        Who::Player(player) => {
-            let asked = Asked {
-                is_muted: given.get_flag("mute"),
-                ..asked_for(given, player)
-            };
-            let live = Live { console, pace };
-            perform_given(rt, &asked, live, out, refused)
-        }
+        Who::Player(player) => in_a_match(rt, given, player, console, pace, out, refused),
     }
 }
 
-/// Plays a game alone. The game's file may be refused.
+/// Plays in a match, and says at last how it ended.
+fn in_a_match<R, W, E>(
+    rt: &R,
+    given: &ArgMatches<'_>,
+    player: Player,
+    console: Terminal<'_, R>,
+    pace: Tempo,
+    out: &mut W,
+    refused: &mut E,
+) -> io::Result<Status>
+where
+    R: System,
+    W: Write,
+    E: Write,
+    ensures { IfOk result (EndsMatch (W.contents out.old) (W.contents out.new)) }
+{
+    let asked = Asked {
+        is_muted: given.get_flag("mute"),
+        says_end: false,
+        ..asked_for(given, player)
+    };
+    let mut ending = Ending::NONE;
+    let live = Live {
+        console,
+        pace,
+        keys: keys_at(rt, asked.game, player),
+        ending: &mut ending,
+    };
+    let status = perform_given(rt, &asked, live, out, refused)?;
+    if status == Status::Done {
+        tell_ending(rt.alloc(), refused, &asked, ending, Drawn::NOTHING)?;
+    }
+    Ok(status)
+}
+
+/// The keys of a player, in the words of the game's text; none if that cannot be read.
+pub fn keys_at<R: System>(rt: &R, game: &str, player: Player) -> KeyWords {
+    match read_file(rt, game) {
+        Ok(text) => KeyWords::in_text(&text, player),
+        Err(_) => KeyWords::none(),
+    }
+}
+
+/// Plays a game alone, and says at last how many frames were played. The game's file may be refused.
 fn alone<R, W, E>(
     rt: &R,
     given: &ArgMatches<'_>,
@@ -88,5 +155,11 @@ where
         tell_lateness(refused, &lateness)?;
     }
     write_report(out, &played)?;
+    tell_played(refused, played.frames, game.frames())?;
     Ok(Status::Done)
+}
+
+/// Writes how many frames of a game were played.
+fn tell_played<E: Write>(out: &mut E, played: u32, frames: u32) -> io::Result<()> {
+    writeln!(out, "{played} of {frames} frames played")
 }

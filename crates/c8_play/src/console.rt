@@ -8,6 +8,9 @@ use std::time::Duration;
 /// The most bytes of keys that one read takes.
 pub const KEY_BYTES: usize = 64;
 
+/// The columns of the narrowest terminal.
+pub const NARROWEST: usize = 64;
+
 /// The keyboard or the screen is gone.
 #[derive(Clone, Copy, Debug, PartialEq, Eq)]
 pub struct Gone;
@@ -44,6 +47,11 @@ pub trait Console {
     fn draw(&mut self, text: &[u8]) -> Result<(), Gone>
         ensures typed { typed self.new ≡ typed self.old }
         ensures drawn { IfOk result (λ _. drawn self.new ≡ drawn self.old ++ text.now) };
+
+    /// Returns how many columns the screen has.
+    fn columns(&self) -> usize {
+        NARROWEST
+    }
 
     /// Registers a source: from now on a packet from it ends a rest.
     fn wake_at<S: Source>(&mut self, source: &mut S)

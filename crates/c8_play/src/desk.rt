@@ -20,6 +20,11 @@ use std::time::Duration;
 /// The most reads of keys in one frame, so that a flood of keys cannot stop the game.
 const MOST_READS: u8 = 64;
 
+/// How often a desk looks for keys after the end, and the milliseconds between two looks: two seconds in all.
+const LAST_LOOKS: u8 = 40;
+
+const LOOK: u64 = 50;
+
 /// An escape without a next byte for this many milliseconds is the key itself. Otherwise it may start a sequence that a
 /// read has split.
 const SILENCE: u64 = 25;
@@ -51,6 +56,8 @@ pub struct Desk<C> {
     is_spoilt: bool,
     /// Whether the person has asked by control-D to give another player up.
     gives_up: bool,
+    /// Whether the person has asked by F1 for the own keys.
+    wants_help: bool,
 }
 
 impl<C: Console> Desk<C> {
@@ -69,6 +76,7 @@ impl<C: Console> Desk<C> {
             has_left,
             is_spoilt: false,
             gives_up: false,
+            wants_help: false,
         }
     }
 
@@ -77,6 +85,11 @@ impl<C: Console> Desk<C> {
         ensures { IsSameDesk C.Console self.old self.new }
     {
         self.console.wake_at(source);
+    }
+
+    /// Returns how many columns the screen has.
+    pub fn columns(&self) -> usize {
+        self.console.columns()
     }
 
     /// Returns the time by the console's clock.
@@ -225,6 +238,7 @@ impl<C: Console> Desk<C> {
                 self.is_spoilt = true;
             }
             Signal::GiveUp => self.gives_up = true,
+            Signal::Help => self.wants_help = true,
             _ => {}
         }
         self.held.note(signal);
@@ -249,6 +263,15 @@ impl<C: Console> Desk<C> {
         gives_up
     }
 
+    /// Returns whether the person has asked for the own keys. Then resets this.
+    pub fn take_wants_help(&mut self) -> bool
+        ensures { IsSameDesk C.Console self.old self.new }
+    {
+        let wants_help = self.wants_help;
+        self.wants_help = false;
+        wants_help
+    }
+
     /// Paints a screen, then writes `row`, which must not change the screen's rows.
     pub fn show(&mut self, screen: &Screen, row: &[u8])
         ensures typing { typing C.Console self.new ≡ typing C.Console self.old }
@@ -264,6 +287,19 @@ impl<C: Console> Desk<C> {
 }
 
 impl<C: Console + Drop> Desk<C> {
+    /// Writes a last row, and rests for two seconds, or until the person leaves.
+    pub fn linger(&mut self, row: &[u8]) {
+        let _ = is_written(&mut self.console, row);
+        for _ in 0..LAST_LOOKS {
+            if self.has_left {
+                break;
+            }
+            self.console.sleep(Duration::from_millis(LOOK));
+            let now = self.console.now();
+            self.read(now);
+        }
+    }
+
     /// Restores the console's screen, and returns how late frames were.
     pub fn end(self) -> Lateness {
         let mut desk = self;

@@ -8,18 +8,19 @@ pub const PLAY_ENDING: &str =
   a s d f      7 8 9 E        7 8 9
   z x c v      A 0 B F
 A player has the keys of its mask in the game; a person who plays alone has those of all players.
-Escape and control-C end the game, control-L repaints the screen. A terminal that reports releases of
-keys (one with kitty's keyboard protocol) plays best. On others a stroke counts for --hold frames, and
-a repeat within 45 frames of the key's last stroke for 6 from then on. With --hold 30 a key that is
-held down has no gap if the keyboard begins to repeat it within half a second.
+Escape and control-C end the game, control-L repaints the screen, F1 shows the own keys. A terminal that
+reports releases of keys (one with kitty's keyboard protocol) plays best. On others a stroke counts for
+--hold frames, and a repeat within 45 frames of the key's last stroke for 6 from then on. With --hold 30 a
+key that is held down has no gap if the keyboard begins to repeat it within half a second.
 
 The screen takes 64 columns and 16 rows of the terminal. The row below is updated once a second, and
 at once when the game waits for a player:
   423/421  waits for 2  2: 16 ms  back 3, longest 5
 423 frames are ticked and 421 confirmed. The game waits for player 2, whose last datagram came 16 ms
 ago. In the last second the peer rolled back 3 times, over 5 frames at most. Once a player has been silent
-for three seconds, player 1 may drop it: control-D, and control-D again. When the game ends, the machine
-after the confirmed frames is printed.
+for three seconds, player 1 may drop it: control-D, and control-D again. At the end a line says how the game
+ended; with --report, and where standard output is no terminal, the machine after the confirmed frames is
+printed before it.
 
 Alone, two players, each in a terminal of their own, and player 2 through a relay:
   ./c8play play games/rally.game alone

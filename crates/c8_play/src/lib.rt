@@ -6,26 +6,32 @@
 //! without a network. `arguments` has the options of `play`, and `command` runs it.
 #![tactic(auto)]
 
+mod again;
 mod alone;
 mod arguments;
 mod chime;
 mod command;
 mod console;
 mod desk;
+mod ending;
 mod exchange;
 mod help;
+mod key_words;
 mod lead;
 mod live;
 mod status;
 mod terminal;
 
+pub use again::{Drawn, quoted};
 pub use alone::play_alone;
-pub use arguments::{HOLD, MUTE, PLAY};
+pub use arguments::{HOLD, MUTE, PLAY, REPORT, wants_report};
 pub use chime::Chime;
-pub use command::play_given;
+pub use command::{keys_at, play_given};
 pub use console::{Console, Gone, KEY_BYTES};
 pub use desk::{Desk, Tempo};
+pub use ending::{Cause, Ending, tell_ending};
 pub use exchange::Exchange;
+pub use key_words::{KeyWords, LONGEST_WORDS};
 pub use lead::Lead;
 pub use live::{Live, play_frames};
 pub use status::StatusRow;

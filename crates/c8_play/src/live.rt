@@ -11,8 +11,11 @@ ghost use Rattle.c8_play.specs.Lead.{window_of, patience_of, frames_of};
 use crate::chime::Chime;
 use crate::console::Console;
 use crate::desk::{Desk, Tempo};
+use crate::ending::Ending;
+use crate::key_words::KeyWords;
 use crate::lead::{Lead, hindmost};
-use crate::status::StatusRow;
+use crate::status::{CLEAR, LONGEST_ROW, StatusRow};
+use arrayvec::ArrayVec;
 use c8_disk::Disk;
 use c8_game::{Game, Player};
 use c8_live::laws::{hearings_join, sessions_end};
@@ -36,12 +39,16 @@ const MOST_RESTS: u16 = 1000;
 
 /// Performs a match at a console: each frame makes one turn, which enters the held keys.
 #[derive(Drop)]
-pub struct Live<C> {
+pub struct Live<'e, C> {
     pub console: C,
     pub pace: Tempo,
+    /// The own keys; without words their letters are shown.
+    pub keys: KeyWords,
+    /// Where to note how the match ended.
+    pub ending: &'e mut Ending,
 }
 
-impl<C: Console + Drop> Performance for Live<C> {
+impl<'e, C: Console + Drop> Performance for Live<'e, C> {
     fn perform<'g, R: Net + Clock, D: Disk + Drop, E: Write>(
         self,
         rt: &R,
@@ -55,21 +62,31 @@ impl<C: Console + Drop> Performance for Live<C> {
             Ok(udp) => udp,
             Err(error) => return Err(Unopened::Socket(error)),
         };
-        let Live { console, pace } = self;
+        let Live {
+            console,
+            pace,
+            keys,
+            ending,
+        } = self;
+        let keys = keys.or_letters(game, asked.player);
         let mut desk = Desk::new(console, pace);
         desk.wake_at(&mut udp);
         match line.sealing {
-            None => Ok(play_over(udp, desk, session, game, pace.rate, asked, progress)),
+            None => Ok(play_over(
+                udp, desk, session, game, pace.rate, asked, keys, ending, progress,
+            )),
             Some(sealing) => {
                 let sealed = Sealed::over(udp, sealer_of(sealing.seal, &session));
-                Ok(play_over(sealed, desk, session, game, pace.rate, asked, progress))
+                Ok(play_over(
+                    sealed, desk, session, game, pace.rate, asked, keys, ending, progress,
+                ))
             }
         }
     }
 }
 
-/// Plays a session over a wire at a desk. With `--progress` it writes at the end how late frames were, and how many
-/// packets it rejected.
+/// Plays a session over a wire at a desk, and notes how it ended. With `--progress` it writes at the end how late frames
+/// were, and how many packets it rejected.
 fn play_over<'g, D: Disk, W: Wire + Drop, C: Console + Drop, E: Write>(
     wire: W,
     desk: Desk<C>,
@@ -77,23 +94,33 @@ fn play_over<'g, D: Disk, W: Wire + Drop, C: Console + Drop, E: Write>(
     game: &Game,
     rate: u8,
     asked: &Asked<'_, '_>,
+    keys: KeyWords,
+    ending: &mut Ending,
     progress: &mut E,
 ) -> Ended<'g, D>
     requires { session.peer.rules ≡ game.now }
     ensures { HasEnded D.Disk session.entry.peer result.session.peer result.turns }
 {
     let (mut session, mut wire, mut desk) = (session, wire, desk);
-    let turns = play_frames(&mut session, &mut wire, &mut desk, game, rate, asked);
-    let has_left = desk.has_left();
-    let lateness = desk.end();
-    if asked.says_end && has_left {
-        let _ = writeln!(progress, "you left the match");
+    let turns = play_frames(&mut session, &mut wire, &mut desk, game, rate, asked, keys);
+    *ending = Ending::of(&session, desk.has_left());
+    if ending.is_final() && turns.is_ok() {
+        linger(&mut desk, *ending);
     }
+    let lateness = desk.end();
     if asked.progress {
         let _ = tell_lateness(progress, &lateness);
         let _ = tell_turned_away(progress, wire.losses());
     }
     Ended { session, turns }
+}
+
+/// Shows for two seconds how a match ended, or until the person leaves.
+fn linger<C: Console + Drop>(desk: &mut Desk<C>, ending: Ending) {
+    let mut row = ArrayVec::<u8, LONGEST_ROW>::new();
+    let _ = row.write_all(CLEAR);
+    let _ = ending.write(&mut row);
+    desk.linger(&row);
 }
 
 /// Writes how late frames were.
@@ -127,8 +154,8 @@ fn tell_turned_away<E: Write>(out: &mut E, losses: Losses) -> io::Result<()> {
 
 /// Plays a session of this game at a desk, one turn a frame. It ends when the session is over, its turns are made,
 /// `--stop` frames are confirmed, the person leaves, or three seconds after it showed that the journal was lost. Between
-/// two frames the peer listens. A player that was ahead for a second, `rate` frames, leaves out a tick. Returns how many
-/// turns were made. The error is the disk's or the wire's.
+/// two frames the peer listens. A player that was ahead for a second, `rate` frames, leaves out a tick. The row below the
+/// picture names the own keys by `keys`. Returns how many turns were made. The error is the disk's or the wire's.
 pub fn play_frames<D: Disk, W: Wire, C: Console>(
     session: &mut Session<'_, D>,
     wire: &mut W,
@@ -136,6 +163,7 @@ pub fn play_frames<D: Disk, W: Wire, C: Console>(
     game: &Game,
     rate: u8,
     asked: &Asked<'_, '_>,
+    keys: KeyWords,
 ) -> Result<u64, SessionError>
     requires { session.old.peer.rules ≡ game.now }
     ensures ran { HasRunOn D.Disk session.old.peer session.new.peer }
@@ -152,6 +180,8 @@ pub fn play_frames<D: Disk, W: Wire, C: Console>(
     let mut lead = Lead::new(game.window(), rate);
     let mut status = StatusRow::new(desk.now(), asked.player, session.peer().players());
     status.begin(Chime::new(asked.is_muted));
+    status.widen(desk.columns());
+    status.name_keys(keys);
     let mut made: u64 = 0;
     let mut lost: u16 = 0;
     for turn in 0..asked.turns {
@@ -270,8 +300,8 @@ fn enter<D: Disk, W: Wire, C: Console>(
     }
 }
 
-/// Shows the picture of a frame. At the window's limit the row says that the match waits for the player with the fewest
-/// known inputs, and player 1 may give that player up.
+/// Shows the picture of a frame; after control-L all of it again, with the own keys. At the window's limit the row says
+/// that the match waits for the player with the fewest known inputs, and player 1 may give that player up.
 fn show<D: Disk, C: Console>(
     session: &mut Session<'_, D>,
     desk: &mut Desk<C>,
@@ -287,7 +317,12 @@ fn show<D: Disk, C: Console>(
     }
     if desk.take_spoilt() {
         status.forget();
+        status.remind();
     }
+    if desk.take_wants_help() {
+        status.remind();
+    }
+    status.follow(session.peer());
     consider(session, desk, status, waits);
     sound(session, status);
     let now = desk.now();

@@ -1,43 +1,35 @@
 //! The row of text below the screen: how far a match is.
 
+mod text;
+
 use crate::chime::Chime;
+use crate::console::NARROWEST;
+use crate::key_words::KeyWords;
 use arrayvec::ArrayVec;
 use c8_disk::Disk;
 use c8_game::{MOST_PLAYERS, Player};
-use c8_live::{Counters, Gauge, Reading, Standing, write_relaying};
+use c8_live::{Counters, Gauge, Reading, Standing};
+use c8_peer::Peer;
 use c8_session::Session;
 use c8_transport::{Losses, Relaying};
-use std::io;
 use std::io::Write;
 use std::time::Duration;
 
-/// The most characters of the text in a match of two, so that it fits a terminal of 64 columns; then the most in a
-/// larger match.
-const LONGEST_OF_TWO: usize = 64;
+/// For how many seconds the row shows the own keys.
+const REMINDER: u64 = 10;
 
-const LONGEST: usize = 80;
+/// The most columns of a terminal that the row uses.
+const WIDEST: usize = 200;
 
 /// The most bytes of the row, with those that move the cursor and clear the row.
-pub const LONGEST_ROW: usize = 90;
+pub const LONGEST_ROW: usize = 210;
 
 /// The most bytes that one frame writes for the row: the row, and a bell.
 const LONGEST_WRITTEN: usize = LONGEST_ROW + 1;
 
 /// Moves the cursor to the first column of row 17, below the screen, and clears the row. It comes before the text,
 /// because after a text up to the last column the cursor would still be on that column.
-const CLEAR: &[u8] = b"\x1b[17;1H\x1b[K";
-
-/// After this many seconds of a player's silence the row tells player 1 how to drop that player.
-const LONG: u128 = 3;
-
-/// After this many seconds without a first datagram of a player the row says what may be wrong.
-const NO_ANSWER: u128 = 10;
-
-/// For how many milliseconds the row says that a player is here, after its first datagram.
-const GREETING: u128 = 3000;
-
-/// How many milliseconds a second has.
-const SECOND: u128 = 1000;
+pub(crate) const CLEAR: &[u8] = b"\x1b[17;1H\x1b[K";
 
 /// The numbers of the row.
 #[derive(Clone, Copy, Default)]
@@ -60,10 +52,21 @@ pub struct StatusRow {
     relaying: Relaying,
     /// Whether the journal lacks inputs that the others hold.
     is_lost: bool,
+    /// Which players are dropped, and of which the journal has keys, by place.
+    dropped: [bool; MOST_PLAYERS],
+    known: [bool; MOST_PLAYERS],
+    /// How many columns the terminal has.
+    columns: usize,
     numbers: Numbers,
     /// The player that one more control-D drops.
     asked: Option<Player>,
     chime: Chime,
+    /// The own keys; until when they are shown, once the match has begun; and whether they are now.
+    keys: KeyWords,
+    keys_until: Option<Duration>,
+    shows_keys: bool,
+    /// Whether the person has asked for the keys.
+    is_due: bool,
     /// The bell, if it rings in this frame.
     bell: &'static [u8],
     /// What the terminal shows in the row.
@@ -83,9 +86,16 @@ impl StatusRow {
             unsealed: 0,
             relaying: Relaying::Direct,
             is_lost: false,
+            dropped: [false; MOST_PLAYERS],
+            known: [false; MOST_PLAYERS],
+            columns: NARROWEST,
             numbers: Numbers::default(),
             asked: None,
             chime: Chime::new(true),
+            keys: KeyWords::none(),
+            keys_until: None,
+            shows_keys: true,
+            is_due: false,
             bell: &[],
             shown: ArrayVec::new(),
             written: ArrayVec::new(),
@@ -95,6 +105,21 @@ impl StatusRow {
     /// Rings this chime from now on.
     pub fn begin(&mut self, chime: Chime) {
         self.chime = chime;
+    }
+
+    /// Shows these words of the own keys: until ten seconds after the first frame is confirmed, and after `remind`.
+    pub fn name_keys(&mut self, keys: KeyWords) {
+        self.keys = keys;
+    }
+
+    /// Shows the own keys for ten seconds from the next row on.
+    pub fn remind(&mut self) {
+        self.is_due = true;
+    }
+
+    /// Uses this many columns from now on, at least 64 and at most 200.
+    pub fn widen(&mut self, columns: usize) {
+        self.columns = columns.max(NARROWEST).min(WIDEST);
     }
 
     /// Takes the tone timer of the frame that is shown next.
@@ -122,6 +147,17 @@ impl StatusRow {
         self.counters.note(session, 0);
     }
 
+    /// Notes which players are dropped, and of which the journal has keys.
+    pub fn follow<D: Disk>(&mut self, peer: &Peer<'_, D>) {
+        for number in 1..peer.players() + 1 {
+            if let Some(player) = Player::new(number) {
+                let place = player.place();
+                self.dropped[place] = peer.cut_of(player).is_some();
+                self.known[place] = peer.count(player) > 0;
+            }
+        }
+    }
+
     /// Forgets what the terminal shows in the row.
     pub fn forget(&mut self) {
         self.shown.clear();
@@ -147,20 +183,23 @@ impl StatusRow {
     }
 
     /// Returns the bytes of the row for a peer that is this far. The text is like
-    /// `423/421  waits for 2  2: 16 ms  back 3, longest 5`. Its parts, in this order:
+    /// `423/421  waits for 2  2: 16 ms  back 3, longest 5`. Its parts, the most important first:
     ///
     /// - how many frames are ticked and confirmed;
     /// - `your journal lacks inputs that the others hold`, and then nothing else, if that is so;
     /// - `relay: no answer for 4 s`, `seat 2 is taken` or `relay is full`, while that is so;
     /// - `the machines differ`, while the alarm stands;
     /// - the player for whom the match waits, with whole seconds of its silence, as `waits for 2: 12 s`; this part
-    ///   changes at once, and tells player 1 how to drop the player. If no datagram of that player ever came, it says
-    ///   after ten seconds what may be wrong, or at once that packets come with another secret;
-    /// - how long each other player has been silent, or, for three seconds after a first datagram that
-    ///   was waited for, `2 is here`;
+    ///   changes at once. If no datagram of that player ever came, it says after ten seconds what may be wrong, or at once
+    ///   that packets come with another secret;
+    /// - how player 1 drops that player, if it was here before;
+    /// - the own keys, as `you are player 2: 4 up, r down, f serve`, at first, and for ten seconds after F1 or
+    ///   control-L;
+    /// - how long each other player has been silent; or, for three seconds after a first datagram that was waited for,
+    ///   `2 is here`; or, for good, `2 dropped`;
     /// - how often the peer rolled back in the last second, and the most frames that one rollback simulated again.
     ///
-    /// The text is cut off after 64 characters, or after 80 with more than two players.
+    /// A part that does not fit the columns of the terminal is left out as a whole.
     pub fn row_of(
         &mut self,
         now: Duration,
@@ -179,11 +218,8 @@ impl StatusRow {
         if self.asked != waits {
             self.asked = None;
         }
-        let mut row = ArrayVec::<u8, LONGEST_ROW>::new();
-        let _ = row.write_all(CLEAR);
-        // A full row takes no more.
-        let _ = self.write_text(&mut row, waits);
-        row.truncate(CLEAR.len().saturating_add(self.most()));
+        self.name_keys_at(now, confirmed);
+        let row = self.composed(waits);
         self.written.clear();
         if row.as_slice() != self.shown.as_slice() {
             let _ = self.written.write_all(&row);
@@ -194,78 +230,15 @@ impl StatusRow {
         self.written.as_slice()
     }
 
-    /// Returns how many characters the text has at most.
-    fn most(&self) -> usize {
-        if self.players > 2 {
-            LONGEST
-        } else {
-            LONGEST_OF_TWO
+    /// Decides whether the own keys are shown now.
+    fn name_keys_at(&mut self, now: Duration, confirmed: u32) {
+        if self.is_due || confirmed > 0 && self.keys_until.is_none() {
+            self.keys_until = Some(now.saturating_add(Duration::from_secs(REMINDER)));
+            self.is_due = false;
         }
-    }
-
-    /// Writes the text, the most important part first.
-    fn write_text<E: Write>(&self, out: &mut E, waits: Option<Player>) -> io::Result<()> {
-        let Numbers {
-            ticked,
-            confirmed,
-            last,
-            is_alarmed,
-        } = self.numbers;
-        write!(out, "{ticked}/{confirmed}")?;
-        if self.is_lost {
-            return write!(out, "  your journal lacks inputs that the others hold");
-        }
-        write_relaying(out, "  ", self.relaying, self.me)?;
-        if is_alarmed {
-            write!(out, "  the machines differ")?;
-        }
-        if let Some(player) = waits {
-            self.write_wait(out, player)?;
-        }
-        self.write_silence(out)?;
-        let (rollbacks, longest) = (last.rollbacks, last.longest);
-        write!(out, "  back {rollbacks}, longest {longest}")
-    }
-
-    /// Writes that the match waits for a player, and how player 1 drops it.
-    fn write_wait<E: Write>(&self, out: &mut E, player: Player) -> io::Result<()> {
-        let number = player.number;
-        let seconds = self.numbers.last.silent[player.place()] / SECOND;
-        if !self.gauge.has_heard(player) && self.asked != Some(player) {
-            if self.unsealed > 0 {
-                return write!(out, "  packets come with another secret, game or room");
-            }
-            if seconds >= NO_ANSWER {
-                return write!(
-                    out,
-                    "  no answer for {seconds} s: same game, room and secret?"
-                );
-            }
-        }
-        write!(out, "  waits for {number}")?;
-        if seconds > 0 {
-            write!(out, ": {seconds} s")?;
-        }
-        if self.asked == Some(player) {
-            write!(out, "  control-D again drops {number}")?;
-        } else if self.me.is_chair() && seconds >= LONG {
-            write!(out, "  control-D drops {number}")?;
-        }
-        Ok(())
-    }
-
-    /// Writes how long each other player has been silent.
-    fn write_silence<E: Write>(&self, out: &mut E) -> io::Result<()> {
-        for place in 0..MOST_PLAYERS {
-            let number = place + 1;
-            if number <= usize::from(self.players) && number != usize::from(self.me.number) {
-                let Reading { silent, met, .. } = self.numbers.last;
-                match met[place] {
-                    Some(ago) if ago < GREETING => write!(out, "  {number} is here")?,
-                    _ => write!(out, "  {number}: {} ms", silent[place])?,
-                }
-            }
-        }
-        Ok(())
+        self.shows_keys = match self.keys_until {
+            Some(until) => now < until,
+            None => true,
+        };
     }
 }

@@ -1,6 +1,6 @@
 //! The terminal of the process: the only file here that calls the system.
 
-use crate::console::{Console, Gone, KEY_BYTES};
+use crate::console::{Console, Gone, KEY_BYTES, NARROWEST};
 use crate::exchange::Exchange;
 use c8_front::System;
 use c8_terminal::{ENTER, LEAVE};
@@ -26,6 +26,12 @@ const ASK_NO_MORE: &[u8] = b"\x1b[?7h\x1b[?1004l\x1b[<u";
 /// The most events of one poll; there is one socket.
 const MOST_EVENTS: usize = 4;
 
+/// The environment variable with the number of columns. The script `c8play` sets it to those of the terminal.
+const COLUMNS: &[u8] = b"COLUMNS";
+
+/// The most digits of a number of columns.
+const MOST_DIGITS: usize = 5;
+
 /// The terminal of the process. It does not touch the terminal's settings: the script `c8play` makes the terminal send
 /// keys at once, and restores it however the program ends.
 #[derive(Drop)]
@@ -33,6 +39,7 @@ pub struct Terminal<'r, R> {
     rt: &'r R,
     keys: File,
     screen: File,
+    columns: usize,
     /// What stands below the picture and its row from the start.
     note: &'r [u8],
     poll: Poll,
@@ -60,6 +67,7 @@ where
             rt,
             keys,
             screen,
+            columns: columns(),
             note: &[],
             poll,
             events,
@@ -117,6 +125,10 @@ impl<'r, R: Clock> Console for Terminal<'r, R> {
         Ok(())
     }
 
+    fn columns(&self) -> usize {
+        self.columns
+    }
+
     fn wake_at<S: Source>(&mut self, source: &mut S) {
         // If this fails, the game takes packets when the next frame is due.
         let _ = self
@@ -131,5 +143,15 @@ impl<'r, R: Clock> Console for Terminal<'r, R> {
 
     fn sleep(&mut self, time: Duration) {
         thread::sleep(self.rt, time);
+    }
+}
+
+/// Returns how many columns the terminal has, by its environment variable; those of the narrowest without one.
+fn columns() -> usize {
+    let mut digits = [0; MOST_DIGITS];
+    let size = os::env(COLUMNS, &mut digits);
+    match str::from_utf8(&digits[..size]) {
+        Ok(text) => text.parse::<usize>().unwrap_or(NARROWEST),
+        Err(_) => NARROWEST,
     }
 }

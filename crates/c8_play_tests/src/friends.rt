@@ -56,12 +56,13 @@ fn one_line_of_digits_is_read(rt: HostRuntime) {
     assert!(rt; reads(alloc, b"12ab\nrest", b"12ab", b"rest"));
     assert!(rt; reads(alloc, b"12ab\rrest", b"12ab", b"rest"));
     assert!(rt; reads(alloc, b"12ab", b"12ab", b""));
+    assert!(rt; reads(alloc, b" 12 ab\t\r\nrest", b"12ab", b"\nrest"));
     assert!(rt; reads(alloc, &[b'1'; 90], &[b'1'; 80], &[b'1'; 10]));
 }
 
-fn invites(alloc: Global, game: &str, addresses: &[&str], wanted: &str) -> bool {
+fn invites(alloc: Global, game: &str, journal: &str, addresses: &[&str], wanted: &str) -> bool {
     let secret = "games/rally.game.secret";
-    let Ok(lines) = invitation(alloc, game, secret, addresses, 4002, 77) else {
+    let Ok(lines) = invitation(alloc, game, secret, journal, addresses, 4002, 77) else {
         return false;
     };
     match note(alloc, lines.as_str()) {
@@ -77,26 +78,30 @@ fn the_invitation_has_the_line_to_type(rt: HostRuntime) {
         invites(
             alloc,
             "games/rally.game",
+            "games/rally.game.77.1.journal",
             &["192.168.1.5", "10.0.0.7"],
             "\
 \x1b[19;1H\x1b[KYour friend needs the same game and the file games/rally.game.secret, and types:\
 \x1b[20;1H\x1b[K  ./c8play join games/rally.game 192.168.1.5:4002 77 \\\
 \x1b[21;1H\x1b[K    --secret rally.game.secret\
 \x1b[22;1H\x1b[KThis machine: 192.168.1.5 10.0.0.7\
-\x1b[23;1H\x1b[KFrom another network: your router's address, UDP port 4002 forwarded."
+\x1b[23;1H\x1b[KFrom another network: your router's address, UDP port 4002 forwarded.\
+\x1b[24;1H\x1b[KYour journal, to come back with: games/rally.game.77.1.journal"
         )
     );
     assert!(rt;
         invites(
             alloc,
-            "/home/me/rally.game",
+            "/home/me/my rally.game",
+            "-",
             &[],
             "\
 \x1b[19;1H\x1b[KYour friend needs the same game and the file games/rally.game.secret, and types:\
-\x1b[20;1H\x1b[K  ./c8play join rally.game ADDRESS:4002 77 \\\
+\x1b[20;1H\x1b[K  ./c8play join 'my rally.game' ADDRESS:4002 77 \\\
 \x1b[21;1H\x1b[K    --secret rally.game.secret\
 \x1b[22;1H\x1b[KThis machine: no address found; put it in the place of ADDRESS\
-\x1b[23;1H\x1b[KFrom another network: your router's address, UDP port 4002 forwarded."
+\x1b[23;1H\x1b[KFrom another network: your router's address, UDP port 4002 forwarded.\
+\x1b[24;1H\x1b[KYou keep no journal: if this program ends, you cannot come back."
         )
     );
 }

@@ -2,9 +2,9 @@
 //! `tools/programs`.
 //!
 //! `console` has consoles with scripted keys. `alone` plays a game at one, `waits` and `three` matches whose others are
-//! absent, `pair` a match of two over the loopback. `rows` has the row below the screen, `friends` what `host` and `join`
-//! show and read, `pauses` the sleeps of a peer's threads, `disks` disks that are too slow. `drawing` has the pictures of a
-//! watched match, and `stop` its end after enough frames. `answers`, `refusals`, `arguments` and `readers` have lines of
+//! absent, `pair` a match of two over the loopback. `rows` has the row below the screen, `endings` the words after a match,
+//! `friends` what `host` and `join` show and read, `pauses` the sleeps of a peer's threads, `disks` disks that are too slow.
+//! `drawing` has the pictures of a watched match, and `stop` its end after enough frames. `answers`, `refusals`, `arguments` and `readers` have lines of
 //! refusals. Functions without contracts lend the tables, so that a proof holds for any rows.
 #![tactic(auto)]
 
@@ -20,6 +20,8 @@ mod console;
 mod disks;
 #[cfg(test)]
 mod drawing;
+#[cfg(test)]
+mod endings;
 #[cfg(test)]
 mod friends;
 #[cfg(test)]

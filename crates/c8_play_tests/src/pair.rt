@@ -4,7 +4,7 @@ use crate::console::{Log, Marks, Sent, Written};
 use c8_front::System;
 use c8_game::Player;
 use c8_net::{Asked, perform};
-use c8_play::{Live, Tempo};
+use c8_play::{Ending, KeyWords, Live, Tempo};
 use std::fs;
 use std::net::{Ipv4Addr, SocketAddr, UdpSocket};
 use std::test::Fail;
@@ -68,9 +68,12 @@ where
         explain: false,
     };
     let mut log = Log::new(rt.alloc());
+    let mut ending = Ending::NONE;
     let live = Live {
         console: Written::new(rt, sent, &mut log),
         pace: Tempo { rate: 240, hold: 9 },
+        keys: KeyWords::none(),
+        ending: &mut ending,
     };
     let (mut report, mut refused) = (Vec::new(rt.alloc()), Vec::new(rt.alloc()));
     let _ended = perform(rt, &asked, live, &mut report, &mut refused);

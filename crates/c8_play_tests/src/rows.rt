@@ -1,9 +1,10 @@
 //! The row of text below the screen.
 
-use c8_game::Player;
+use c8_game::{Game, Player};
 use c8_live::Standing;
-use c8_play::{Chime, StatusRow};
+use c8_play::{Chime, KeyWords, StatusRow};
 use c8_transport::{Losses, Relaying};
+use std::alloc::Global;
 use std::time::Duration;
 
 /// The time, the player for whom the match waits, and the text that is then written.
@@ -72,17 +73,31 @@ static OF_TWO: [Look; 5] = [
     Look { millis: 700, confirmed: 40, ticked: 43, rollbacks: 6, longest: 6, heard: [2, 0, 0, 0], is_alarmed: false, waits: None, wanted: b"" },
     Look { millis: 1_216, confirmed: 421, ticked: 423, rollbacks: 7, longest: 2, heard: [2, 0, 0, 0], is_alarmed: false, waits: Some(1), wanted: b"\x1b[17;1H\x1b[K423/421  waits for 1: 1 s  1: 1016 ms  back 3, longest 6" },
     Look { millis: 2_216, confirmed: 479, ticked: 480, rollbacks: 9, longest: 1, heard: [3, 0, 0, 0], is_alarmed: true, waits: None, wanted: b"\x1b[17;1H\x1b[K480/479  the machines differ  1: 0 ms  back 2, longest 1" },
-    // 83 characters; 64 are written
-    Look { millis: 10_000_000_002_216, confirmed: 262_136, ticked: 262_144, rollbacks: 132, longest: 45, heard: [3, 0, 0, 0], is_alarmed: false, waits: Some(1), wanted: b"\x1b[17;1H\x1b[K262144/262136  waits for 1: 10000000000 s  1: 10000000000000 ms " },
+    // 83 characters; the last part does not fit 64 columns
+    Look { millis: 10_000_000_002_216, confirmed: 262_136, ticked: 262_144, rollbacks: 132, longest: 45, heard: [3, 0, 0, 0], is_alarmed: false, waits: Some(1), wanted: b"\x1b[17;1H\x1b[K262144/262136  waits for 1: 10000000000 s  1: 10000000000000 ms" },
 ];
 
-/// Player 3 of four.
+/// Player 3 of four, on 80 columns.
 #[rattlefmt::skip]
 static OF_FOUR: [Look; 3] = [
     Look { millis: 200, confirmed: 18, ticked: 21, rollbacks: 4, longest: 5, heard: [2, 0, 9, 1], is_alarmed: false, waits: None, wanted: b"\x1b[17;1H\x1b[K21/18  1: 0 ms  2: 100 ms  4: 0 ms  back 4, longest 5" },
     Look { millis: 1_300, confirmed: 88, ticked: 99, rollbacks: 15, longest: 7, heard: [2, 0, 9, 2], is_alarmed: false, waits: Some(2), wanted: b"\x1b[17;1H\x1b[K99/88  waits for 2: 1 s  1: 1100 ms  2: 1200 ms  4: 0 ms  back 11, longest 7" },
-    // 109 characters; 80 are written
-    Look { millis: 123_456_989, confirmed: 262_136, ticked: 262_144, rollbacks: 138, longest: 45, heard: [2, 0, 9, 2], is_alarmed: false, waits: Some(2), wanted: b"\x1b[17;1H\x1b[K262144/262136  no answer for 123456 s: same game, room and secret?  1: 123456789" },
+    // 109 characters; what does not fit is left out as a whole
+    Look { millis: 123_456_989, confirmed: 262_136, ticked: 262_144, rollbacks: 138, longest: 45, heard: [2, 0, 9, 2], is_alarmed: false, waits: Some(2), wanted: b"\x1b[17;1H\x1b[K262144/262136  no answer for 123456 s: same game, room and secret?" },
+];
+
+/// The same on 64 columns.
+#[rattlefmt::skip]
+static OF_FOUR_NARROW: [Look; 3] = [
+    Look { millis: 200, confirmed: 18, ticked: 21, rollbacks: 4, longest: 5, heard: [2, 0, 9, 1], is_alarmed: false, waits: None, wanted: b"\x1b[17;1H\x1b[K21/18  1: 0 ms  2: 100 ms  4: 0 ms  back 4, longest 5" },
+    Look { millis: 1_300, confirmed: 88, ticked: 99, rollbacks: 15, longest: 7, heard: [2, 0, 9, 2], is_alarmed: false, waits: Some(2), wanted: b"\x1b[17;1H\x1b[K99/88  waits for 2: 1 s  1: 1100 ms  2: 1200 ms  4: 0 ms" },
+    Look { millis: 123_456_989, confirmed: 262_136, ticked: 262_144, rollbacks: 138, longest: 45, heard: [2, 0, 9, 2], is_alarmed: false, waits: Some(2), wanted: b"\x1b[17;1H\x1b[K262144/262136  no answer for 123456 s  1: 123456789 ms" },
+];
+
+/// On 200.
+#[rattlefmt::skip]
+static OF_FOUR_WIDE: [Look; 1] = [
+    Look { millis: 123_456_989, confirmed: 262_136, ticked: 262_144, rollbacks: 138, longest: 45, heard: [0, 0, 0, 0], is_alarmed: false, waits: Some(2), wanted: b"\x1b[17;1H\x1b[K262144/262136  no answer for 123456 s: same game, room and secret?  1: 123456889 ms  2: 123456889 ms  4: 123456889 ms  back 138, longest 45" },
 ];
 
 /// Whether exactly this is written at a look.
@@ -104,10 +119,12 @@ fn tells(status: &mut StatusRow, look: &Look, wanted: &[u8]) -> bool {
     status.row_of(now, look.confirmed, &standing, waits) == wanted
 }
 
-/// Whether these are the rows of a player of a game with this many players; the row begins at 100 milliseconds.
-fn are_told(number: u8, players: u8, looks: &[Look]) -> bool {
+/// Whether these are the rows of a player of a game with this many players, on this many columns; the row begins at 100
+/// milliseconds.
+fn are_told(number: u8, players: u8, columns: usize, looks: &[Look]) -> bool {
     let me = Player::new(number).unwrap_or(Player::CHAIR);
     let mut status = StatusRow::new(Duration::from_millis(100), me, players);
+    status.widen(columns);
     for look in looks {
         if !tells(&mut status, look, look.wanted) {
             return false;
@@ -117,27 +134,65 @@ fn are_told(number: u8, players: u8, looks: &[Look]) -> bool {
 }
 
 #[test]
-fn a_row_tells_all_and_is_cut(rt: HostRuntime) {
-    assert!(rt; are_told(2, 2, &OF_TWO));
-    assert!(rt; are_told(3, 4, &OF_FOUR));
+fn a_row_tells_all_that_fits(rt: HostRuntime) {
+    assert!(rt; are_told(2, 2, 64, &OF_TWO));
+    assert!(rt; are_told(3, 4, 80, &OF_FOUR));
+    assert!(rt; are_told(3, 4, 64, &OF_FOUR_NARROW));
+    // no narrower than 64
+    assert!(rt; are_told(3, 4, 20, &OF_FOUR_NARROW));
+    assert!(rt; are_told(3, 4, 200, &OF_FOUR_WIDE));
 }
 
-/// A row's text about player 2 after 3.5 seconds of silence: first at player 1, then after player 1 has asked to drop
-/// it.
-const DROPS: &[u8] =
-    b"\x1b[17;1H\x1b[K0/7  waits for 2: 3 s  control-D drops 2  2: 3500 ms  back 0, lo";
+/// What stands about player 2 after it has been silent for three seconds: at player 1, then after player 1 has asked to drop
+/// it, and where it never was here.
+const DROPS: &[u8] = b"\x1b[17;1H\x1b[K0/7  waits for 2: 3 s  control-D drops 2  2: 3500 ms";
 
-const AGAIN: &[u8] =
-    b"\x1b[17;1H\x1b[K0/7  waits for 2: 3 s  control-D again drops 2  2: 3500 ms  back";
+const AGAIN: &[u8] = b"\x1b[17;1H\x1b[K0/7  waits for 2: 3 s  control-D again drops 2  2: 3500 ms";
+
+const NEVER_HERE: &[u8] = b"\x1b[17;1H\x1b[K0/7  waits for 2: 3 s  2: 3500 ms  back 0, longest 0";
+
+/// A peer of which only player 2 was heard, this often.
+fn standing_of(heard: u64) -> Standing {
+    Standing {
+        ticked: 0,
+        rollbacks: 0,
+        longest: 0,
+        heard: [0, heard, 0, 0],
+        is_alarmed: false,
+        lost: 0,
+        foreign: 0,
+        unsealed: 0,
+        repeated: 0,
+        relaying: Relaying::Direct,
+    }
+}
+
+/// Whether player 1 reads this where player 2 was heard this often.
+fn is_told(status: &mut StatusRow, millis: u64, heard: u64, wanted: &[u8]) -> bool {
+    let now = Duration::from_millis(millis);
+    status.row_of(now, 7, &standing_of(heard), Player::new(2)) == wanted
+}
+
+/// Whether no drop is offered of a player that never was here, though control-D asks for one.
+fn offers_no_stranger() -> bool {
+    let two = Player { number: 2 };
+    let mut status = StatusRow::new(Duration::from_secs(0), Player::CHAIR, 2);
+    is_told(&mut status, 3_500, 0, NEVER_HERE)
+        && status.give_up(Some(two)).is_none()
+        && is_told(&mut status, 3_600, 0, AGAIN)
+        && status.give_up(Some(two)) == Some(two)
+}
 
 /// Whether the second control-D in a row drops the player for whom the match waits.
 fn drops_at_the_second() -> bool {
     let two = Player { number: 2 };
     let mut status = StatusRow::new(Duration::from_secs(0), Player::CHAIR, 2);
-    is_row(&mut status, 3_500, Some(2), DROPS)
+    // player 2 was heard at the start, and then no more
+    let _greeted = status.row_of(Duration::from_secs(0), 7, &standing_of(1), None);
+    is_told(&mut status, 3_500, 1, DROPS)
         && status.give_up(None).is_none()
         && status.give_up(Some(two)).is_none()
-        && is_row(&mut status, 3_600, Some(2), AGAIN)
+        && is_told(&mut status, 3_600, 1, AGAIN)
         && status.give_up(Some(two)) == Some(two)
         && status.give_up(Some(two)).is_none()
         // the match goes on meanwhile
@@ -166,6 +221,7 @@ fn only_player_one_drops() -> bool {
 #[test]
 fn control_d_drops_a_player(rt: HostRuntime) {
     assert!(rt; drops_at_the_second());
+    assert!(rt; offers_no_stranger());
     assert!(rt; only_player_one_drops());
 }
 
@@ -173,8 +229,8 @@ fn control_d_drops_a_player(rt: HostRuntime) {
 /// sealed with the match's key, and the text.
 #[rattlefmt::skip]
 static FIRST_WORDS: [(u64, u64, u64, &[u8]); 6] = [
-    (9_999, 0, 0, b"\x1b[17;1H\x1b[K0/0  waits for 2: 9 s  control-D drops 2  2: 9999 ms  back 0, lo"),
-    (12_000, 0, 0, b"\x1b[17;1H\x1b[K0/0  no answer for 12 s: same game, room and secret?  2: 12000 m"),
+    (9_999, 0, 0, b"\x1b[17;1H\x1b[K0/0  waits for 2: 9 s  2: 9999 ms  back 0, longest 0"),
+    (12_000, 0, 0, b"\x1b[17;1H\x1b[K0/0  no answer for 12 s: same game, room and secret?"),
     (13_000, 0, 1, b"\x1b[17;1H\x1b[K0/0  packets come with another secret, game or room  2: 13000 ms"),
     (14_000, 1, 1, b"\x1b[17;1H\x1b[K0/0  waits for 2  2 is here  back 0, longest 0"),
     (16_999, 2, 1, b"\x1b[17;1H\x1b[K0/0  waits for 2  2 is here  back 0, longest 0"),
@@ -190,18 +246,7 @@ fn are_first_words() -> bool {
             unsealed: *unsealed,
             ..Losses::default()
         });
-        let standing = Standing {
-            ticked: 0,
-            rollbacks: 0,
-            longest: 0,
-            heard: [0, *heard, 0, 0],
-            is_alarmed: false,
-            lost: 0,
-            foreign: 0,
-            unsealed: 0,
-            repeated: 0,
-            relaying: Relaying::Direct,
-        };
+        let standing = standing_of(*heard);
         let row = status.row_of(Duration::from_millis(*millis), 0, &standing, Player::new(2));
         if row != if *wanted == last { &[] } else { *wanted } {
             return false;
@@ -214,6 +259,90 @@ fn are_first_words() -> bool {
 #[test]
 fn a_first_wait_says_what_may_be_wrong(rt: HostRuntime) {
     assert!(rt; are_first_words());
+}
+
+/// A game text with the keys of its players.
+const TEXT: &[u8] =
+    b"# Two paddles.\n# keys 1: 1 up, q down, a serve\r\n# keys 2: 4 up, r down, f serve\n# keys 3: \x1b[2J\nplayers 2\n";
+
+/// Whether these are the words of a player in a text.
+fn are_words(text: &[u8], number: u8, wanted: &[u8]) -> bool {
+    let player = Player::new(number).unwrap_or(Player::CHAIR);
+    KeyWords::in_text(text, player).bytes() == wanted
+}
+
+/// Words of 48 bytes, and of 49.
+const LONGEST: &[u8] = b"# keys 1: 123456789 123456789 123456789 123456789 12345678";
+
+const TOO_LONG: &[u8] = b"# keys 1: 123456789 123456789 123456789 123456789 123456789";
+
+/// Keys that a game has only in its masks.
+const PLAIN: &[u8] =
+    b"players 2\nipf 10\nframes 60\ndelay 0\nwindow 8\nseed 0\nmask1 0000\nmask2 7001\ncode 1200\n";
+
+/// Whether a player's words without a comment are the letters of its mask, and a comment goes before.
+fn are_letters(alloc: Global) -> bool {
+    let Ok(game) = Game::read(alloc, PLAIN) else {
+        return false;
+    };
+    let (one, two) = (Player::CHAIR, Player { number: 2 });
+    let letters = KeyWords::none().or_letters(&game, two);
+    let words = KeyWords::in_text(TEXT, two).or_letters(&game, two);
+    let nothing = KeyWords::none().or_letters(&game, one);
+    letters.bytes() == b"keys x 4 r f".as_slice()
+        && words.bytes() == b"4 up, r down, f serve".as_slice()
+        && nothing.bytes().is_empty()
+}
+
+#[test]
+fn a_game_names_the_keys(rt: HostRuntime) {
+    assert!(rt; are_words(TEXT, 1, b"1 up, q down, a serve"));
+    assert!(rt; are_words(TEXT, 2, b"4 up, r down, f serve"));
+    // no bytes that a terminal would obey
+    assert!(rt; are_words(TEXT, 3, b"") && are_words(TEXT, 4, b""));
+    assert!(rt; are_words(LONGEST, 1, &LONGEST[10..]));
+    assert!(rt; are_words(TOO_LONG, 1, b""));
+    assert!(rt; are_letters(rt.alloc()));
+}
+
+/// The time, how many frames are confirmed, whether the person has asked for the keys, and whether they are shown.
+type Shown = (u64, u32, bool, bool);
+
+/// The keys stand there until ten seconds after the first confirmed frame, and for ten seconds after the person asks.
+#[rattlefmt::skip]
+static SHOWN: [Shown; 7] = [
+    (0, 0, false, true),
+    (30_000, 0, false, true),
+    (31_000, 1, false, true),
+    (40_999, 600, false, true),
+    (41_000, 600, false, false),
+    (50_000, 600, true, true),
+    (60_000, 600, false, false),
+];
+
+/// Whether the row has the keys when it should.
+fn shows_keys() -> bool {
+    let two = Player { number: 2 };
+    let mut status = StatusRow::new(Duration::from_secs(0), two, 2);
+    status.name_keys(KeyWords::in_text(TEXT, two));
+    for (millis, confirmed, is_asked, wanted) in &SHOWN {
+        let now = Duration::from_millis(*millis);
+        if *is_asked {
+            status.remind();
+        }
+        status.forget();
+        let row = status.row(now, *confirmed, None);
+        let text = b"  you are player 2: 4 up, r down, f serve  1: ";
+        if row.windows(text.len()).any(|part| part == text.as_slice()) != *wanted {
+            return false;
+        }
+    }
+    true
+}
+
+#[test]
+fn the_row_names_the_own_keys(rt: HostRuntime) {
+    assert!(rt; shows_keys());
 }
 
 /// Whether the bell rings where a tone begins, behind a row or alone, and not if it is muted.

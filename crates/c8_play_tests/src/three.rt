@@ -7,7 +7,7 @@ use crate::waits::asked_for;
 use c8_disk::MemDisk;
 use c8_game::{Game, Keys, Player};
 use c8_peer::{Kind, Peer};
-use c8_play::{Desk, Tempo, play_frames};
+use c8_play::{Desk, KeyWords, Tempo, play_frames};
 use c8_session::Session;
 use c8_transport::{Traffic, Wire, WireFailed};
 use c8_wire::{LONGEST_DATAGRAM, Seat};
@@ -112,7 +112,8 @@ fn ends_with(alloc: Global, number: u8, row: &[u8]) -> bool {
     };
     let mut desk = Desk::new(Written::new(&clock, &[], &mut log), pace);
     let asked = asked_for(12, None, None);
-    let made = play_frames(&mut session, &mut way, &mut desk, &game, RATE, &asked);
+    let keys = KeyWords::none();
+    let made = play_frames(&mut session, &mut way, &mut desk, &game, RATE, &asked, keys);
     let _lateness = desk.end();
     made == Ok(12) && log.drawn.ends_with(row)
 }

@@ -9,7 +9,7 @@ use c8_disk::MemDisk;
 use c8_game::{Game, Player};
 use c8_net::Asked;
 use c8_peer::Peer;
-use c8_play::{Desk, Tempo, play_frames};
+use c8_play::{Desk, KeyWords, Tempo, play_frames};
 use c8_session::Session;
 use c8_transport::{Wire, WireFailed};
 use c8_wire::Seat;
@@ -145,7 +145,8 @@ fn played(
     console.longest_rest = longest_rest;
     let mut desk = Desk::new(console, pace);
     let asked = asked_for(row.turns, row.stop, row.patience);
-    let made = play_frames(&mut session, &mut wire, &mut desk, game, RATE, &asked);
+    let keys = KeyWords::none();
+    let made = play_frames(&mut session, &mut wire, &mut desk, game, RATE, &asked, keys);
     let _lateness = desk.end();
     match made {
         Ok(made) => Some((made, session.peer().now(), wire.asked)),
@@ -218,6 +219,34 @@ static ENDS: [Row; 7] = [
 
 fn ends() -> &'static [Row] {
     &ENDS
+}
+
+/// Player 1 drops player 2 in turn 3, and plays on.
+static DROPS: Row = Row {
+    typed: Typed::Nothing,
+    turns: 20,
+    stop: None,
+    patience: Some(3),
+    made: 20,
+    ticked: 20,
+};
+
+/// The row below the picture after that.
+const DROPPED: &[u8] = b"\x1b[17;1H\x1b[K1/0  2 dropped  back 0, longest 0";
+
+/// Whether the row says from the drop on that player 2 is dropped.
+fn tells_of_the_drop(alloc: Global) -> bool {
+    let Ok(game) = Game::read(alloc, DRAWS) else {
+        return false;
+    };
+    let mut log = Log::new(alloc);
+    let made = played(alloc, &game, DROPS, Duration::MAX, &mut log);
+    made.is_some() && log.drawn.ends_with(DROPPED)
+}
+
+#[test]
+fn the_row_says_who_is_dropped(rt: HostRuntime) {
+    assert!(rt; tells_of_the_drop(rt.alloc()));
 }
 
 /// Whether a match ends as a row says.

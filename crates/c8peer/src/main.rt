@@ -4,7 +4,7 @@
 
 use c8_command::Status;
 use c8_front::{Terminals, Threaded, Unhurried, line_of, status_at, tell, words_in};
-use c8_match::{match_commands, match_given};
+use c8_host::{match_commands, match_given};
 use std::env::Args;
 use std::io::{IsTerminal, Read, Write};
 use std::process::ExitCode;

@@ -6,9 +6,9 @@ use c8_command::Status;
 use c8_front::{
     RUN, SHOW, Terminals, Threaded, is_explained, status_at, tell, with_commands, word_of, words_in,
 };
+use c8_host::{match_commands, match_given};
 use c8_journals::{JOURNAL, journal_given};
 use c8_keys::run_files;
-use c8_match::{match_commands, match_given};
 use c8_relay_web::{RELAY_COMMAND, relay_given};
 use c8_replay::{REPLAY, replay_given};
 use c8_script::{RIG, SIM, rig_given, sim_given};
@@ -114,7 +114,7 @@ where
     }
 }
 
-/// Does what a command asks for that is not in the table of c8_match.
+/// Does what a command asks for that is not in the table of c8_host.
 fn carry_out_alone<R, W: Write, E: Write + Send>(
     rt: &R,
     name: &str,

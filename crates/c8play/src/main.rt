@@ -1,6 +1,6 @@
 //! c8play: two to four people play CHIP-8 programs together over UDP.
 //!
-//! `commands` has the whole command line: the table of c8_match, and `run`, `relay`, `replay`, `audit`, `journal`, `sim`, `rig` and `show`. A
+//! `commands` has the whole command line: the table of c8_host, and `run`, `relay`, `replay`, `audit`, `journal`, `sim`, `rig` and `show`. A
 //! command and its options are in the crate that runs it, but the options of `run` and `show` in c8_front.
 #![tactic(auto)]
 

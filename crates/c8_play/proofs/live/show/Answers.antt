@@ -9,7 +9,9 @@ use Rattle.c8_play.proofs.live.show.Goals as goal
 
 pub returns-clause-seen : goal.returns-clause-seen
 returns-clause-seen g c =
-    let first = same_chain g.C.Console c.args.desk.now c.take_spoilt.new.self c.consider.new.desk c.take_spoilt.ensures c.consider.ensures.desk in
+    let help = same_chain g.C.Console c.args.desk.now c.take_spoilt.new.self c.take_wants_help.new.self c.take_spoilt.ensures
+    c.take_wants_help.ensures in
+    let first = same_chain g.C.Console c.args.desk.now c.take_wants_help.new.self c.consider.new.desk help c.consider.ensures.desk in
     let same = same_chain g.C.Console c.args.desk.now c.consider.new.desk c.now-now.new.self first c.now-now.ensures in
     let points : points_of c.screen.result.now ≡ points_shown c.args.session.now.peer =
     c.screen.ensures ∙ ap (λ (m : State). m.screen) c.shown.ensures.value ∙ ap points_shown (c.peer-peer.ensures ∙ c.consider.ensures.peer) in

@@ -1,11 +1,12 @@
 //! The commands that the programs c8peer and c8play have in common, as one table: `peer`, `play`, `host`, `join`, `watch`,
 //! `secret` and `game`.
-#![tactic(auto)]
 
+use crate::arguments::{HOST, JOIN};
+use crate::host::host_given;
+use crate::join::join_given;
 use c8_command::Status;
 use c8_files::{SECRET, secret_given};
 use c8_front::{Outline, Terminals, Threaded};
-use c8_host::{HOST, JOIN, host_given, join_given};
 use c8_net::{PEER, peer_given};
 use c8_play::{PLAY, play_given};
 use c8_program::{GAME, game_given};
@@ -36,8 +37,8 @@ where
 {
     let ended = match name {
         "peer" => peer_given(rt, given, input, terminals, out, refused),
-        "play" => play_given(rt, given, out, refused),
-        "host" => host_given(rt, given, out, refused),
+        "play" => play_given(rt, given, terminals, out, refused),
+        "host" => host_given(rt, given, terminals, out, refused),
         "join" => join_given(rt, given, input, terminals, out, refused),
         "watch" => watch_given(rt, given, terminals, out, refused),
         "secret" => secret_given(rt, out, refused),

@@ -1,0 +1,189 @@
+//! The text of the row, in parts.
+
+use crate::status::{CLEAR, LONGEST_ROW, Numbers, StatusRow};
+use arrayvec::ArrayVec;
+use c8_game::Player;
+use c8_live::{Reading, write_relaying};
+use std::io;
+use std::io::Write;
+
+/// After this many seconds of a player's silence the row tells player 1 how to drop that player.
+const LONG: u128 = 3;
+
+/// After this many seconds without a first datagram of a player the row says what may be wrong.
+const NO_ANSWER: u128 = 10;
+
+/// For how many milliseconds the row says that a player is here, after its first datagram.
+const GREETING: u128 = 3000;
+
+/// How many milliseconds a second has.
+const SECOND: u128 = 1000;
+
+/// A part of the row.
+#[derive(Clone, Copy)]
+enum Part {
+    /// How many frames are ticked and confirmed.
+    Count,
+    /// The journal lacks inputs that the others hold.
+    Lost,
+    /// The relay does not carry.
+    Relay,
+    /// The machines differ.
+    Alarm,
+    /// For whom the match waits.
+    Wait,
+    /// Why that may be in vain.
+    Why,
+    /// How that player is dropped.
+    Offer,
+    /// The own keys.
+    Keys,
+    /// How long the player with this number has been silent.
+    Silence(u8),
+    Rollbacks,
+}
+
+/// All parts, the most important first. They stand in this order.
+const PARTS: [Part; 13] = [
+    Part::Count,
+    Part::Lost,
+    Part::Relay,
+    Part::Alarm,
+    Part::Wait,
+    Part::Why,
+    Part::Offer,
+    Part::Keys,
+    Part::Silence(1),
+    Part::Silence(2),
+    Part::Silence(3),
+    Part::Silence(4),
+    Part::Rollbacks,
+];
+
+impl StatusRow {
+    /// Returns the row: each part that fits beside the more important ones, as a whole.
+    pub(crate) fn composed(&self, waits: Option<Player>) -> ArrayVec<u8, LONGEST_ROW> {
+        let mut row = ArrayVec::new();
+        let _ = row.write_all(CLEAR);
+        let most = CLEAR.len().saturating_add(self.columns);
+        for part in PARTS {
+            let before = row.len();
+            if self.write_part(&mut row, part, waits).is_err() || row.len() > most {
+                row.truncate(before);
+            }
+        }
+        row
+    }
+
+    /// Writes a part, if there is anything to say.
+    fn write_part<E: Write>(
+        &self,
+        out: &mut E,
+        part: Part,
+        waits: Option<Player>,
+    ) -> io::Result<()> {
+        match (part, waits) {
+            (Part::Count, _) => {
+                let Numbers {
+                    ticked,
+                    confirmed,
+                    ..
+                } = self.numbers;
+                write!(out, "{ticked}/{confirmed}")
+            }
+            (Part::Lost, _) if self.is_lost => {
+                write!(out, "  your journal lacks inputs that the others hold")
+            }
+            _ if self.is_lost => Ok(()),
+            (Part::Relay, _) => write_relaying(out, "  ", self.relaying, self.me),
+            (Part::Alarm, _) if self.numbers.is_alarmed => write!(out, "  the machines differ"),
+            (Part::Wait, Some(player)) => self.write_wait(out, player),
+            (Part::Why, Some(player)) if self.is_unanswered(player) => {
+                write!(out, ": same game, room and secret?")
+            }
+            (Part::Offer, Some(player)) => self.write_offer(out, player),
+            (Part::Keys, _) if self.shows_keys => self.write_keys(out),
+            (Part::Silence(number), _) => self.write_silence(out, number),
+            (Part::Rollbacks, _) => {
+                let Reading {
+                    rollbacks,
+                    longest,
+                    ..
+                } = self.numbers.last;
+                write!(out, "  back {rollbacks}, longest {longest}")
+            }
+            _ => Ok(()),
+        }
+    }
+
+    /// For how many whole seconds a player has been silent.
+    fn seconds(&self, player: Player) -> u128 {
+        self.numbers.last.silent[player.place()] / SECOND
+    }
+
+    /// Whether no datagram of a player ever came, and that player is not about to be dropped.
+    fn is_unheard(&self, player: Player) -> bool {
+        !self.gauge.has_heard(player) && self.asked != Some(player)
+    }
+
+    /// Whether no datagram of a player came for long, with any secret.
+    fn is_unanswered(&self, player: Player) -> bool {
+        self.is_unheard(player) && self.unsealed == 0 && self.seconds(player) >= NO_ANSWER
+    }
+
+    /// Writes that the match waits for a player, or that the player does not answer.
+    fn write_wait<E: Write>(&self, out: &mut E, player: Player) -> io::Result<()> {
+        let number = player.number;
+        let seconds = self.seconds(player);
+        if self.is_unheard(player) && self.unsealed > 0 {
+            return write!(out, "  packets come with another secret, game or room");
+        }
+        if self.is_unanswered(player) {
+            return write!(out, "  no answer for {seconds} s");
+        }
+        write!(out, "  waits for {number}")?;
+        if seconds > 0 {
+            write!(out, ": {seconds} s")?;
+        }
+        Ok(())
+    }
+
+    /// Writes how player 1 drops a player that was here before.
+    fn write_offer<E: Write>(&self, out: &mut E, player: Player) -> io::Result<()> {
+        let number = player.number;
+        let was_here = self.gauge.has_heard(player) || self.known[player.place()];
+        if self.asked == Some(player) {
+            write!(out, "  control-D again drops {number}")
+        } else if self.me.is_chair() && was_here && self.seconds(player) >= LONG {
+            write!(out, "  control-D drops {number}")
+        } else {
+            Ok(())
+        }
+    }
+
+    /// Writes the own keys, if any are known.
+    fn write_keys<E: Write>(&self, out: &mut E) -> io::Result<()> {
+        let keys = self.keys.bytes();
+        if keys.is_empty() {
+            return Ok(());
+        }
+        write!(out, "  you are player {}: ", self.me.number)?;
+        out.write_all(keys)
+    }
+
+    /// Writes how long another player has been silent, or that it is dropped.
+    fn write_silence<E: Write>(&self, out: &mut E, number: u8) -> io::Result<()> {
+        let other = Player::new(number).filter(|player| *player != self.me);
+        let Some(player) = other.filter(|player| player.number <= self.players) else {
+            return Ok(());
+        };
+        let (place, last) = (player.place(), &self.numbers.last);
+        if self.dropped[place] {
+            return write!(out, "  {number} dropped");
+        }
+        match last.met[place] {
+            Some(ago) if ago < GREETING => write!(out, "  {number} is here"),
+            _ => write!(out, "  {number}: {} ms", last.silent[place]),
+        }
+    }
+}

@@ -1,0 +1,138 @@
+//! How a match ended, in words.
+
+use c8_game::Player;
+use c8_net::Asked;
+use c8_play::{Cause, Drawn, Ending, quoted, tell_ending};
+use std::alloc::Global;
+
+/// What ended a match after how many of 36,000 frames, and the words.
+type Row = (Cause, u32, &'static str);
+
+static ROWS: [Row; 5] = [
+    (Cause::Unbegun, 0, ""),
+    (
+        Cause::Over,
+        36_000,
+        "the match is over: all 36000 frames are confirmed",
+    ),
+    (
+        Cause::Dropped,
+        665,
+        "player 1 dropped you after 665 of 36000 frames",
+    ),
+    (
+        Cause::Left,
+        665,
+        "you left the match after 665 of 36000 frames",
+    ),
+    (Cause::Stopped, 5, "5 of 36000 frames are confirmed"),
+];
+
+fn rows() -> &'static [Row] {
+    &ROWS
+}
+
+fn ending(cause: Cause, confirmed: u32) -> Ending {
+    Ending {
+        cause,
+        confirmed,
+        frames: 36_000,
+    }
+}
+
+/// Whether an ending has these words.
+fn is_told(alloc: Global, row: Row) -> bool {
+    let (cause, confirmed, wanted) = row;
+    let mut told = Vec::new(alloc);
+    ending(cause, confirmed).write(&mut told).is_ok() && told.as_slice() == wanted.as_bytes()
+}
+
+#[test]
+fn an_ending_has_its_words(rt: HostRuntime) {
+    for row in rows() {
+        assert!(rt; is_told(rt.alloc(), *row));
+    }
+}
+
+/// Whether a word is quoted so.
+fn is_quoted(alloc: Global, word: &str, wanted: &str) -> bool {
+    quoted(alloc, word).is_ok_and(|text| text.as_str() == wanted)
+}
+
+#[test]
+fn a_word_is_quoted_where_a_shell_needs_it(rt: HostRuntime) {
+    let alloc = rt.alloc();
+    assert!(rt; is_quoted(alloc, "games/rally.game", "games/rally.game"));
+    assert!(rt; is_quoted(alloc, "--room=7", "--room=7"));
+    assert!(rt; is_quoted(alloc, "[::]:4001", "'[::]:4001'"));
+    assert!(rt; is_quoted(alloc, "my game's.game", "'my game'\\''s.game'"));
+    assert!(rt; is_quoted(alloc, "", "''"));
+}
+
+/// A match of host or of play, with this journal.
+fn asked_with(journal: &'static str) -> Asked<'static, 'static> {
+    Asked {
+        game: "my rally.game",
+        player: Player::CHAIR,
+        journal,
+        local: "",
+        remotes: None,
+        relay: None,
+        watchers: [None, None],
+        secret: None,
+        watch_secret: None,
+        room: 77,
+        has_room: true,
+        turns: 0,
+        patience: None,
+        stop: None,
+        checkpoint: 0,
+        progress: false,
+        says_end: false,
+        is_muted: true,
+        explain: false,
+    }
+}
+
+/// Whether this is said after a match.
+fn tells(alloc: Global, journal: &'static str, ending: Ending, wanted: (&str, &str)) -> bool {
+    let (begin, end) = wanted;
+    let mut told = Vec::new(alloc);
+    let drawn = Drawn {
+        room: Some(77),
+        word: None,
+    };
+    tell_ending(alloc, &mut told, &asked_with(journal), ending, drawn).is_ok()
+        && told.starts_with(begin.as_bytes())
+        && told.ends_with(end.as_bytes())
+}
+
+/// The lines after a match that ended early and can go on, and after one that cannot. The words of the process stand between.
+#[test]
+fn who_may_come_back_is_told_how(rt: HostRuntime) {
+    let alloc = rt.alloc();
+    let again = "to see it again: ./c8play replay 'my rally.game' one.journal --screen\n";
+    let left =
+        "to see it again: ./c8play replay 'my rally.game' one.journal --screen\nyou left the match after 5 of 36000 frames; to go on:\n  ./c8play";
+    assert!(rt;
+        tells(
+            alloc,
+            "one.journal",
+            ending(Cause::Left, 5),
+            (left, " --room 77\n")
+        )
+    );
+    let over = "the match is over: all 36000 frames are confirmed\n";
+    assert!(rt;
+        tells(
+            alloc,
+            "one.journal",
+            ending(Cause::Over, 36_000),
+            (again, over)
+        )
+    );
+    assert!(rt; tells(alloc, "-", ending(Cause::Over, 36_000), (over, over)));
+    let gone =
+        "you left the match after 5 of 36000 frames; you cannot come back, since you kept no journal\n";
+    assert!(rt; tells(alloc, "-", ending(Cause::Left, 5), (gone, gone)));
+}
