@@ -28,3 +28,5 @@ pub mod ImageLemmas
 -- The status of `audit` is that of its outcome, and it is done only after three lines of yes; begin at `OutcomeLemmas`.
 pub mod OutcomeLemmas
 pub mod PrintLemmas
+-- What JSON has no text for is not in the objects.
+pub mod JsonLemmas

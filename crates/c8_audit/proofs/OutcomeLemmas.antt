@@ -1,5 +1,6 @@
 -- The status of an outcome.
-use Rattle.std.proofs.Common.{◌≡◌, ◌⊎◌, inl, inr, List, ℕ, Option, Some, None, Result, Ok, Err, IfOk, refl, sym, ap, subst, ◌∙◌, ◌++◌, codes}
+use Rattle.std.proofs.Common.{◌≡◌, ◌⊎◌, inl, inr, List, [], ◌∷◌, ℕ, Option, Some, None, Result, Ok, Err, IfOk, refl, sym, ap, subst, ◌∙◌, ◌++◌, codes}
+use Rattle.std.proofs.Common.{Bool, true, false}
 use Rattle.c8_command.specs.Status.{status_of, status_of_outcome}
 use Rattle.c8_command.specs.declared.status.Status.{Status}
 use Rattle.c8_game.specs.GameFaults.{IsRefused}
@@ -26,7 +27,8 @@ use Rattle.c8_audit.specs.declared.journal.Journal.{Journal}
 use Rattle.c8_audit.specs.declared.verdict.Verdicts.{Verdicts}
 use Rattle.c8_audit.specs.Audit.{first_no, fault_in, IsJudged, AreJudged, IsWithout, AreRefused, IsUnjudged, HasAudited}
 use Rattle.c8_audit.specs.Errors.{audit_part}
-use Rattle.c8_audit.specs.Printed.{entered_text, checks_text, agree_text, yes_text, sentence_text, sentence_of, Tells, TellsYes}
+use Rattle.c8_audit.specs.Printed.{entered_text, checks_text, agree_text, yes_text, concluded, words_of, sentence_of, Tells, TellsYes}
+use Rattle.c8_audit.specs.PrintedJson.{TellsAs, TellsYesAs}
 use Rattle.c8_command.specs.declared.status.Status.TheVariants as statuses
 use Rattle.std.specs.Io.KnownBytes.{Appends}
 use Rattle.c8_audit.specs.declared.error.AuditFault.TheVariants as faults
@@ -37,12 +39,12 @@ use Rattle.c8_audit.specs.declared.error.AuditFault.TheVariants.{Game}
 abbrev pub TellsJudged : Rules → AllSeen → Status → Type 0
 TellsJudged rules all status = (outcome : Result Verdicts AuditFault) × IsJudged rules all outcome × (status ≡ status_of_outcome audit_part outcome)
 
-pub judged_by : (rules : Rules) (given shown : List (Option Journal)) (verdicts : Verdicts) (fault : Option AuditFault)
-    (old new : Option (List ℕ)) → shown ≡ given → AreVerdicts rules (all_seen shown) verdicts
-    → fault ≡ fault_in verdicts → Tells old new verdicts
-    → (found : Verdicts) × AreVerdicts rules (all_seen given) found × (fault ≡ fault_in found) × Tells old new found
-judged_by rules given shown verdicts fault old new same are is tells =
-    (verdicts, subst (λ (journals : List (Option Journal)). AreVerdicts rules (all_seen journals) verdicts) same are, is, tells)
+-- `Says`: what was printed says of the verdicts
+pub judged_by : (Says : Verdicts → Type 0) (rules : Rules) (given shown : List (Option Journal)) (verdicts : Verdicts)
+    (fault : Option AuditFault) → shown ≡ given → AreVerdicts rules (all_seen shown) verdicts → fault ≡ fault_in verdicts → Says verdicts
+    → (found : Verdicts) × AreVerdicts rules (all_seen given) found × (fault ≡ fault_in found) × Says found
+judged_by Says rules given shown verdicts fault same are is says =
+    (verdicts, subst (λ (journals : List (Option Journal)). AreVerdicts rules (all_seen journals) verdicts) same are, is, says)
 
 pub told_no : {E : Type 0} (rules : Rules) (all : AllSeen) (told : Result Status E) (fault : AuditFault) (verdicts : Verdicts)
     → AreVerdicts rules all verdicts → Some fault ≡ fault_in verdicts
@@ -138,7 +140,7 @@ yes_lines (Short short) (Some player) agree count check is = absurd cc
 yes_lines (No fault) untrue agree count check is = absurd cc
 
 yes_sentence : (entered : Answer) (untrue : Option Player) (agree : Answer) → first_no entered untrue agree ≡ None
-    → sentence_text entered untrue agree ≡ codes "the journals agree\n"
+    → words_of (concluded entered untrue agree) ++ (10 ∷ []) ≡ codes "the journals agree\n"
 yes_sentence Yes None Yes is = refl
 yes_sentence Yes None (Short short) is = absurd cc
 yes_sentence Yes None (No fault) is = absurd cc
@@ -159,3 +161,8 @@ tells_yes old new verdicts none (before, check, after, appends) =
       subst (λ (last : List ℕ). Appends old new (before ++ (yes_text verdicts.count ++ (after ++ last)))) sentence
           (subst (λ (text : List ℕ). Appends old new (before ++ (text ++ (after ++ sentence_of verdicts)))) same appends),
     )
+
+pub tells_yes_as : (json : Bool) (old new : Option (List ℕ)) (verdicts : Verdicts) → fault_in verdicts ≡ None → TellsAs json old new verdicts
+    → TellsYesAs json old new
+tells_yes_as false old new verdicts none tells = tells_yes old new verdicts none tells
+tells_yes_as true old new verdicts none tells = (verdicts, are_yes verdicts none, tells)

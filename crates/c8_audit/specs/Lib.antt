@@ -14,4 +14,5 @@ pub mod Errors
 pub mod Journal
 pub mod Audit
 pub mod Printed
+pub mod PrintedJson
 pub mod checked

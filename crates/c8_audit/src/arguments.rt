@@ -3,6 +3,9 @@
 use crate::help::AUDIT_ENDING;
 use c8_front::{Argument, Form, Outline};
 
+/// The name of the option for JSON.
+pub(crate) const JSON: &str = "json";
+
 /// The most journals: one of each of four players.
 const MOST: usize = 4;
 
@@ -22,6 +25,11 @@ pub static AUDIT: Outline = Outline {
             help: "The paths of the journals, one to four, player 1's among them; they are only read",
             form: Form::Words(1, MOST),
             ..Argument::NEEDED
+        },
+        Argument {
+            name: JSON,
+            help: "Prints one line of JSON instead: an object with the lines as its fields",
+            ..Argument::FLAG
         },
         Argument::EXPLAIN,
     ],

@@ -1,6 +1,6 @@
 //! `c8play audit`: judges the journals of a match.
 
-ghost use Rattle.std.specs.Prelude.{◌≡◌, ◌⊎◌, Some, IfOk, IfErr, Result};
+ghost use Rattle.std.specs.Prelude.{◌≡◌, ◌⊎◌, Bool, Some, IfOk, IfErr, Result};
 ghost use Rattle.c8_audit.specs.Gathered.{AreGathered};
 ghost use Rattle.c8_audit.specs.Images.{evidence_of};
 ghost use Rattle.c8_audit.specs.Journals.{Seen, AreOfGame, Stays};
@@ -10,15 +10,18 @@ ghost use Rattle.c8_audit.specs.declared.verdict.Verdicts.{Verdicts};
 ghost use Rattle.c8_command.specs.Status.{status_of, status_of_outcome};
 ghost use Rattle.c8_command.specs.declared.status.Status.TheVariants as statuses;
 ghost use Rattle.c8_program.specs.Errors.{game_fault};
-ghost use Rattle.c8_audit.specs.Audit.{IsJudged, AreRefused, HasAudited, IsFaultOf, IsWithout};
+ghost use Rattle.c8_audit.specs.Audit.{fault_in, IsJudged, AreRefused, HasAudited, IsFaultOf, IsWithout};
+ghost use Rattle.c8_audit.specs.Judged.{AreVerdicts};
 ghost use Rattle.c8_audit.specs.Errors.{audit_part};
-ghost use Rattle.c8_audit.specs.Printed.{TellsYes};
+ghost use Rattle.c8_audit.specs.PrintedJson.{TellsAs, TellsYesAs, IsJsonAsked};
 ghost use Rattle.c8_audit.specs.declared.error.AuditFault.{AuditFault};
 ghost use Rattle.c8_audit.specs.declared.error.AuditFault.TheVariants as faults;
 
+use crate::arguments::JSON;
 use crate::error::{AuditFault, GatherError, JournalError, Mismatch, Unread, Unreadable};
 use crate::files::{Gathered, Twice, gather};
 use crate::image::{read_again, read_image};
+use crate::json::{write_json, write_refused};
 use crate::laws;
 use crate::report::write_audit;
 use c8_command::{Site, Status, Text, TextError, read_file};
@@ -34,6 +37,15 @@ use std::rt::Files;
 
 /// How often the journals are read once more, if some lose records while they are read.
 const MOST_TRIES: usize = 3;
+
+/// How the command answers.
+#[derive(Clone, Copy)]
+struct Asked {
+    /// One object of JSON on standard output, and no lines.
+    json: bool,
+    /// A second line at a refusal.
+    explain: bool,
+}
 
 /// Why journals are not judged.
 #[derive(Clone, Copy)]
@@ -52,43 +64,71 @@ pub fn audit_given<R: Files + AllocGlobal, W: Write, E: Write>(
     refused: &mut E,
 ) -> io::Result<Status>
     ensures audited { IfOk result HasAudited }
-    ensures printed { IfOk result (λ status. status ≡ statuses.Done
-        → TellsYes (W.contents out.old) (W.contents out.new)) }
+    ensures printed { IfOk result (λ status. (json : Bool) × IsJsonAsked given.now json
+        × (status ≡ statuses.Done → TellsYesAs json (W.contents out.old) (W.contents out.new))) }
 {
-    let path = word_of(given, "GAME");
-    let files = given.get_strs("JOURNAL").unwrap_or(&[]);
-    let explain = is_explained(given);
+    let (path, files) = (
+        word_of(given, "GAME"),
+        given.get_strs("JOURNAL").unwrap_or(&[]),
+    );
+    let asked = asked_of(given);
+    audit_files(rt, path, files, asked, out, refused)
+}
+
+/// Returns how the command line asks for the answer.
+fn asked_of(given: &ArgMatches<'_>) -> Asked
+    ensures { IsJsonAsked given.now result.json }
+{
+    Asked {
+        json: given.get_flag(JSON),
+        explain: is_explained(given),
+    }
+}
+
+/// Reads the game's file at `path` and the journals, and prints what their audit says.
+fn audit_files<R: Files + AllocGlobal, W: Write, E: Write>(
+    rt: &R,
+    path: &str,
+    files: &[&str],
+    asked: Asked,
+    out: &mut W,
+    refused: &mut E,
+) -> io::Result<Status>
+    ensures audited { IfOk result HasAudited }
+    ensures printed { IfOk result (λ status. status ≡ statuses.Done
+        → TellsYesAs asked.json (W.contents out.old) (W.contents out.new)) }
+{
+    let alloc = rt.alloc();
     let bytes = match read_file(rt, path) {
         Ok(bytes) => bytes,
-        Err(error) => {
-            return text_fault(error).tell_at(explain.then_some(Site::File(path)), refused);
-        }
+        Err(error) => return refuse_file(alloc, path, text_fault(error), asked, out, refused),
     };
     let mut readings = match read_files(rt, files) {
         Ok(readings) => readings,
-        Err(unjudged) => return refuse(files, unjudged, explain, refused),
+        Err(unjudged) => return refuse(alloc, files, unjudged, asked, out, refused),
     };
-    let text = match text_of(rt.alloc(), is_program(path), bytes) {
+    let text = match text_of(alloc, is_program(path), bytes) {
         Ok(text) => text,
-        Err(why) => return refuse_program(path, why, explain, refused),
+        Err(why) => return refuse_program(alloc, path, why, asked, out, refused),
     };
-    let game = match Game::read(rt.alloc(), &text) {
+    let game = match Game::read(alloc, &text) {
         Ok(game) => game,
-        Err(error) => return refuse_game(rt.alloc(), path, &text, error, explain, refused),
+        Err(error) => return refuse_game(alloc, path, &text, error, asked, out, refused),
     };
     laws::a_yes_of_files_means_agreement();
     match gather_files(rt, &game, files, &mut readings) {
-        Ok(gathered) => judge_all(&game, &gathered, files, explain, out, refused),
-        Err(unjudged) => refuse(files, unjudged, explain, refused),
+        Ok(gathered) => judge_all(alloc, &game, &gathered, files, asked, out, refused),
+        Err(unjudged) => refuse(alloc, files, unjudged, asked, out, refused),
     }
 }
 
 /// Prints what the audit of journals says.
 fn judge_all<W: Write, E: Write>(
+    alloc: Global,
     game: &Game,
     gathered: &Gathered,
     files: &[&str],
-    explain: bool,
+    asked: Asked,
     out: &mut W,
     refused: &mut E,
 ) -> io::Result<Status>
@@ -98,11 +138,34 @@ fn judge_all<W: Write, E: Write>(
         × IsJudged game.now (all_seen gathered.now.journals) outcome
         × (status ≡ status_of_outcome audit_part outcome)) }
     ensures printed { IfOk result (λ status. status ≡ statuses.Done
-        → TellsYes (W.contents out.old) (W.contents out.new)) }
+        → TellsYesAs asked.json (W.contents out.old) (W.contents out.new)) }
 {
-    match write_audit(game, gathered, files, out)? {
-        Some(fault) => fault.tell_at(explain.then_some(Site::Nowhere), refused),
+    match write_as(alloc, game, gathered, files, asked.json, out)? {
+        Some(fault) => fault.tell_at(asked.explain.then_some(Site::Nowhere), refused),
         None => Ok(Status::Done),
+    }
+}
+
+/// Judges the journals, and prints the lines, or with `json` the object. Returns the first verdict that is no; if none is,
+/// whether one is short.
+fn write_as<W: Write>(
+    alloc: Global,
+    game: &Game,
+    gathered: &Gathered,
+    files: &[&str],
+    json: bool,
+    out: &mut W,
+) -> io::Result<Option<AuditFault>>
+    requires of_game { AreOfGame game.now (all_seen gathered.now.journals) }
+    requires one { (one : Seen) × Stays (all_seen gathered.now.journals) 1 one }
+    ensures { IfOk result (λ fault. (verdicts : Verdicts)
+        × AreVerdicts game.now (all_seen gathered.now.journals) verdicts
+        × (fault ≡ fault_in verdicts)
+        × TellsAs json (W.contents out.old) (W.contents out.new) verdicts) }
+{
+    match json {
+        true => write_json(alloc, game, gathered, files, out),
+        false => write_audit(game, gathered, files, out),
     }
 }
 
@@ -229,48 +292,87 @@ fn image_fault(error: TextError) -> AuditFault
     }
 }
 
+/// Writes the object of a refusal, if JSON is asked for.
+fn tell_json<W: Write>(
+    alloc: Global,
+    fault: AuditFault,
+    asked: Asked,
+    out: &mut W,
+) -> io::Result<()> {
+    match asked.json {
+        true => write_refused(alloc, fault, out),
+        false => Ok(()),
+    }
+}
+
+/// Writes why the file of the game is not read.
+fn refuse_file<W: Write, E: Write>(
+    alloc: Global,
+    file: &str,
+    fault: AuditFault,
+    asked: Asked,
+    out: &mut W,
+    refused: &mut E,
+) -> io::Result<Status>
+    ensures { IfOk result (λ status. status ≡ status_of (audit_part fault)) }
+{
+    tell_json(alloc, fault, asked, out)?;
+    fault.tell_at(asked.explain.then_some(Site::File(file)), refused)
+}
+
 /// Writes why a game's text is refused.
-fn refuse_game<'t, E: Write>(
+fn refuse_game<'t, W: Write, E: Write>(
     alloc: Global,
     file: &'t str,
     bytes: &'t [u8],
     error: GameError,
-    explain: bool,
+    asked: Asked,
+    out: &mut W,
     refused: &mut E,
 ) -> io::Result<Status>
     ensures { IfOk result (λ status. status ≡ status_of (audit_part (faults.Game error))) }
 {
+    let fault = AuditFault::Game(error);
+    tell_json(alloc, fault, asked, out)?;
     if is_binary(bytes) {
-        let site = explain.then_some(Site::File(file));
-        return AuditFault::Game(error).tell_why(site, &NO_TEXT, refused);
+        let site = asked.explain.then_some(Site::File(file));
+        return fault.tell_why(site, &NO_TEXT, refused);
     }
-    let site = explain.then_some(game_site(alloc, Text { file, bytes }, error));
-    AuditFault::Game(error).tell_at(site, refused)
+    let site = asked
+        .explain
+        .then_some(game_site(alloc, Text { file, bytes }, error));
+    fault.tell_at(site, refused)
 }
 
 /// Writes why a program makes no game.
-fn refuse_program<E: Write>(
+fn refuse_program<W: Write, E: Write>(
+    alloc: Global,
     file: &str,
     why: ProgramError,
-    explain: bool,
+    asked: Asked,
+    out: &mut W,
     refused: &mut E,
 ) -> io::Result<Status>
     ensures { IfOk result (λ status. status ≡ status_of (audit_part (faults.Game (game_fault why)))) }
 {
-    let site = explain.then_some(Site::File(file));
-    AuditFault::Game(GameError::from(why)).tell_why(site, &why, refused)
+    let fault = AuditFault::Game(GameError::from(why));
+    tell_json(alloc, fault, asked, out)?;
+    fault.tell_why(asked.explain.then_some(Site::File(file)), &why, refused)
 }
 
 /// Writes why journals are not judged.
-fn refuse<E: Write>(
+fn refuse<W: Write, E: Write>(
+    alloc: Global,
     files: &[&str],
     unjudged: Unjudged,
-    explain: bool,
+    asked: Asked,
+    out: &mut W,
     refused: &mut E,
 ) -> io::Result<Status>
     ensures { IfOk result (λ status. status ≡ status_of (audit_part unjudged.fault)) }
 {
-    let site = explain.then_some(site_of(files, unjudged));
+    tell_json(alloc, unjudged.fault, asked, out)?;
+    let site = asked.explain.then_some(site_of(files, unjudged));
     unjudged.fault.tell_of(files, site, refused)
 }
 

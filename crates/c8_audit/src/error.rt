@@ -7,6 +7,7 @@ ghost use Rattle.c8_command.specs.Status.{status_of};
 use crate::journal::Named;
 use c8_command::{Part, Refusal, Site, Status};
 use c8_game::GameError;
+use std::alloc::{AllocError, Global};
 use std::fmt::Display;
 use std::io::Write;
 use std::{fmt, io};
@@ -152,6 +153,12 @@ impl AuditFault {
             AuditFault::Disk(_) => return Refusal::DISK,
         };
         Refusal { part, number, name }
+    }
+
+    /// Returns the words of the refusal's line, as `audit 3 Disagree`.
+    pub(crate) fn words(self, alloc: Global) -> Result<String, AllocError> {
+        let Refusal { part, number, name } = self.refusal();
+        format!(in alloc; "{} {number} {name}", part.name())
     }
 
     /// Writes the line of the refusal, and a second line with the sentence of the error if there is a site. Returns the

@@ -28,6 +28,10 @@ What it prints:
                     with the same line have found the same match
   the journals agree, or a sentence that says what does not
 
+With --json standard output is one object on one line, with the fields players, unchecked, empty, dropped,
+entered, checks, agree, result and sentence, or after a refusal that judges nothing the field refused, as
+'open 3 BadRecord'. docs/FORMATS.md lists what they have. Standard error and the exit status are the same.
+
 Refusals, each one line on standard error, as 'refused: audit 3 Disagree':
   game 1 Line to 6 Memory: those of the command run
   open 1 WrongGame  a journal is of another game

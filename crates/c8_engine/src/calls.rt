@@ -1,5 +1,6 @@
 //! The calls of a session's peer, and its turn.
 ghost use Rattle.std.specs.Prelude.{◌≡◌, ◌≤◌, None};
+ghost use Rattle.c8_embed.specs.Engine.{HasSpoken};
 ghost use Rattle.c8_engine.specs.Codes.{closed_code, nobody_code};
 ghost use Rattle.c8_engine.specs.Calls.{IfOpen, IfSession, HasTicked, HasHeard, HasLeft, HasDecided, HasSaved, HasMadeTurn};
 
@@ -101,7 +102,7 @@ pub extern "C" fn c8_turn(handle: &mut Handle) -> u32
 pub extern "C" fn c8_watched(handle: &mut Handle, watcher: u8) -> u32
     ensures closed { handle.old.value ≡ None → (result ≡ closed_code) × (handle.new ≡ handle.old) }
     ensures watched { 5 ≤ watcher → watcher ≤ 6
-        → IfOpen handle.old.value handle.new.value (λ e f. (f ≡ e) × (result ≡ 0)) }
+        → IfOpen handle.old.value handle.new.value (λ e f. HasSpoken e f × (result ≡ 0)) }
     ensures nobody { (5 ≤ watcher → watcher ≤ 6 → ⊥) → (handle.old.value ≡ None → ⊥)
         → (result ≡ nobody_code) × (handle.new ≡ handle.old) }
 {
@@ -121,7 +122,7 @@ pub extern "C" fn c8_check(handle: &mut Handle, depth: u32) -> u32
     ensures closed { handle.old.value ≡ None → (result ≡ closed_code) × (handle.new ≡ handle.old) }
     ensures checked { IfOpen handle.old.value handle.new.value (λ e f.
         (result ≡ 0) × (f.peer ≡ e.peer) × (f.steps ≡ e.steps) × (f.depth ≡ depth) × (f.news ≡ e.news)
-        × (f.lead ≡ e.lead)) }
+        × (f.lead ≡ e.lead) × (f.left ≡ e.left)) }
 {
     if !handle.is_open() {
         return closed_code();

@@ -61,7 +61,7 @@ or_empty None = 0
 -- A row: an input for each of four players. A player that is not in the game counts as one without
 -- inputs.
 abbrev pub row_of : (PlayerValue → ℕ) → KnownValue → Row
-row_of input k = record { sets = map (λ q. record { 0 = input (player_in k q) }) (1 ∷ 2 ∷ 3 ∷ 4 ∷ []) }
+row_of input k = record { inputs = map (λ q. input (player_in k q)) (1 ∷ 2 ∷ 3 ∷ 4 ∷ []) }
 
 -- the settled inputs of a frame, and the empty set for a player without one
 abbrev pub row : KnownValue → ℕ → Row

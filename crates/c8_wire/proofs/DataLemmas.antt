@@ -12,7 +12,8 @@ use Rattle.c8_wire.specs.Packet.{AreBytes, HeadValue, DataMessage, IsDataMessage
 use Rattle.c8_wire.specs.Spelling.{header_bytes, inputs_bytes, run_bytes, body_bytes}
 use Rattle.c8_wire.specs.Reading.{number_at, version_at, size_at, data_at}
 use Rattle.c8_wire.specs.Refusal.{applies}
-use Rattle.c8_wire.specs.checked.NumberLaws.{AreBytes-drop, AreBytes-take, spelled_at}
+use Rattle.c8_pairs.specs.checked.ByteLaws.{AreBytes-drop, AreBytes-take}
+use Rattle.c8_wire.specs.checked.NumberLaws.{spelled_at}
 use Rattle.c8_wire.proofs.HeadLemmas.{then, version_again, HasHead, seated, front_accepted}
 use Rattle.c8_wire.proofs.RunLemmas.{IsRunAt, run_shaped, run_here, spelled_run, HasRun, run_again, counted, paired}
 use Rattle.c8_wire.proofs.TableLemmas.{IsAccepted}

@@ -1,7 +1,7 @@
 -- The first no decides the status, and without one the lines of the three yes were written.
 use Rattle.std.proofs.Common.{sym, ◌∙◌, refl, Ok}
 use Rattle.c8_audit.specs.Read.{all_seen}
-use Rattle.c8_audit.proofs.OutcomeLemmas.{told_no, never_done, tells_yes}
+use Rattle.c8_audit.proofs.OutcomeLemmas.{told_no, never_done, tells_yes_as}
 use Rattle.c8_audit.proofs.command.judge_all.Goals as goal
 
 pub returns-in-Some-clause-judged : goal.returns-in-Some-clause-judged
@@ -21,4 +21,6 @@ returns-in-Some-clause-printed g c = never_done _ c.tell_at.result c.in-Some.fau
 pub returns-in-None-clause-printed : goal.returns-in-None-clause-printed
 returns-in-None-clause-printed g c =
     let told = c.in_ok-fault.ensures in
-    λ done. tells_yes (g.W.Write.contents c.args.out.now) (g.W.Write.contents c.write_audit.new.out) told.0 (sym told.2 ∙ c.in-None.is) told.3
+    λ done.
+    tells_yes_as c.args.asked.json (g.W.Write.contents c.args.out.now) (g.W.Write.contents c.write_as.new.out) told.0
+    (sym told.2 ∙ c.in-None.is) told.3
