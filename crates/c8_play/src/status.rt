@@ -52,7 +52,7 @@ pub struct StatusRow {
     relaying: Relaying,
     /// Whether the journal lacks inputs that the others hold.
     is_lost: bool,
-    /// Which players are dropped, and of which the journal has keys, by place.
+    /// By place: whether each player is dropped, and whether the journal has its keys.
     dropped: [bool; MOST_PLAYERS],
     known: [bool; MOST_PLAYERS],
     /// How many columns the terminal has.
@@ -147,7 +147,7 @@ impl StatusRow {
         self.counters.note(session, 0);
     }
 
-    /// Notes which players are dropped, and of which the journal has keys.
+    /// Notes for each player whether it is dropped, and whether the journal has its keys.
     pub fn follow<D: Disk>(&mut self, peer: &Peer<'_, D>) {
         for number in 1..peer.players() + 1 {
             if let Some(player) = Player::new(number) {

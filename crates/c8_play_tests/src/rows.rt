@@ -151,7 +151,7 @@ const AGAIN: &[u8] = b"\x1b[17;1H\x1b[K0/7  waits for 2: 3 s  control-D again dr
 
 const NEVER_HERE: &[u8] = b"\x1b[17;1H\x1b[K0/7  waits for 2: 3 s  2: 3500 ms  back 0, longest 0";
 
-/// A peer of which only player 2 was heard, this often.
+/// A peer that heard player 2 alone, this often.
 fn standing_of(heard: u64) -> Standing {
     Standing {
         ticked: 0,

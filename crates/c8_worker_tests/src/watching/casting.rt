@@ -138,7 +138,7 @@ fn gone_on(
     Ok(given(&mut cast, alloc, rows, end))
 }
 
-/// The rows of the match, of which one may be another.
+/// The rows of the match; one of them may differ.
 fn rows_of(alloc: Global, count: u32, other: Option<u32>) -> Result<Vec<Row>, Fail> {
     let mut rows = Vec::new(alloc);
     for frame in 0..count {
