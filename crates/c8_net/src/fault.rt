@@ -4,7 +4,6 @@ ghost use Rattle.std.specs.Prelude.{◌≡◌, IfErr};
 ghost use Rattle.c8_net.specs.Answers.{IsUnbegun};
 
 use crate::error::PeerError;
-use crate::no_address::{NoAddress, Place};
 use crate::reached::Unreached;
 use c8_command::{Site, Text, TextError, read_file};
 use c8_disk::{DiskError, FileError};
@@ -13,7 +12,7 @@ use c8_game::{Game, GameError};
 use c8_keys::{KeysError, game_site, key_sets_site};
 use c8_peer::OpenError;
 use c8_program::{NO_TEXT, ProgramError, is_binary, is_program, usual_game};
-use c8_udp::SocketError;
+use c8_udp::{NoAddress, SocketError, Wanted};
 use std::alloc::Global;
 use std::fmt::Display;
 use std::fs::File;
@@ -166,8 +165,8 @@ impl<'a> Fault<'a> {
     pub(crate) fn detail(&self, no_address: Option<&str>) -> Option<Why> {
         match (self.why, self.error, no_address) {
             (None, PeerError::Socket(SocketError::Address), Some(word)) => {
-                let place = Place::Host { is_found: false };
-                Some(Why::Address(NoAddress::of(word, place)))
+                let wanted = Wanted::Host { is_found: false };
+                Some(Why::Address(NoAddress::of(word, wanted)))
             }
             (why, _, _) => why,
         }

@@ -2,10 +2,10 @@
 //!
 //! Shared are the [`options`], the refusals ([`PeerError`], [`Fault`]), and the socket with its seal ([`Line`], `seals`;
 //! c8_udp is the transport, and in a match with a secret `Sealed` lies over it). `mistake` finds words that do not fit
-//! together before any file is touched, `reached` the hosts that words name, `no_address` why a word is no address. `command`
-//! opens the files, and `play` the journal. `peer` plays in threads ([`play_on`]): `stage` has the workers of c8_live, paced by
-//! `pace`, and a viewer; `quiet` says who was never heard. `play`, `host` and `join` play in the caller's thread:
-//! [`perform_on`] hands the session to a [`Performance`].
+//! together before any file is touched, `reached` the hosts that words name. `command` opens the files, and `play` the
+//! journal. `peer` plays in threads ([`play_on`]): `stage` has the workers of c8_live, paced by `pace`, and a viewer;
+//! `quiet` says who was never heard. `play`, `host` and `join` play in the caller's thread: [`perform_on`] hands the
+//! session to a [`Performance`].
 #![tactic(auto)]
 
 mod arguments;
@@ -16,7 +16,6 @@ mod help;
 mod key_list;
 mod line;
 mod mistake;
-mod no_address;
 mod pace;
 mod performance;
 mod play;

@@ -1,7 +1,6 @@
 //! The addresses that a command line names, once the system has found the hosts that it names.
 
-use crate::no_address::{LEARNT, NoAddress, Place};
-use c8_udp::{MOST_WATCHERS, address_at, refused_address};
+use c8_udp::{LEARNT, MOST_WATCHERS, NoAddress, Wanted, address_at, refused_address};
 use std::alloc::{AllocError, Global};
 use std::net::{Net, SocketAddr};
 
@@ -191,12 +190,12 @@ impl<'a> Unreached<'a> {
 
     /// A word that is refused where only a number is taken.
     fn number(word: &'a str) -> Self {
-        Unreached::new(word, NoAddress::of(word, Place::Number))
+        Unreached::new(word, NoAddress::of(word, Wanted::Number))
     }
 
     /// A word that is refused where a name is taken too, and whether the system finds a host of this name.
     fn host(word: &'a str, is_found: bool) -> Self {
-        Unreached::new(word, NoAddress::of(word, Place::Host { is_found }))
+        Unreached::new(word, NoAddress::of(word, Wanted::Host { is_found }))
     }
 }
 

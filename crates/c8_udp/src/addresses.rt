@@ -8,6 +8,7 @@ ghost use Rattle.c8_udp.specs.Words.{IsRemote, IsNoRemote, IsNoAddress, AreNoAdd
 
 use crate::contacts::Contact;
 use crate::error::SocketError;
+use crate::no_address::LEARNT;
 use c8_game::{MOST_PLAYERS, Player};
 use std::net::SocketAddr;
 
@@ -16,9 +17,6 @@ pub const MOST_WATCHERS: usize = 2;
 
 /// The most players and watchers of a match.
 pub(crate) const MOST_SEATS: usize = MOST_PLAYERS + MOST_WATCHERS;
-
-/// The word in an address's place that stands for none: the address is learnt.
-const NO_ADDRESS: &str = "-";
 
 /// How a player or watcher is reached.
 #[derive(Clone, Copy, Debug, PartialEq, Eq)]
@@ -174,7 +172,7 @@ fn remote_of(word: &str, local: SocketAddr, may_learn: bool) -> Result<Remote, S
     ensures { MatchResult result (IsRemote may_learn local word.now)
         (λ error. (error ≡ SocketError.Address) × IsNoRemote may_learn local word.now) }
 {
-    if may_learn && word == NO_ADDRESS {
+    if may_learn && word == LEARNT {
         return Ok(Remote::Learnt);
     }
     let found = address(word)?;

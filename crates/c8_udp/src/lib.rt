@@ -5,7 +5,7 @@
 //! returns all packets, and learns addresses that are not named: that of the packet with the greatest counter (`contacts`,
 //! [`laws`]). A [`PolledUdp`] can also wait for a packet, until a [`Bell`] rings. A [`Socket`] is what a [`Udp`] needs of
 //! the system; a test can supply its own. That of a match is a [`Route`]: straight to the others, or through a relay, as a
-//! [`Membership`] asks. [`address_at`] finds the addresses of hosts by their names.
+//! [`Membership`] asks. [`address_at`] finds the addresses of hosts by their names, and [`NoAddress`] says why a word is none.
 #![tactic(auto)]
 
 mod addresses;
@@ -15,6 +15,7 @@ pub mod laws;
 mod letter;
 mod membership;
 mod names;
+mod no_address;
 mod polled;
 mod route;
 mod socket;
@@ -25,6 +26,7 @@ pub use error::{SocketError, SocketFault};
 pub use letter::Letter;
 pub use membership::Membership;
 pub use names::address_at;
+pub use no_address::{LEARNT, NoAddress, Wanted};
 pub use polled::{Bell, PolledUdp};
 pub use route::Route;
 pub use socket::{Socket, SystemSocket};

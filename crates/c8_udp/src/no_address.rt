@@ -4,11 +4,11 @@ use std::net::{Ipv6Addr, SocketAddr};
 use thiserror::Error;
 
 /// The word for an address that is learnt.
-pub(crate) const LEARNT: &str = "-";
+pub const LEARNT: &str = "-";
 
 /// Why a word is no address that can be reached.
 #[derive(Clone, Copy, Debug, PartialEq, Eq, Error)]
-pub(crate) enum NoAddress {
+pub enum NoAddress {
     #[error("an address is empty: give one such as 127.0.0.1:4001")]
     Empty,
     /// An address is to be learnt in a match without a secret.
@@ -40,18 +40,18 @@ pub(crate) enum NoAddress {
     Malformed,
 }
 
-/// Where a refused word stands.
+/// What is wanted where a refused word stands.
 #[derive(Clone, Copy, Debug, PartialEq, Eq)]
-pub(crate) enum Place {
-    /// Where only a number is taken: LOCAL, or a watcher's address.
+pub enum Wanted {
+    /// Only a number: LOCAL, or a watcher's address.
     Number,
-    /// Where a name is taken too, REMOTE or the relay's address, and the system finds a host of this name, or none.
+    /// A number or a name: REMOTE or the relay's address, and the system finds a host of this name, or none.
     Host { is_found: bool },
 }
 
 impl NoAddress {
-    /// Returns what is wrong with a word that is refused at a place.
-    pub(crate) fn of(word: &str, place: Place) -> NoAddress {
+    /// Returns what is wrong with a word that is refused where this is wanted.
+    pub fn of(word: &str, wanted: Wanted) -> NoAddress {
         if word.is_empty() {
             return NoAddress::Empty;
         }
@@ -63,13 +63,13 @@ impl NoAddress {
         }
         match word.rsplit_once(':') {
             Some(_) if word.ends_with(']') => NoAddress::NoPort,
-            Some((host, port)) => NoAddress::of_parts(host, port, place),
+            Some((host, port)) => NoAddress::of_parts(host, port, wanted),
             None => NoAddress::NoPort,
         }
     }
 
     /// Returns what is wrong with a host and a port that spell no address.
-    fn of_parts(host: &str, port: &str, place: Place) -> NoAddress {
+    fn of_parts(host: &str, port: &str, wanted: Wanted) -> NoAddress {
         if host.is_empty() {
             return NoAddress::NoHost;
         }
@@ -77,12 +77,12 @@ impl NoAddress {
         if host.contains(':') && !is_bracketed {
             return NoAddress::Malformed;
         }
-        match (port.parse::<u16>(), place) {
+        match (port.parse::<u16>(), wanted) {
             (Err(_), _) => NoAddress::Port,
-            (Ok(port), Place::Host { is_found: true }) => NoAddress::out_of_reach(port),
+            (Ok(port), Wanted::Host { is_found: true }) => NoAddress::out_of_reach(port),
             (Ok(_), _) if !is_name(host) => NoAddress::Malformed,
-            (Ok(_), Place::Number) => NoAddress::Name,
-            (Ok(_), Place::Host { .. }) => NoAddress::Unknown,
+            (Ok(_), Wanted::Number) => NoAddress::Name,
+            (Ok(_), Wanted::Host { .. }) => NoAddress::Unknown,
         }
     }
 
