@@ -1,6 +1,8 @@
 -- What a turn says at one place, and at the places after it. The calls of speaking need it.
-use Rattle.std.proofs.Common.{◌≡◌, ◌≢◌, ℕ, suc, ◌+◌, ◌-◌, ◌/◌, ◌%◌, ◌<◌, ◌≤◌, List, [], ◌∷◌, ◌++◌, Bool, true, false}
-use Rattle.std.proofs.Common.{Option, Some, Ok, Err, option_map, refl, ap, sym, subst, ◌∙◌, arith}
+use Rattle.std.proofs.Common.{◌≡◌, ◌≢◌, ℕ, zero, suc, ◌+◌, ◌-◌, ◌/◌, ◌%◌, ◌<◌, ◌≤◌, List, [], ◌∷◌, ◌++◌, length, Bool, true, false, not}
+use Rattle.std.proofs.Common.{Option, Some, None, Ok, Err, option_map, refl, ap, sym, subst, ◌∙◌, arith}
+use Rattle.std.specs.Prelude.{◌==◌, if◌then◌else◌}
+use Rattle.std.proofs.lemmas.List.{length-append}
 use Rattle.std.proofs.lemmas.Bool.{lt-ltb, le-leb, ne_eqb}
 use Rattle.c8_refusals.specs.declared.error.Unsayable.{Unsayable}
 use Rattle.c8_wire.specs.Packet.{Packet}
@@ -8,7 +10,7 @@ use Rattle.c8_peer.specs.State.{Call, Say, Show, Saying, Said}
 use Rattle.c8_peer.specs.Steps.{Stepped}
 use Rattle.c8_peer.specs.Peer.{PeerValue, IsStep, known_by}
 use Rattle.c8_session.specs.Due.{due_to, has, shown_at, due_at, is_packet, is_sayable, said_if_due, said_at, said_from}
-use Rattle.c8_session.specs.Due.{places_of_player, places_of_players, places_of_turn, first_watcher}
+use Rattle.c8_session.specs.Due.{places_of_player, places_of_players, places_of_turn, first_watcher, no_place}
 use Rattle.c8_session.specs.Turns.{IsSayingTo}
 
 -- ---- what is due at a place
@@ -23,6 +25,11 @@ showing_to watcher seat low high same =
 pub shown_is : (shown : List Bool) (place number : ℕ) → has shown place ≡ true → number ≡ first_watcher + place
     → shown_at shown place ≡ Some (Show number)
 shown_is shown place number is same = rw (is, same) refl
+
+-- the next place is a place too
+pub speaks_on : (old place : ℕ) → place < places_of_turn → old ≡ place → not (place + 1 == no_place) ≡ not (old == no_place)
+speaks_on old place low same =
+    rw (ne_eqb (place + 1) no_place (λ e. omega (arith, low, e)), ne_eqb old no_place (λ e. omega (arith, low, same, e))) refl
 
 back : (n : ℕ) → (n + 1) - 1 ≡ n
 back n = omega arith
@@ -85,3 +92,20 @@ module _ {D : Type 0} (p : PeerValue D) where
     speaks place call low one =
         from_here place (places_of_turn - place) (places_of_turn - (place + 1)) (omega (arith, low))
         ∙ ap (λ (here : List Call). here ++ said_from p greeters shown (place + 1) (places_of_turn - (place + 1))) one
+
+    -- ---- how much is said
+
+    few_if : (may : Bool) (call : Call) → length (if may then call ∷ [] else []) ≤ 1
+    few_if true call = omega arith
+    few_if false call = omega arith
+
+    one_at_most : (due : Option Call) → length (said_if_due p due) ≤ 1
+    one_at_most None = omega arith
+    one_at_most (Some call) = few_if (is_sayable p call) call
+
+    pub few : (place n : ℕ) → length (said_from p greeters shown place n) ≤ n
+    few place zero = omega arith
+    few place (suc n) =
+        let here = said_at p greeters shown place in
+        let rest = said_from p greeters shown (place + 1) n in
+        omega (arith, length-append here rest, one_at_most (due_at p greeters shown place), few (place + 1) n)

@@ -1,2 +1,3 @@
 -- What a turn says; begin at `DueLemmas`.
 pub mod DueLemmas
+pub mod ShowingLemmas

@@ -92,3 +92,10 @@ said_in_turn peer greeters shown = said_from peer greeters shown 0 places_of_tur
 abbrev pub left_to_say : {D : Type 0} → Session D → List Call
 left_to_say session =
     said_from session.peer session.schedule.greeters session.is_shown session.place (places_of_turn - session.place)
+
+-- The session is in a turn: `turn` has prepared datagrams, and `end` has not come after it. A session's place is at most 255.
+abbrev pub no_place : ℕ
+no_place = 255
+
+abbrev pub is_speaking : {D : Type 0} → Session D → Bool
+is_speaking session = not (session.place == no_place)

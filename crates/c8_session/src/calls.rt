@@ -5,6 +5,7 @@ ghost use Rattle.c8_wire.specs.Lent.{packet_of};
 ghost use Rattle.c8_wire.specs.checked.Read.{read};
 ghost use Rattle.c8_peer.specs.Peer.{IsAnswered};
 ghost use Rattle.c8_peer.specs.State.{Tick, Deliver, Leave, Decide, Checkpoint, Ticked, Delivered, Left, Decided, Checked};
+ghost use Rattle.c8_session.specs.Notes.{notes_of, noted};
 
 use crate::session::Session;
 use c8_disk::Disk;
@@ -15,7 +16,8 @@ use c8_wire::{Datagram, view};
 impl<'g, D: Disk> Session<'g, D> {
     /// Enters the own player's next key set, as [`Peer::tick`](c8_peer::Peer::tick) does.
     pub fn tick(&mut self, keys: Keys) -> Result<(), TickError>
-        ensures { IsAnswered D.Disk self.old.peer (Tick keys.0) (Ticked result) self.new.peer }
+        ensures answered { IsAnswered D.Disk self.old.peer (Tick keys.0) (Ticked result) self.new.peer }
+        ensures notes { notes_of self.new ≡ notes_of self.old }
     {
         self.peer.tick(keys)
     }
@@ -24,7 +26,9 @@ impl<'g, D: Disk> Session<'g, D> {
     /// sender: a sign of life, a HELLO to answer, a journal that was lost. Frames that the peer simulates again count as
     /// a rollback.
     pub fn deliver(&mut self, bytes: &[u8]) -> Result<Heard, Refused>
-        ensures { IsAnswered D.Disk self.old.peer (Deliver (read bytes.now)) (Delivered result) self.new.peer }
+        ensures answered { IsAnswered D.Disk self.old.peer (Deliver (read bytes.now)) (Delivered result)
+            self.new.peer }
+        ensures notes { notes_of self.new ≡ noted (notes_of self.old) (Deliver (read bytes.now)) (Delivered result) }
     {
         match view(bytes) {
             Ok(datagram) => self.deliver_datagram(&datagram),
@@ -35,8 +39,10 @@ impl<'g, D: Disk> Session<'g, D> {
     /// Processes a received datagram, as `deliver` does.
     pub fn deliver_datagram(&mut self, datagram: &Datagram<'_>) -> Result<Heard, Refused>
         requires { IsPacket (packet_of datagram.now) }
-        ensures { IsAnswered D.Disk self.old.peer (Deliver (Ok (packet_of datagram.now))) (Delivered result)
-            self.new.peer }
+        ensures answered { IsAnswered D.Disk self.old.peer (Deliver (Ok (packet_of datagram.now)))
+            (Delivered result) self.new.peer }
+        ensures notes { notes_of self.new
+            ≡ noted (notes_of self.old) (Deliver (Ok (packet_of datagram.now))) (Delivered result) }
     {
         let answer = self.peer.deliver_datagram(datagram);
         if matches!(answer, Ok(Heard::Kept)) {
@@ -48,7 +54,8 @@ impl<'g, D: Disk> Session<'g, D> {
 
     /// Drops a player, as [`Peer::leave`](c8_peer::Peer::leave) does: every peer but player 1's refuses.
     pub fn leave(&mut self, leaver: Player) -> Result<(), LeaveError>
-        ensures { IsAnswered D.Disk self.old.peer (Leave leaver.number) (Left result) self.new.peer }
+        ensures answered { IsAnswered D.Disk self.old.peer (Leave leaver.number) (Left result) self.new.peer }
+        ensures notes { notes_of self.new ≡ notes_of self.old }
     {
         self.peer.leave(leaver)
     }
@@ -56,7 +63,8 @@ impl<'g, D: Disk> Session<'g, D> {
     /// Cuts a leaver's list, as [`Peer::decide`](c8_peer::Peer::decide) does: every peer but player 1's refuses. Frames
     /// that the peer simulates again count as a rollback.
     pub fn decide(&mut self, leaver: Player) -> Result<u32, DecideError>
-        ensures { IsAnswered D.Disk self.old.peer (Decide leaver.number) (Decided result) self.new.peer }
+        ensures answered { IsAnswered D.Disk self.old.peer (Decide leaver.number) (Decided result) self.new.peer }
+        ensures notes { notes_of self.new ≡ notes_of self.old }
     {
         let answer = self.peer.decide(leaver);
         if answer.is_ok() {
@@ -67,7 +75,8 @@ impl<'g, D: Disk> Session<'g, D> {
 
     /// Records the next part of a checkpoint, as [`Peer::checkpoint`](c8_peer::Peer::checkpoint) does.
     pub fn checkpoint(&mut self) -> Result<Check, CheckError>
-        ensures { IsAnswered D.Disk self.old.peer Checkpoint (Checked result) self.new.peer }
+        ensures answered { IsAnswered D.Disk self.old.peer Checkpoint (Checked result) self.new.peer }
+        ensures notes { notes_of self.new ≡ notes_of self.old }
     {
         self.peer.checkpoint()
     }

@@ -1,10 +1,14 @@
 //! Facts for callers that belong to no single call.
-ghost use Rattle.std.specs.Prelude.{◌≡◌, ◌∷◌, [], length};
+ghost use Rattle.std.specs.Prelude.{◌≡◌, ℕ, Bool, List, ◌∷◌, [], ◌++◌, ◌≤◌, length};
 ghost use Rattle.c8_disk.specs.declared.error.DiskError.{DiskError};
 ghost use Rattle.c8_peer.specs.Lawful.{IsCall};
-ghost use Rattle.c8_peer.specs.Peer.{PeerValue, IsAnswered};
-ghost use Rattle.c8_peer.specs.State.{Call, Reply};
+ghost use Rattle.c8_peer.specs.Peer.{PeerValue, IsAnswered, IsSaid, known_by};
+ghost use Rattle.c8_peer.specs.Saying.{show_packet};
+ghost use Rattle.c8_peer.specs.State.{Call, Reply, Show};
+ghost use Rattle.c8_session.specs.Due.{said_in_turn, left_to_say, places_of_turn};
+ghost use Rattle.c8_session.specs.declared.session.Session.{Session};
 ghost use Rattle.c8_session.specs.Runs.{HasRunOn, IsStopped};
+ghost use Rattle.c8_session.specs.Showing.{said_to_players, said_to_watchers};
 ghost use Rattle.c8_session.specs.Turns.{Doing, doing, HasCalled, HasTurned};
 
 use c8_disk::Disk;
@@ -42,3 +46,20 @@ pub fn doings_join<D: Disk>()
     runs_join();
     calls_are_deeds::<D>();
 }
+
+/// What a turn says to watchers. `due`: after all that it says to players, player 1's open peer says one SHOW to each
+/// watcher of `show_to`; no other peer says any. `rows`: a SHOW has the confirmed rows from the first that the watcher has
+/// not acknowledged, at most 16.
+pub fn watchers_are_shown_rows<D: Disk>()
+    ensures due { (p : PeerValue D) (greeters shown : List Bool)
+        → said_in_turn p greeters shown
+        ≡ said_to_players p greeters shown ++ said_to_watchers p shown }
+    ensures rows { (p : PeerValue D) (watcher : ℕ) (bytes : List ℕ)
+        (is : IsSaid p (Show watcher) bytes)
+        → is.packet ≡ show_packet (known_by p) p.state.memory watcher }
+{}
+
+/// A turn says at most one datagram at each of its places: as many as [`MOST_DATAGRAMS`](crate::MOST_DATAGRAMS) or fewer.
+pub fn turns_say_few<D: Disk>()
+    ensures { (session : Session D) → length (left_to_say session) ≤ places_of_turn }
+{}

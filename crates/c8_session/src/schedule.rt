@@ -1,20 +1,26 @@
 //! The schedule of one peer's turns.
-ghost use Rattle.std.specs.Prelude.{◌≡◌, ◌<◌, ◌↔◌, ◌-◌, IsTrue, option_map};
+ghost use Rattle.std.specs.Prelude.{◌≡◌, ◌<◌, ◌↔◌, ◌-◌, true, false, IsTrue, option_map};
+ghost use Rattle.c8_wire.specs.Lent.{head_of, packet_of};
 ghost use Rattle.c8_peer.specs.Asked.{saying_of};
 ghost use Rattle.c8_peer.specs.Peer.{known_by};
 ghost use Rattle.c8_session.specs.Due.{due_of_leaver, due_to, has};
-ghost use Rattle.c8_session.specs.Rest.{turns_of_rest};
+ghost use Rattle.c8_session.specs.Notes.{greeted, no_greeters, no_notes, resting_of, rested_after, is_done, needs_nothing};
+ghost use Rattle.c8_session.specs.Rest.{has_a_leave, turns_to_rest};
 
 use crate::silence::{Life, Silence};
 use c8_disk::Disk;
 use c8_game::{Game, MOST_PLAYERS, Player};
 use c8_hand::HandError;
 use c8_peer::{Check, Heard, Kind, Peer, Refused};
-use c8_wire::{Datagram, DatagramKind};
+use c8_wire::{Datagram, DatagramKind, Header};
 
 /// How many turns a peer goes on after everything is confirmed and acknowledged, so that the other peers get its last
 /// acknowledgements.
 const REST: u32 = 120;
+
+/// The same for player 1 once it has dropped a player. Nothing acknowledges a CUT, and a player that was away gets it only
+/// while player 1 goes on.
+const REST_AFTER_A_DROP: u32 = 1200;
 
 /// At how many places a turn looks for what is due to one player: HELLO, WELCOME, DATA, and one for each leaver.
 pub const MOST_DUE: u8 = 7;
@@ -40,11 +46,16 @@ pub struct Schedule {
     greeters: [bool; MOST_PLAYERS],
     /// The number of turns that ended with everything confirmed and acknowledged.
     rested: u32,
+    /// Whether player 1 rests 120 turns even if it has dropped a player.
+    is_brief: bool,
 }
 
 impl Schedule {
     /// Before the first turn. `patience` is a number of silent turns. With `interval` 0 no checkpoint is due.
-    pub fn new(game: &Game, patience: Option<u64>, interval: u32) -> Schedule {
+    pub fn new(game: &Game, patience: Option<u64>, interval: u32) -> Schedule
+        ensures greeters { result.greeters ≡ no_greeters }
+        ensures resting { resting_of result ≡ (no_notes game.now.frames).resting }
+    {
         Schedule {
             frames: game.frames(),
             patience,
@@ -56,21 +67,38 @@ impl Schedule {
             is_lost: false,
             greeters: [false; MOST_PLAYERS],
             rested: 0,
+            is_brief: false,
         }
     }
 
     /// Counts this as a sign of life from now on.
-    pub fn counts(&mut self, life: Life) {
+    pub fn counts(&mut self, life: Life)
+        ensures greeters { self.new.greeters ≡ self.old.greeters }
+        ensures resting { resting_of self.new ≡ resting_of self.old }
+    {
         self.life = life;
     }
 
+    /// Lets player 1 rest 120 turns even if it has dropped a player.
+    pub fn rests_briefly(&mut self)
+        ensures greeters { self.new.greeters ≡ self.old.greeters }
+        ensures resting { resting_of self.new ≡ record (resting_of self.old) { is_brief = true } }
+    {
+        self.is_brief = true;
+    }
+
     /// The number of frames of the game.
-    pub fn frames(&self) -> u32 {
+    pub fn frames(&self) -> u32
+        ensures { result ≡ self.now.frames }
+    {
         self.frames
     }
 
     /// A turn begins: each player has been silent for one turn more.
-    pub fn begin(&mut self) {
+    pub fn begin(&mut self)
+        ensures greeters { self.new.greeters ≡ self.old.greeters }
+        ensures resting { resting_of self.new ≡ resting_of self.old }
+    {
         self.silence.begin();
     }
 
@@ -81,8 +109,12 @@ impl Schedule {
         peer: &Peer<'_, D>,
         datagram: &Datagram<'_>,
         answer: Result<Heard, Refused>,
-    ) {
+    )
+        ensures greeters { self.new.greeters ≡ greeted self.old.greeters (packet_of datagram.now).head answer }
+        ensures resting { resting_of self.new ≡ resting_of self.old }
+    {
         let header = datagram.header();
+        self.greet(&header, answer);
         let Some(sender) = header.from().player() else {
             return;
         };
@@ -94,10 +126,20 @@ impl Schedule {
         if is_alive {
             self.silence.heard(sender);
         }
-        if is_hello && answer.is_ok() {
+        self.is_lost |= is_of_match(answer) && shows_a_loss(peer, datagram);
+    }
+
+    /// Notes the sender of a HELLO that the peer took: it is answered when the peer speaks next.
+    fn greet(&mut self, header: &Header<'_>, answer: Result<Heard, Refused>)
+        ensures greeters { self.new.greeters ≡ greeted self.old.greeters (head_of header.now) answer }
+        ensures resting { resting_of self.new ≡ resting_of self.old }
+    {
+        if answer.is_ok()
+            && header.kind() == DatagramKind::Hello
+            && let Some(sender) = header.from().player()
+        {
             self.greeters[sender.place()] = true;
         }
-        self.is_lost |= is_of_match(answer) && shows_a_loss(peer, datagram);
     }
 
     /// Whether the others know more of this player than its journal does: a later epoch, or more inputs. So the journal
@@ -114,7 +156,10 @@ impl Schedule {
     }
 
     /// Player 1 drops this player in the next turn, however long it has been silent.
-    pub fn give_up(&mut self, player: Player) {
+    pub fn give_up(&mut self, player: Player)
+        ensures greeters { self.new.greeters ≡ self.old.greeters }
+        ensures resting { resting_of self.new ≡ resting_of self.old }
+    {
         self.given_up[player.place()] = true;
     }
 
@@ -135,7 +180,10 @@ impl Schedule {
     }
 
     /// Notes whether the checkpoint goes on after this part.
-    pub fn saved(&mut self, part: Check) {
+    pub fn saved(&mut self, part: Check)
+        ensures greeters { self.new.greeters ≡ self.old.greeters }
+        ensures resting { resting_of self.new ≡ resting_of self.old }
+    {
         self.is_saving = matches!(part, Check::Piece(_));
     }
 
@@ -159,37 +207,65 @@ impl Schedule {
     }
 
     /// A turn ends: it has greeted back all who had greeted.
-    pub fn end<D: Disk>(&mut self, peer: &Peer<'_, D>) {
+    pub fn end<D: Disk>(&mut self, peer: &Peer<'_, D>)
+        ensures greeters { self.new.greeters ≡ no_greeters }
+        ensures resting { resting_of self.new ≡ rested_after (resting_of self.old) peer.now }
+    {
         self.greeters = [false; MOST_PLAYERS];
-        if self.is_finished(peer) {
+        if self.is_done(peer) {
             self.rested = self.rested.saturating_add(1);
         }
     }
 
     /// Whether all frames are confirmed here, and every player without a cut has acknowledged this player's inputs of
     /// all frames.
-    fn is_finished<D: Disk>(&self, peer: &Peer<'_, D>) -> bool {
-        if peer.confirmed() < self.frames {
-            return false;
-        }
-        for number in 1..peer.players() + 1 {
-            if let Some(player) = Player::new(number)
-                && player != peer.me()
-                && peer.cut_of(player).is_none()
-                && peer.acked(player) < self.frames
-            {
-                return false;
-            }
-        }
-        true
+    fn is_done<D: Disk>(&self, peer: &Peer<'_, D>) -> bool
+        ensures { result ≡ is_done self.now.frames peer.now }
+    {
+        peer.confirmed() >= self.frames
+            && self.needs_nothing(peer, Player { number: 1 })
+            && self.needs_nothing(peer, Player { number: 2 })
+            && self.needs_nothing(peer, Player { number: 3 })
+            && self.needs_nothing(peer, Player { number: 4 })
     }
 
-    /// Whether everything has been confirmed and acknowledged for more than 120 turns.
-    pub fn has_rested(&self) -> bool
-        ensures { IsTrue result ↔ (turns_of_rest < self.now.rested) }
+    /// Whether this peer may end without waiting for the player.
+    fn needs_nothing<D: Disk>(&self, peer: &Peer<'_, D>, player: Player) -> bool
+        ensures { result ≡ needs_nothing self.now.frames peer.now player.number }
     {
-        self.rested > REST
+        player.number > peer.players()
+            || player == peer.me()
+            || peer.cut_of(player).is_some()
+            || peer.acked(player) >= self.frames
     }
+
+    /// Whether everything has been confirmed and acknowledged for more turns than this peer rests.
+    pub fn has_rested<D: Disk>(&self, peer: &Peer<'_, D>) -> bool
+        ensures { IsTrue result ↔ (turns_to_rest self.now.is_brief peer.now < self.now.rested) }
+    {
+        self.rested > self.turns_to_rest(peer)
+    }
+
+    /// How many turns the peer goes on after everything is confirmed and acknowledged.
+    fn turns_to_rest<D: Disk>(&self, peer: &Peer<'_, D>) -> u32
+        ensures { result ≡ turns_to_rest self.now.is_brief peer.now }
+    {
+        if !self.is_brief && peer.me().is_chair() && has_a_leave(peer) {
+            REST_AFTER_A_DROP
+        } else {
+            REST
+        }
+    }
+}
+
+/// Whether the peer's journal has the LEAVE of a player. Player 1's has that of each player that it dropped.
+fn has_a_leave<D: Disk>(peer: &Peer<'_, D>) -> bool
+    ensures { result ≡ has_a_leave (known_by peer.now) }
+{
+    peer.leaving(Player { number: 1 })
+        || peer.leaving(Player { number: 2 })
+        || peer.leaving(Player { number: 3 })
+        || peer.leaving(Player { number: 4 })
 }
 
 /// Which datagram of a leaver's drop round a player gets, if any. Player 1 sends FREEZE to the stayers until the cut, and

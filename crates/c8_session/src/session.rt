@@ -1,6 +1,8 @@
 //! The session of a peer.
-ghost use Rattle.std.specs.Prelude.{◌≡◌, ◌≢◌, ◌<◌, ◌⊎◌, ◌↔◌, IfNone, IfSome, IsTrue};
+ghost use Rattle.std.specs.Prelude.{◌≡◌, ◌≢◌, ◌<◌, ◌⊎◌, ◌↔◌, true, false, IfNone, IfSome, IsTrue};
 ghost use Rattle.c8_peer.specs.Peer.{IsSound};
+ghost use Rattle.c8_session.specs.Due.{is_speaking};
+ghost use Rattle.c8_session.specs.Notes.{notes_of, no_notes, rests_briefly, after_turn};
 ghost use Rattle.c8_session.specs.Rest.{IsOver};
 
 use crate::rollbacks::Rollbacks;
@@ -45,7 +47,9 @@ impl<'g, D: Disk> Session<'g, D> {
         patience: Option<u64>,
         interval: u32,
     ) -> Session<'g, D>
-        ensures { result.peer ≡ peer.entry }
+        ensures peer { result.peer ≡ peer.entry }
+        ensures notes { notes_of result ≡ no_notes game.now.frames }
+        ensures speaks { is_speaking result ≡ false }
     {
         Session {
             peer,
@@ -71,20 +75,26 @@ impl<'g, D: Disk> Session<'g, D> {
     }
 
     /// Returns the number of frames of the game.
-    pub fn frames(&self) -> u32 {
+    pub fn frames(&self) -> u32
+        ensures { result ≡ (notes_of self.now).resting.frames }
+    {
         self.schedule.frames()
     }
 
     /// Begins a turn: each player has been silent for one turn more.
     pub fn begin(&mut self)
-        ensures { self.new.peer ≡ self.old.peer }
+        ensures peer { self.new.peer ≡ self.old.peer }
+        ensures notes { notes_of self.new ≡ notes_of self.old }
     {
         self.schedule.begin();
     }
 
-    /// Ends a turn after its datagrams. Returns whether there was one to end.
+    /// Ends a turn after its datagrams: it has answered all who had greeted. Returns whether there was one to end.
     pub fn end(&mut self) -> bool
-        ensures { self.new.peer ≡ self.old.peer }
+        ensures peer { self.new.peer ≡ self.old.peer }
+        ensures ended { result ≡ is_speaking self.old }
+        ensures speaks { is_speaking self.new ≡ false }
+        ensures notes { notes_of self.new ≡ after_turn result self.old.peer (notes_of self.old) }
     {
         if self.place == NOT_SPEAKING {
             return false;
@@ -101,7 +111,8 @@ impl<'g, D: Disk> Session<'g, D> {
 
     /// Counts rollbacks from 0 again.
     pub fn forget_rollbacks(&mut self)
-        ensures { self.new.peer ≡ self.old.peer }
+        ensures peer { self.new.peer ≡ self.old.peer }
+        ensures notes { notes_of self.new ≡ notes_of self.old }
     {
         self.rollbacks = Rollbacks::default();
     }
@@ -109,9 +120,19 @@ impl<'g, D: Disk> Session<'g, D> {
     /// Counts this as a sign of life of a player from now on. Without this call it is a datagram that an open link
     /// admitted.
     pub fn counts(&mut self, life: Life)
-        ensures { self.new.peer ≡ self.old.peer }
+        ensures peer { self.new.peer ≡ self.old.peer }
+        ensures notes { notes_of self.new ≡ notes_of self.old }
     {
         self.schedule.counts(life);
+    }
+
+    /// Makes player 1 rest 120 turns at the end even if it has dropped a player: the rule of `peer`. Without this call it
+    /// rests 1,200 turns then.
+    pub fn rests_briefly(&mut self)
+        ensures peer { self.new.peer ≡ self.old.peer }
+        ensures notes { notes_of self.new ≡ rests_briefly (notes_of self.old) }
+    {
+        self.schedule.rests_briefly();
     }
 
     /// Returns whether the others know more of this player than its journal does: a later epoch, or more inputs. The
@@ -127,17 +148,20 @@ impl<'g, D: Disk> Session<'g, D> {
         self.schedule.silent(player)
     }
 
-    /// Returns whether the session is over: the peer knows that it was dropped, or it has rested for more than 120 turns.
+    /// Returns whether the session is over: the peer knows that it was dropped, or it has rested. After all frames are
+    /// confirmed and acknowledged it rests for 120 turns, and player 1 for 1,200 if it has dropped a player: nothing
+    /// acknowledges a CUT, so a player that was away may need it still.
     pub fn is_over(&self) -> bool
         ensures { IsTrue result ↔ IsOver self.now }
     {
-        self.peer.dropped() || self.schedule.has_rested()
+        self.peer.dropped() || self.schedule.has_rested(&self.peer)
     }
 
     /// Makes player 1 drop this player in the next turn, whether or not it is silent. At another player's peer it
     /// changes nothing.
     pub fn give_up(&mut self, player: Player)
-        ensures { self.new.peer ≡ self.old.peer }
+        ensures peer { self.new.peer ≡ self.old.peer }
+        ensures notes { notes_of self.new ≡ notes_of self.old }
     {
         self.schedule.give_up(player);
     }

@@ -1,8 +1,9 @@
 //! The datagrams of a turn, one after another.
-ghost use Rattle.std.specs.Prelude.{◌≡◌, ◌≤◌, ◌<◌, ◌∷◌, [], IfSome, IfNone, take};
+ghost use Rattle.std.specs.Prelude.{◌≡◌, ◌≤◌, ◌<◌, ◌-◌, ◌∷◌, [], true, IfSome, IfNone, take, slice_set};
 ghost use Rattle.c8_peer.specs.Peer.{IsSaid};
 ghost use Rattle.c8_peer.specs.State.{Call};
-ghost use Rattle.c8_session.specs.Due.{has, shown_at, said_if_due, said_at, left_to_say};
+ghost use Rattle.c8_session.specs.Due.{has, shown_at, said_if_due, said_at, left_to_say, is_speaking, first_watcher};
+ghost use Rattle.c8_session.specs.Notes.{notes_of};
 ghost use Rattle.c8_session.specs.Turns.{IsSayingTo};
 
 use crate::schedule::MOST_DUE;
@@ -27,7 +28,11 @@ impl<'g, D: Disk> Session<'g, D> {
     /// Starts to show a watcher the confirmed rows: one SHOW a turn, from the first row that the watcher has not
     /// acknowledged. Only player 1's peer shows rows.
     pub fn show_to(&mut self, watcher: Watcher)
-        ensures { self.new.peer ≡ self.old.peer }
+        ensures peer { self.new.peer ≡ self.old.peer }
+        ensures notes { notes_of self.new ≡ record (notes_of self.old) {
+          shown = slice_set self.old.is_shown (watcher.number - first_watcher) true;
+        } }
+        ensures speaks { is_speaking self.new ≡ is_speaking self.old }
     {
         self.is_shown[usize::from(watcher.number - FIRST_WATCHER)] = true;
     }
@@ -47,6 +52,8 @@ impl<'g, D: Disk> Session<'g, D> {
         ensures fits { IfSome result (λ said. said.1 ≤ LONGEST_DATAGRAM) }
         ensures greeters { self.new.schedule.greeters ≡ self.old.schedule.greeters }
         ensures shown { self.new.is_shown ≡ self.old.is_shown }
+        ensures notes { notes_of self.new ≡ notes_of self.old }
+        ensures speaks { is_speaking self.new ≡ is_speaking self.old }
     {
         for place in self.place..MOST_DATAGRAMS {
             self.place = place + 1;

@@ -1,6 +1,7 @@
 //! The part of a turn between ticking and speaking.
-ghost use Rattle.std.specs.Prelude.{◌≡◌, IfOk, IfErr};
-ghost use Rattle.c8_session.specs.Due.{left_to_say, said_in_turn};
+ghost use Rattle.std.specs.Prelude.{◌≡◌, true, IfOk, OnOk, IfErr};
+ghost use Rattle.c8_session.specs.Due.{left_to_say, said_in_turn, is_speaking};
+ghost use Rattle.c8_session.specs.Notes.{notes_of};
 ghost use Rattle.c8_session.specs.Runs.{IsStopped};
 ghost use Rattle.c8_session.specs.Turns.{Drops, Cuts, Saves, HasCalled, HasCalledOnce, HasTurned};
 
@@ -18,6 +19,8 @@ impl<'g, D: Disk> Session<'g, D> {
         ensures stopped { IfErr result (IsStopped D.Disk self.old.peer self.new.peer) }
         ensures due { IfOk result (λ done. left_to_say self.new
             ≡ said_in_turn self.new.peer self.new.schedule.greeters self.new.is_shown) }
+        ensures speaks { OnOk result (is_speaking self.new ≡ true) }
+        ensures notes { notes_of self.new ≡ notes_of self.old }
     {
         // For the proof: a part that is not reached has done nothing, and what stops the second part stops both.
         doings_join::<D>();
@@ -33,6 +36,7 @@ impl<'g, D: Disk> Session<'g, D> {
     fn drop_silent(&mut self) -> Result<(), DiskError>
         ensures ran { HasCalled D.Disk Drops self.old.peer self.new.peer }
         ensures stopped { IfErr result (IsStopped D.Disk self.old.peer self.new.peer) }
+        ensures notes { notes_of self.new ≡ notes_of self.old }
     {
         // For the proof: so far the loop has only dropped players.
         doings_join::<D>();
@@ -52,6 +56,7 @@ impl<'g, D: Disk> Session<'g, D> {
     fn cut(&mut self) -> Result<(), DiskError>
         ensures ran { HasCalled D.Disk Cuts self.old.peer self.new.peer }
         ensures stopped { IfErr result (IsStopped D.Disk self.old.peer self.new.peer) }
+        ensures notes { notes_of self.new ≡ notes_of self.old }
     {
         // For the proof: so far the loop has only cut.
         doings_join::<D>();
@@ -70,6 +75,7 @@ impl<'g, D: Disk> Session<'g, D> {
     fn save(&mut self) -> Result<(), DiskError>
         ensures ran { HasCalledOnce D.Disk Saves self.old.peer self.new.peer }
         ensures stopped { IfErr result (IsStopped D.Disk self.old.peer self.new.peer) }
+        ensures notes { notes_of self.new ≡ notes_of self.old }
     {
         // For the proof: a checkpoint is one call.
         doings_join::<D>();

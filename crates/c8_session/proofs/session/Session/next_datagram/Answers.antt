@@ -1,7 +1,7 @@
 -- A place at which nothing is said is passed over; the first one at which something is said has what was left to say.
 use Rattle.std.proofs.Common.{refl, take, subst, sym, ◌∙◌}
 use Rattle.c8_peer.specs.Peer.{PeerValue, IsSaid}
-use Rattle.c8_session.proofs.DueLemmas.{at_place, passes, speaks}
+use Rattle.c8_session.proofs.DueLemmas.{at_place, passes, speaks, speaks_on}
 use Rattle.c8_session.proofs.session.Session.next_datagram.Goals as goal
 
 pub returns-in-Some-clause-said : goal.returns-in-Some-clause-said
@@ -32,8 +32,16 @@ loop-place-preserved g c =
       same = here.invariant.same;
       greeters = here.invariant.greeters;
       shown = here.invariant.shown;
+      notes = here.invariant.notes;
+      speaks =
+          speaks_on here.self.place here.place c.loop-place-test.true here.invariant.here ∙ here.invariant.speaks;
       here = refl;
       left =
           sym (passes here.self.peer here.self.schedule.greeters here.self.is_shown here.place c.loop-place-test.true c.in_default.ensures.silent)
           ∙ sym at ∙ here.invariant.left;
     }
+
+pub returns-in-Some-clause-speaks : goal.returns-in-Some-clause-speaks
+returns-in-Some-clause-speaks g c =
+    let here = c.loop-place in
+    speaks_on here.self.place here.place c.loop-place-test.true here.invariant.here ∙ here.invariant.speaks

@@ -21,24 +21,24 @@ returns-in-Err-Disk-clause-stopped g c =
       ran = c.peers_run_on.ensures.still peer;
       call = Checkpoint;
       reply = Checked c.checkpoint.result;
-      answered = c.checkpoint.ensures;
+      answered = c.checkpoint.ensures.answered;
       refused = ap (λ (r : Result Check CheckError). disk_outcome_of (Checked r)) is;
     }
 
 pub returns-in-Ok-clause-ran : goal.returns-in-Ok-clause-ran
 returns-in-Ok-clause-ran g c =
     let peer = c.args.self.now.peer in
-    let one = c.doings_join.ensures.once peer c.checkpoint.new.self.peer Checkpoint (Checked c.checkpoint.result) tt c.checkpoint.ensures in
+    let one = c.doings_join.ensures.once peer c.checkpoint.new.self.peer Checkpoint (Checked c.checkpoint.result) tt c.checkpoint.ensures.answered in
     (one.0, omega (arith, one.1))
 
 pub returns-in-Err-Disk-clause-ran : goal.returns-in-Err-Disk-clause-ran
 returns-in-Err-Disk-clause-ran g c =
     let peer = c.args.self.now.peer in
-    let one = c.doings_join.ensures.once peer c.checkpoint.new.self.peer Checkpoint (Checked c.checkpoint.result) tt c.checkpoint.ensures in
+    let one = c.doings_join.ensures.once peer c.checkpoint.new.self.peer Checkpoint (Checked c.checkpoint.result) tt c.checkpoint.ensures.answered in
     (one.0, omega (arith, one.1))
 
 pub returns-in-Err : goal.returns-in-Err
 returns-in-Err g c =
     let peer = c.args.self.now.peer in
-    let one = c.doings_join.ensures.once peer c.checkpoint.new.self.peer Checkpoint (Checked c.checkpoint.result) tt c.checkpoint.ensures in
-    record { ran = (one.0, omega (arith, one.1)); stopped = tt }
+    let one = c.doings_join.ensures.once peer c.checkpoint.new.self.peer Checkpoint (Checked c.checkpoint.result) tt c.checkpoint.ensures.answered in
+    record { ran = (one.0, omega (arith, one.1)); stopped = tt; notes = c.checkpoint.ensures.notes }
