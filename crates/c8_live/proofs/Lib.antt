@@ -3,6 +3,7 @@ pub mod EnteredLemmas
 pub mod PartLemmas
 pub mod RunLemmas
 pub mod TurnLemmas
+pub mod OwedLemmas
 -- Each step of the pen or a viewer keeps what ties the shared words to the published rows; begin with Moves.
 pub mod WordLemmas
 pub mod Moves

@@ -102,7 +102,7 @@ module _ {D W : Type 0} (disk : DiskGhosts D) (wire : WireGhosts W) where
     received = two.received ∙ one.received;
   }
 
-  pub spoken_once : (p : PeerValue D) (before after : W) (call : Call) (bytes : List ℕ) → doing call ≡ Speaks → (is : IsSaid p call bytes)
+  abbrev pub spoken_once : (p : PeerValue D) (before after : W) (call : Call) (bytes : List ℕ) → doing call ≡ Speaks → (is : IsSaid p call bytes)
       → IsDone p.rules p.room p.me p.state (Does call Works) (Some (Said (Ok is.packet))) p.state → MayTake (wire.sent before) bytes (wire.sent after)
       → wire.received after ≡ wire.received before → HasSpoken disk wire p before after
   spoken_once p before after call bytes speaks is deed (inl lost) received = record {

@@ -21,6 +21,8 @@ ghost use Rattle.c8_live.specs.Entered.{entered_by, HasEntered};
 ghost use Rattle.c8_live.specs.Parts.{IsHandedOn};
 ghost use Rattle.c8_live.specs.Ends.{IsEnd};
 ghost use Rattle.c8_live.specs.Turns.{HasHeardOf, HasHeard, HasSpoken, IsTurn, AreTurns};
+ghost use Rattle.c8_live.specs.Owed.{HasNotedOf, HasNoted, HasSaid};
+ghost use Rattle.c8_session.specs.Notes.{Notes, noted};
 ghost use Rattle.c8_session.specs.Runs.{HasRunOn};
 ghost use Rattle.c8_session.specs.Turns.{Doing, Ticks, Speaks, doing, HasDone};
 ghost use Rattle.c8_transport.specs.Wire.{MayTake};
@@ -71,17 +73,24 @@ pub fn entries_join<D: Disk>()
     calls_are_deeds::<D>();
 }
 
-/// What a peer hears of one packet: nothing (`none`), or what its bytes spell (`once`).
+/// What a peer hears of one packet: nothing (`none`), or what its bytes spell (`once`). The same with what the session notes
+/// of it (`unnoted`, `noted`).
 pub fn a_packet_is_heard<D: Disk>()
     ensures none { (p : PeerValue D) (bytes : List ℕ) → HasHeardOf D.Disk (bytes ∷ []) p p }
     ensures once { (old new : PeerValue D) (bytes : List ℕ) (packet : Packet) (reply : Reply)
         → Spells bytes packet → IsAnswered D.Disk old (Deliver (Ok packet)) reply new
         → HasHeardOf D.Disk (bytes ∷ []) old new }
+    ensures unnoted { (p : PeerValue D) (notes : Notes) (bytes : List ℕ)
+        → HasNotedOf D.Disk (bytes ∷ []) p p notes notes }
+    ensures noted { (old new : PeerValue D) (notes : Notes) (bytes : List ℕ) (packet : Packet) (reply : Reply)
+        → Spells bytes packet → IsAnswered D.Disk old (Deliver (Ok packet)) reply new
+        → HasNotedOf D.Disk (bytes ∷ []) old new notes (noted notes (Deliver (Ok packet)) reply) }
 {
     calls_are_deeds::<D>();
 }
 
-/// What a peer hears: nothing (`silent`), one packet (`once`), one list after another (`joined`).
+/// What a peer hears: nothing (`silent`), one packet (`once`), one list after another (`joined`). The same with what the
+/// session notes of it (`noted_silent`, `noted_once`, `noted_joined`).
 pub fn hearings_join<D: Disk, W: Wire>()
     ensures silent { (p : PeerValue D) (before after : W)
         → W.received after ≡ W.received before → W.sent after ≡ W.sent before
@@ -94,12 +103,24 @@ pub fn hearings_join<D: Disk, W: Wire>()
         → HasHeard D.Disk W.Wire most first middle before between
         → HasHeard D.Disk W.Wire more middle last between after
         → HasHeard D.Disk W.Wire (most + more) first last before after }
+    ensures noted_silent { (p : PeerValue D) (notes : Notes) (before after : W)
+        → W.received after ≡ W.received before → W.sent after ≡ W.sent before
+        → HasNoted D.Disk W.Wire 0 p p notes notes before after }
+    ensures noted_once { (old new : PeerValue D) (notes now : Notes) (before after : W) (bytes : List ℕ)
+        → HasNotedOf D.Disk (bytes ∷ []) old new notes now
+        → W.received after ≡ W.received before ++ bytes ∷ [] → W.sent after ≡ W.sent before
+        → HasNoted D.Disk W.Wire 1 old new notes now before after }
+    ensures noted_joined { (most more : ℕ) (first middle last : PeerValue D) (notes later now : Notes)
+        (before between after : W)
+        → HasNoted D.Disk W.Wire most first middle notes later before between
+        → HasNoted D.Disk W.Wire more middle last later now between after
+        → HasNoted D.Disk W.Wire (most + more) first last notes now before after }
 {
     runs_join();
 }
 
 /// What a peer says: nothing (`silent`), a packet that the wire takes or loses (`once`), one list after another
-/// (`joined`).
+/// (`joined`). The same with the list of what was said (`said_none`, `said_once`, `said_joined`).
 pub fn sayings_join<D: Disk, W: Wire>()
     ensures silent { (p : PeerValue D) (before after : W)
         → W.sent after ≡ W.sent before → W.received after ≡ W.received before
@@ -111,6 +132,16 @@ pub fn sayings_join<D: Disk, W: Wire>()
     ensures joined { (p : PeerValue D) (before between after : W)
         → HasSpoken D.Disk W.Wire p before between → HasSpoken D.Disk W.Wire p between after
         → HasSpoken D.Disk W.Wire p before after }
+    ensures said_none { (p : PeerValue D) (before after : W)
+        → W.sent after ≡ W.sent before → W.received after ≡ W.received before
+        → HasSaid D.Disk W.Wire p [] before after }
+    ensures said_once { (p : PeerValue D) (before after : W) (call : Call) (bytes : List ℕ)
+        → IsCall call → doing call ≡ Speaks → IsSaid p call bytes
+        → MayTake (W.sent before) bytes (W.sent after) → W.received after ≡ W.received before
+        → HasSaid D.Disk W.Wire p (call ∷ []) before after }
+    ensures said_joined { (p : PeerValue D) (calls more : List Call) (before between after : W)
+        → HasSaid D.Disk W.Wire p calls before between → HasSaid D.Disk W.Wire p more between after
+        → HasSaid D.Disk W.Wire p (calls ++ more) before after }
 {
     runs_join();
     calls_are_deeds::<D>();

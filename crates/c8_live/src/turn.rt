@@ -1,9 +1,12 @@
 //! The turns of a session over a wire: it hears, enters a key set, makes the turn and speaks.
 
-ghost use Rattle.std.specs.Prelude.{◌≡◌, [], ◌∷◌, IfOk, IfErr};
+ghost use Rattle.std.specs.Prelude.{◌≡◌, [], ◌∷◌, IfOk, OnOk, IfErr};
 ghost use Rattle.c8_live.specs.Ends.{IsEnd};
 ghost use Rattle.c8_live.specs.Entered.{entered_of, HasEntered, HasTicked, HasHandedIn};
-ghost use Rattle.c8_live.specs.Turns.{HasHeardOf, HasHeard, HasSpoken, IsTurn};
+ghost use Rattle.c8_live.specs.Owed.{HasNotedOf, HasNoted, HasSaid, HasSaidAll};
+ghost use Rattle.c8_live.specs.Turns.{HasHeard, HasSpoken, IsTurn};
+ghost use Rattle.c8_session.specs.Due.{left_to_say, is_speaking};
+ghost use Rattle.c8_session.specs.Notes.{notes_of};
 ghost use Rattle.c8_session.specs.Runs.{HasRunOn};
 ghost use Rattle.c8_session.specs.Turns.{Ticks, HasCalledOnce};
 ghost use Rattle.c8_transport.specs.Wire.{most_packets};
@@ -15,7 +18,7 @@ use crate::laws::{
 use c8_disk::Disk;
 use c8_game::Keys;
 use c8_peer::{Refused, TickError};
-use c8_session::laws::{doings_join, peers_run_on};
+use c8_session::laws::{doings_join, peers_run_on, turns_say_few};
 use c8_session::{MOST_DATAGRAMS, Session};
 use c8_transport::{LONGEST_PACKET, MOST_PACKETS, Wire, WireFailed};
 use c8_wire::{LONGEST_DATAGRAM, view};
@@ -23,13 +26,16 @@ use c8_wire::{LONGEST_DATAGRAM, view};
 /// Makes one turn. The peer hears at most 256 packets of the wire, enters `keys` (with `None` it does not tick), drops
 /// silent players and cuts if it is player 1, records at most one part of a checkpoint, and speaks. Returns whether the
 /// key set was taken: the peer refuses it at the window's limit, after the last frame, and when it is down or dropped;
-/// enter it again in the next turn. An error of the disk or of the wire ends the session.
+/// enter it again in the next turn. It sends each datagram that is due to a player or a watcher (c8_session `specs/Due`),
+/// unless there is an error. An error of the disk or of the wire ends the session.
 pub fn make_turn<D: Disk, W: Wire>(
     session: &mut Session<'_, D>,
     keys: Option<Keys>,
     wire: &mut W,
 ) -> Result<bool, SessionError>
     ensures turn { IsTurn D.Disk W.Wire session.old.peer session.new.peer wire.old wire.new }
+    ensures said { OnOk result (HasSaidAll D.Disk W.Wire session.old.peer session.new.peer
+        (notes_of session.old) (notes_of session.new) wire.old wire.new) }
     ensures handed_in { IfOk result (λ taken. HasHandedIn D.Disk W.Wire keys taken
         session.old.peer session.new.peer wire.old wire.new) }
     ensures entered { IfOk result (λ taken. HasEntered D.Disk (entered_of keys taken)
@@ -59,6 +65,8 @@ pub fn listen<D: Disk, W: Wire>(
     wire: &mut W,
 ) -> Result<(), SessionError>
     ensures heard { HasHeard D.Disk W.Wire most_packets session.old.peer session.new.peer wire.old wire.new }
+    ensures noted { HasNoted D.Disk W.Wire most_packets session.old.peer session.new.peer
+        (notes_of session.old) (notes_of session.new) wire.old wire.new }
     ensures ran { HasRunOn D.Disk session.old.peer session.new.peer }
     ensures end { IfErr result (IsEnd D.Disk session.old.peer session.new.peer) }
 {
@@ -68,7 +76,8 @@ pub fn listen<D: Disk, W: Wire>(
 
 /// Delivers the packets that wait.
 fn hear<D: Disk, W: Wire>(session: &mut Session<'_, D>, wire: &mut W) -> Result<(), SessionError>
-    ensures heard { HasHeard D.Disk W.Wire most_packets session.old.peer session.new.peer wire.old wire.new }
+    ensures noted { HasNoted D.Disk W.Wire most_packets session.old.peer session.new.peer
+        (notes_of session.old) (notes_of session.new) wire.old wire.new }
     ensures end { IfErr result (IsEnd D.Disk session.old.peer session.new.peer) }
 {
     // For the proof: what was heard in the loop joins.
@@ -86,7 +95,8 @@ fn hear<D: Disk, W: Wire>(session: &mut Session<'_, D>, wire: &mut W) -> Result<
 
 /// Delivers a packet. Bytes that spell no datagram change nothing.
 fn deliver<D: Disk>(session: &mut Session<'_, D>, packet: &[u8]) -> Result<(), SessionError>
-    ensures ran { HasHeardOf D.Disk (packet.now ∷ []) session.old.peer session.new.peer }
+    ensures noted { HasNotedOf D.Disk (packet.now ∷ []) session.old.peer session.new.peer
+        (notes_of session.old) (notes_of session.new) }
     ensures end { IfErr result (IsEnd D.Disk session.old.peer session.new.peer) }
 {
     // For the proof: what is heard of one packet, and that a refused record ends the session.
@@ -104,6 +114,7 @@ fn deliver<D: Disk>(session: &mut Session<'_, D>, packet: &[u8]) -> Result<(), S
 /// Enters a key set, if there is one, and returns whether it was taken.
 fn enter<D: Disk>(session: &mut Session<'_, D>, keys: Option<Keys>) -> Result<bool, SessionError>
     ensures ran { HasCalledOnce D.Disk Ticks session.old.peer session.new.peer }
+    ensures notes { notes_of session.new ≡ notes_of session.old }
     ensures ticked { IfOk result (λ taken. HasTicked D.Disk keys taken session.old.peer session.new.peer) }
     ensures entered { IfOk result (λ taken. HasEntered D.Disk (entered_of keys taken)
         session.old.peer session.new.peer) }
@@ -123,18 +134,23 @@ fn enter<D: Disk>(session: &mut Session<'_, D>, keys: Option<Keys>) -> Result<bo
     }
 }
 
-/// Sends the datagrams of this turn.
+/// Sends all datagrams of this turn.
 fn speak<D: Disk, W: Wire>(session: &mut Session<'_, D>, wire: &mut W) -> Result<(), WireFailed>
     ensures spoke { HasSpoken D.Disk W.Wire session.old.peer wire.old wire.new }
+    ensures said { OnOk result (HasSaid D.Disk W.Wire session.old.peer (left_to_say session.old)
+        wire.old wire.new) }
     ensures peer { session.new.peer ≡ session.old.peer }
+    ensures notes { notes_of session.new ≡ notes_of session.old }
+    ensures speaks { is_speaking session.new ≡ is_speaking session.old }
 {
-    // For the proof: what was said in the loop joins.
+    // For the proof: what was said in the loop joins, and the loop comes to the end of it.
     sayings_join::<D, W>();
+    turns_say_few::<D>();
     let mut datagram = [0; LONGEST_DATAGRAM];
     for _ in 0..MOST_DATAGRAMS {
         match session.next_datagram(&mut datagram) {
             Some((to, size)) => wire.send(to, &datagram[..size])?,
-            None => break,
+            None => return Ok(()),
         }
     }
     Ok(())

@@ -27,20 +27,22 @@ returns-in-Err-Disk-clause-end g c =
       ran = c.peers_run_on.ensures.still peer;
       call = Tick c.in-Some.keys.0;
       reply = Ticked c.tick.result;
-      answered = c.tick.ensures;
+      answered = c.tick.ensures.answered;
       refused = ap (λ (r : Result (Unit {0}) TickError). disk_outcome_of (Ticked r)) is;
     }
 
 pub returns-in-Err-Disk-clause-ran : goal.returns-in-Err-Disk-clause-ran
 returns-in-Err-Disk-clause-ran g c =
     let peer = c.args.session.now.peer in
-    let one = c.doings_join.ensures.once peer c.tick.new.self.peer (Tick c.in-Some.keys.0) (Ticked c.tick.result) (omega arith) c.tick.ensures in
+    let one = c.doings_join.ensures.once peer c.tick.new.self.peer (Tick c.in-Some.keys.0) (Ticked c.tick.result)
+    (omega arith) c.tick.ensures.answered in
     (one.0, omega (arith, one.1))
 
 pub returns-in-Ok-clause-ran : goal.returns-in-Ok-clause-ran
 returns-in-Ok-clause-ran g c =
     let peer = c.args.session.now.peer in
-    let one = c.doings_join.ensures.once peer c.tick.new.self.peer (Tick c.in-Some.keys.0) (Ticked c.tick.result) (omega arith) c.tick.ensures in
+    let one = c.doings_join.ensures.once peer c.tick.new.self.peer (Tick c.in-Some.keys.0) (Ticked c.tick.result)
+    (omega arith) c.tick.ensures.answered in
     (one.0, omega (arith, one.1))
 
 pub returns-in_default-clause-entered : goal.returns-in_default-clause-entered
@@ -51,7 +53,8 @@ returns-in_default-clause-entered g c =
 pub returns-in-Ok-clause-entered : goal.returns-in-Ok-clause-entered
 returns-in-Ok-clause-entered g c =
     let peer = c.args.session.now.peer in
-    let once = c.entries_join.ensures.once peer c.tick.new.self.peer (Tick c.in-Some.keys.0) (Ticked c.tick.result) (omega arith) c.tick.ensures in
+    let once = c.entries_join.ensures.once peer c.tick.new.self.peer (Tick c.in-Some.keys.0) (Ticked c.tick.result)
+    (omega arith) c.tick.ensures.answered in
     rw c.in-Some.is
     (subst (λ (r : Result (Unit {0}) TickError). HasEntered g.D.Disk (entered_by (Tick c.in-Some.keys.0) (Some (Ticked r))) peer c.tick.new.self.peer)
     c.in-Ok.is once)
@@ -59,12 +62,15 @@ returns-in-Ok-clause-entered g c =
 pub returns-in-Err : goal.returns-in-Err
 returns-in-Err g c =
     let peer = c.args.session.now.peer in
-    let one = c.doings_join.ensures.once peer c.tick.new.self.peer (Tick c.in-Some.keys.0) (Ticked c.tick.result) (omega arith) c.tick.ensures in
-    let once = c.entries_join.ensures.once peer c.tick.new.self.peer (Tick c.in-Some.keys.0) (Ticked c.tick.result) (omega arith) c.tick.ensures in
+    let one = c.doings_join.ensures.once peer c.tick.new.self.peer (Tick c.in-Some.keys.0) (Ticked c.tick.result)
+    (omega arith) c.tick.ensures.answered in
+    let once = c.entries_join.ensures.once peer c.tick.new.self.peer (Tick c.in-Some.keys.0) (Ticked c.tick.result)
+    (omega arith) c.tick.ensures.answered in
     let answered = subst (λ (r : Result (Unit {0}) TickError). IsAnswered g.D.Disk peer (Tick c.in-Some.keys.0) (Ticked r) c.tick.new.self.peer)
-    c.in-Err.is c.tick.ensures in
+    c.in-Err.is c.tick.ensures.answered in
     rw c.in-Some.is (record {
       ran = (one.0, omega (arith, one.1));
+      notes = c.tick.ensures.notes;
       ticked = (c.in-Err.field-0, answered);
       entered = subst (λ (r : Result (Unit {0}) TickError). HasEntered g.D.Disk (entered_by (Tick c.in-Some.keys.0) (Some (Ticked r))) peer
           c.tick.new.self.peer) c.in-Err.is once;
