@@ -12,5 +12,5 @@ invariant_of-self g c =
     let call = Decide c.args.leaver.number in
     let reply = Decided c.decide-answer.result in
     let steps = c.self.inside.steps in
-    engine_after g.D.Disk old new call reply steps c.self.inside.is_told c.decide-answer.ensures
-    (c.what_was_given_stays.ensures.call old new call reply steps c.is_sound.ensures is c.decide-answer.ensures) c.self.invariant
+    engine_after g.D.Disk old new call reply steps c.self.inside.is_told c.decide-answer.ensures.answered
+    (c.what_was_given_stays.ensures.call old new call reply steps c.is_sound.ensures is c.decide-answer.ensures.answered) c.self.invariant

@@ -14,8 +14,8 @@ invariant_of-self g c =
     let is = c.deliveries_are_calls.ensures c.args.bytes.now (λ i. (c.type_inv.bytes i).fits) in
     let reply = Delivered c.deliver-answer.result in
     let steps = c.self.inside.steps in
-    engine_after g.D.Disk old new call reply steps c.self.inside.is_told c.deliver-answer.ensures
-    (c.what_was_given_stays.ensures.call old new call reply steps c.is_sound.ensures is c.deliver-answer.ensures) c.self.invariant
+    engine_after g.D.Disk old new call reply steps c.self.inside.is_told c.deliver-answer.ensures.answered
+    (c.what_was_given_stays.ensures.call old new call reply steps c.is_sound.ensures is c.deliver-answer.ensures.answered) c.self.invariant
 
 pub returns-clause-news : goal.returns-clause-news
 returns-clause-news g c =

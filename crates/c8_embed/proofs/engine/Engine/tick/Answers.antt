@@ -12,5 +12,5 @@ invariant_of-self g c =
     let call = Tick c.args.keys.0 in
     let reply = Ticked c.tick-answer.result in
     let steps = c.self.inside.steps in
-    engine_after g.D.Disk old new call reply steps c.self.inside.is_told c.tick-answer.ensures
-    (c.what_was_given_stays.ensures.call old new call reply steps c.is_sound.ensures is c.tick-answer.ensures) c.self.invariant
+    engine_after g.D.Disk old new call reply steps c.self.inside.is_told c.tick-answer.ensures.answered
+    (c.what_was_given_stays.ensures.call old new call reply steps c.is_sound.ensures is c.tick-answer.ensures.answered) c.self.invariant
