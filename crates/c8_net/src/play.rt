@@ -149,6 +149,7 @@ where
     };
     let mut session = session_of(peer, &game, asked);
     session.counts(Life::Admitted);
+    session.rests_briefly();
     let keys = KeyList::new(keys);
     match play_over(
         rt,

@@ -28,14 +28,14 @@ returns-clause-refused g c =
 
 pub returns-in-Ok-play_over-clause-played : goal.returns-in-Ok-play_over-clause-played
 returns-in-Ok-play_over-clause-played g c =
-    c.outcome_of.ensures.played c.args.disk c.args.it.game c.args.asked.now.room c.args.asked.now.player.number c.counts.new.self.peer
+    c.outcome_of.ensures.played c.args.disk c.args.it.game c.args.asked.now.room c.args.asked.now.player.number c.rests_briefly.new.self.peer
     (opened_still g.D.Disk c.args.disk c.args.it.game c.args.asked.now.room c.args.asked.now.player.number c.in-Ok.peer
-    c.counts.new.self.peer (c.counts.ensures ∙ c.session_of-session.ensures) c.in-Ok.ensures.opened)
+    c.rests_briefly.new.self.peer (c.rests_briefly.ensures.peer ∙ c.counts.ensures.peer ∙ c.session_of-session.ensures) c.in-Ok.ensures.opened)
     c.in-Ok-play_over.ensures
 
 pub returns-in-Ok-play_over-clause-refused : goal.returns-in-Ok-play_over-clause-refused
 returns-in-Ok-play_over-clause-refused g c =
-    c.outcome_of.ensures.refused c.args.disk c.args.it.game c.args.asked.now.room c.args.asked.now.player.number c.counts.new.self.peer
+    c.outcome_of.ensures.refused c.args.disk c.args.it.game c.args.asked.now.room c.args.asked.now.player.number c.rests_briefly.new.self.peer
     (opened_still g.D.Disk c.args.disk c.args.it.game c.args.asked.now.room c.args.asked.now.player.number c.in-Ok.peer
-    c.counts.new.self.peer (c.counts.ensures ∙ c.session_of-session.ensures) c.in-Ok.ensures.opened)
+    c.rests_briefly.new.self.peer (c.rests_briefly.ensures.peer ∙ c.counts.ensures.peer ∙ c.session_of-session.ensures) c.in-Ok.ensures.opened)
     c.in-Ok-play_over.ensures
