@@ -207,8 +207,8 @@ fn many_packets_hasten_no_frame(rt: HostRuntime) {
 /// Player 1 drops player 2 in turn 3, so that a frame a turn is ticked and confirmed.
 #[rattlefmt::skip]
 static ENDS: [Row; 7] = [
-    // all 30 frames are confirmed in turn 30, and the session goes on for 120 turns
-    Row { typed: Typed::Nothing, turns: 1_000, stop: None, patience: Some(3), made: 150, ticked: 30 },
+    // all 30 frames are confirmed in turn 30, and the session goes on for 1,200 turns, since it has dropped a player
+    Row { typed: Typed::Nothing, turns: 2_000, stop: None, patience: Some(3), made: 1_230, ticked: 30 },
     Row { typed: Typed::Nothing, turns: 20, stop: None, patience: Some(3), made: 20, ticked: 20 },
     Row { typed: Typed::Nothing, turns: 1_000, stop: Some(12), patience: Some(3), made: 12, ticked: 12 },
     Row { typed: Typed::Nothing, turns: 1_000, stop: Some(0), patience: Some(3), made: 0, ticked: 0 },
