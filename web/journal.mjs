@@ -105,29 +105,43 @@ class Keeper {
 
   /** @param {Asked} message @returns {Promise<Answer>} */
   ask(message) {
-    return new Promise(done => { this.asked.push(done); this.worker.postMessage(message); });
+    const bytes = message.steps?.map(it => it.bytes.buffer) ?? [];
+    return new Promise(done => { this.asked.push(done); this.worker.postMessage(message, bytes); });
   }
 }
 
-/** A journal in a file. Its keeper writes the same bytes, and waits for the disk, in the order in which that was asked for here.
- * @implements {Journal} */
+/**
+ * A journal in a file. A session appends a record by two writes, each with a wait after it: the body with the closed gate behind it, and then
+ * the open gate in front of it (docs/FORMATS.md, Journal slots). Here both are one step of the keeper. Records that are appended one after
+ * another before they are saved are one step too: the first gate is opened last, so a crash keeps either all of them or none, and the
+ * disk is waited for twice.
+ * @implements {Journal}
+ */
 class Kept extends Held {
   /** @param {Keeper} keeper @param {Uint8Array} bytes */
   constructor(keeper, bytes) {
     super(bytes);
     this.keeper = keeper;
+    /** Where the last body ended.
+     * @type {number} */
+    this.end = 0;
     /** @type {Step[]} */
     this.steps = [];
   }
 
   /** @param {Uint8Array} bytes @param {{ at: number }} options */
   write(bytes, { at }) {
-    this.steps.push({ at, bytes: bytes.slice() });
-    return super.write(bytes, { at });
+    super.write(bytes, { at });
+    if (bytes.length === 1) this.addGate(at);
+    else this.end = at + bytes.length;
+    return bytes.length;
   }
 
-  flush() {
-    this.steps.push(null);
+  /** @param {number} at where a gate was opened, or closed by an opening */
+  addGate(at) {
+    const last = this.steps.at(-1), end = Math.max(at + 1, this.end), isNext = last && last.bytes.length > 1 && last.at + last.bytes.length - 1 === at;
+    if (isNext) last.bytes = this.bytes.slice(last.at, end);
+    else this.steps.push({ at, bytes: this.bytes.slice(at, end) });
   }
 
   close() {

@@ -2,8 +2,8 @@
 /** A worker that has the file of one journal open. Here each call of the file waits until it is done. @module */
 
 /**
- * A write, or null for a wait until all writes before it stand on the disk.
- * @typedef {{ at: number, bytes: Uint8Array } | null} Step
+ * What is to stand at a place of the file. The first byte is written last, after all others stand on the disk; then it is waited for, too.
+ * @typedef {{ at: number, bytes: Uint8Array }} Step
  */
 /** The name of the file, first of all; then steps, and whether the file is closed after them.
  * @typedef {{ name?: string, steps?: Step[], closes?: boolean }} Asked
@@ -40,10 +40,19 @@ async function open(name) {
   return { bytes };
 }
 
+/** Writes bytes, and waits until they stand on the disk.
+ * @param {Uint8Array} bytes
+ * @param {number} at
+ */
+function put(bytes, at) {
+  if (file.write(bytes, { at }) !== bytes.length) throw new Error('The disk is full.');
+  file.flush();
+}
+
 /** @param {Step} step */
-function take(step) {
-  if (!step) return file.flush();
-  if (file.write(step.bytes, { at: step.at }) !== step.bytes.length) throw new Error('The disk is full.');
+function take({ at, bytes }) {
+  if (bytes.length > 1) put(bytes.subarray(1), at + 1);
+  put(bytes.subarray(0, 1), at);
 }
 
 /** @param {Asked} asked @returns {Promise<Answer>} */

@@ -3,6 +3,9 @@
 
 export const COLUMNS = 64, ROWS = 32;
 
+/** The bytes of a row. */
+const BYTES = COLUMNS / 8;
+
 /** Colors in the bytes of a picture.
  * @typedef {{ dark: number, lit: number }} Colors
  */
@@ -19,7 +22,7 @@ export class Picture {
     /** @type {Colors} */
     this.colors = { dark: 0, lit: 0 };
     this.screen = new Uint8Array(COLUMNS * ROWS / 8);
-    /** What the canvas shows.
+    /** What the canvas shows; null if it has to be painted anew.
      * @type {Uint8Array | null} */
     this.painted = null;
   }
@@ -31,13 +34,20 @@ export class Picture {
     this.paint();
   }
 
-  /** Shows the screen, if it is not what the canvas shows. */
+  /** Shows the screen. It paints the rectangle that has changed, so that the browser composes no more than that. */
   paint() {
-    const { screen, colors: { dark, lit } } = this;
-    if (screen === this.painted) return;
+    const { screen, painted, colors: { dark, lit } } = this;
+    let left = BYTES, right = -1, top = ROWS, bottom = -1;
+    for (let place = 0; place < screen.length; place++) {
+      if (painted?.[place] === screen[place]) continue;
+      const row = Math.floor(place / BYTES), column = place % BYTES;
+      for (let it = 0; it < 8; it++) this.points[8 * place + it] = screen[place] >> (7 - it) & 1 ? lit : dark;
+      left = Math.min(left, column), right = Math.max(right, column);
+      top = Math.min(top, row), bottom = row;
+    }
     this.painted = screen;
-    for (let it = 0; it < COLUMNS * ROWS; it++) this.points[it] = screen[it >> 3] >> (7 - (it & 7)) & 1 ? lit : dark;
-    this.context.putImageData(this.image, 0, 0);
+    if (bottom < 0) return;
+    this.context.putImageData(this.image, 0, 0, 8 * left, top, 8 * (right - left + 1), bottom - top + 1);
   }
 }
 

@@ -35,8 +35,8 @@ import { Spectator } from './watching.mjs';
  * @typedef {Opened | Frame | Over | Refused | { is: 'journal', bytes: Uint8Array | null } | { is: 'left', screen: Uint8Array | null }} FromWorker
  */
 
-/** After how many frames the page learns how the match stands, if nothing else has changed. */
-const ROW_EVERY = 6;
+/** After how many frames the page learns how the match stands, if nothing else has changed: a quarter of a second. */
+const ROW_EVERY = 15;
 
 /** A module with a memory of 64 bits, and nothing else. */
 const MEMORY64 = Uint8Array.of(0, 0x61, 0x73, 0x6d, 1, 0, 0, 0, 5, 3, 1, 4, 1);
@@ -217,6 +217,8 @@ class Play {
     this.keys = 0;
     this.screen = new Uint8Array(0);
     this.sounds = false;
+    /** @type {Standing | ''} */
+    this.standing = '';
     this.frames = 0;
     this.beat = new Beat(performance.now());
     this.timer = 0;
@@ -231,19 +233,20 @@ class Play {
       this.show();
       if (this.match.first.isOver()) return this.end();
     }
-    this.timer = setTimeout(() => this.run(), Math.max(0, this.beat.due() - performance.now()));
+    // timers count whole milliseconds, and one that comes too early would be set twice
+    this.timer = setTimeout(() => this.run(), Math.max(0, Math.ceil(this.beat.due() - performance.now())));
   }
 
-  /** Tells the page what has changed: the picture and the tone at once, the rest now and then. */
+  /** Paints the picture, and tells the page what has changed: the tone and the relay at once, the rest now and then. */
   show() {
-    const { first, standing } = this.match, { session } = first, screen = session.screen(), sounds = session.tone() > 0;
-    const isNew = screen.some((it, place) => it !== this.screen[place]), isDue = this.frames++ % ROW_EVERY === 0;
-    if (!isNew && sounds === this.sounds && !isDue) return;
+    const { first, standing } = this.match, { session } = first, { picture } = this, screen = session.screen(), sounds = session.tone() > 0;
+    const isNew = !picture && screen.some((it, place) => it !== this.screen[place]), isDue = this.frames++ % ROW_EVERY === 0;
     this.screen = screen;
-    if (this.picture && isNew) this.picture.screen = screen, this.picture.paint();
-    if (this.picture && sounds === this.sounds && !isDue) return;
+    if (picture) picture.screen = screen, picture.paint();
+    if (!isNew && !isDue && sounds === this.sounds && standing === this.standing) return;
     this.sounds = sounds;
-    post({ is: 'frame', screen: isNew && !this.picture ? screen : null, sounds, row: this.match.row(), relay: standing });
+    this.standing = standing;
+    post({ is: 'frame', screen: isNew ? screen : null, sounds, row: this.match.row(), relay: standing });
   }
 
   /** Says how the match ended, and closes it. */

@@ -127,6 +127,15 @@ class Bench:
         self.shown.append(page)
         return page
 
+    def told(self, body):
+        """What a script returns that runs in an empty page of the relay's. A fault of it is raised."""
+        page = self.browser.page(f"http://127.0.0.1:{self.port}/none.game")
+        self.shown.append(page)
+        said = page.value(f"(async () => JSON.stringify({{ told: await (async () => {{ {body} }})() }}))()")
+        if not said.startswith("{"):
+            raise RuntimeError(said)
+        return json.loads(said)["told"]
+
     def close(self):
         for it in self.shown:
             try:

@@ -115,7 +115,7 @@ def buttons(bench):
     os.remove(path)
 
 
-RELAY = """(async () => {
+RELAY = """
     const { Relay } = await import('/relay.mjs'), told = [], heard = [], sockets = [], seen = [];
     globalThis.WebSocket = class {
         static OPEN = 1;
@@ -159,21 +159,13 @@ RELAY = """(async () => {
     sockets.at(-1).onopen();
     note();
     relay.close();
-    return JSON.stringify({ seen, carried, count: sockets.length, urls: sockets.map(it => it.url).join() });
-})()"""
-
-
-def told(bench, script):
-    """What a script says in an empty page, as an object; the fault as its first part if it fails. And the page."""
-    page = bench.browser.page(f"http://127.0.0.1:{bench.port}/none.game")
-    bench.shown.append(page)
-    said = page.value(script)
-    return page, json.loads(said) if said.startswith("{") else {"fault": said}
+    return { seen, carried, count: sockets.length, urls: sockets.map(it => it.url).join() };
+"""
 
 
 def answers(bench):
     """The page says JOINs for both of its seats, and does with each answer of a relay what PROTOCOL says. The relay is one of this test."""
-    page, came = told(bench, RELAY)
+    came = bench.told(RELAY)
     joins = lambda cookie: f"0 40 0 {cookie},1 40 100 {cookie}"
     several = lambda count, cookie=9: ",".join([joins(cookie)] * count)
     wanted = [
@@ -183,14 +175,12 @@ def answers(bench):
         [several(4), "busy"], [several(1), "joined"], [f"{joins(9)},{joins(7)}", ""], [joins(7), "full"],
         # five seconds without an answer; then another connection, which begins again
         [several(5, 7), ""], ["", "away"], [joins(7), ""]]
-    check("what the page says to a relay", came.get("seen") == wanted, came, wanted)
-    check("what it carries", came.get("carried") == ["67,56,1", "1,2,3"], came.get("carried"))
-    check("how often it connects", (came.get("count"), came.get("urls")) == (2, "ws://relay,ws://relay"), came)
-    page.close()
-    bench.shown.remove(page)
+    check("what the page says to a relay", came["seen"] == wanted, came, wanted)
+    check("what it carries", came["carried"] == ["67,56,1", "1,2,3"], came["carried"])
+    check("how often it connects", (came["count"], came["urls"]) == (2, "ws://relay,ws://relay"), came)
 
 
-PACE = """(async () => {
+PACE = """
     const { Beat, Match } = await import('/match.mjs'), beat = new Beat(100), due = [], ticks = [];
     for (let it = 0; it < 4; it++) due.push(beat.due()), beat.begin(beat.due());
     // five frames late: they are made up for; six: they are not
@@ -219,20 +209,20 @@ PACE = """(async () => {
         }
     const paused = ticks.length;
     match.frame(null);
-    return JSON.stringify({ due, late, left, isPaused: paused === ticks.length });
-})()"""
+    return { due, late, left, isPaused: paused === ticks.length };
+"""
 
 
 def pace(bench):
     """When frames are due; and which ticks a player leaves out that is ahead of the others."""
-    _, came = told(bench, PACE)
+    came = bench.told(PACE)
     frame = 1000 / 60
     near = lambda one, other: len(one) == len(other) and all(abs(a - b) < 0.001 for a, b in zip(one, other))
-    check("when frames are due", near(came.get("due", []), [100 + it * frame for it in range(4)]), came)
+    check("when frames are due", near(came["due"], [100 + it * frame for it in range(4)]), came)
     # after the late one the clock begins again where it was begun
-    check("frames that are late", near(came.get("late", []), [frame, 6.5 * frame]), came.get("late"))
-    check("which ticks are left out", came.get("left") == [189, 249], came.get("left"))
-    check("no tick without keys", came.get("isPaused") is True, came.get("isPaused"))
+    check("frames that are late", near(came["late"], [frame, 6.5 * frame]), came["late"])
+    check("which ticks are left out", came["left"] == [189, 249], came["left"])
+    check("no tick without keys", came["isPaused"] is True, came["isPaused"])
 
 
 def draws(bench):

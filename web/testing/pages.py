@@ -39,7 +39,6 @@ def examples():
 
 def links(bench):
     """Links, SHA-256 and HMAC against Python's, and the session against the one that the module writes."""
-    page = bench.browser.page(f"http://127.0.0.1:{bench.port}/none.game")
     text = bench.page.read(f"{bench.pages}/rally.game").encode()
     long = spelt(bytes([1, 2]) + (2**63 + 9).to_bytes(8, "big") + SECRET + text[:3000])
     short = f"{2**64 - 1}.{spelt(SECRET)}.2.rally"
@@ -50,12 +49,12 @@ def links(bench):
     wrong = ["", "a", long[:-3], long + "A", spelt(bytes([2, 2]) + bytes(50)), "A" * 8193]
     wrong += [spelt(bytes([1, 0]) + bytes(50)), spelt(bytes([1, 7]) + bytes(50)), spelt(bytes([1, 2]) + bytes(40)), short + ".", short + "/"]
     wrong += ["." + short, short.replace(".2.", ".7."), short.replace("1844", "18446"), "0" + short, short[:-6]]
-    said = json.loads(page.value(f"""(async () => {{
+    said = bench.told(f"""
         const L = await import('/link.mjs'), C = await import('/c8.mjs'), bytes = n => Uint8Array.from({{ length: n }}, (_, i) => i * 7 + n);
         const text = new Uint8Array(await (await fetch('/rally.game')).arrayBuffer()), rules = L.rulesOf(text);
         const c8 = await C.load(await (await fetch('/c8.wasm')).arrayBuffer()), hello = c8.open(text, 1, 9n).say(2, C.HELLO);
         const read = it => {{ const l = L.readLink(it); return l && [l.seat, String(l.room), L.hex(l.secret), l.game, l.text && l.text.length] }};
-        return JSON.stringify({{
+        return {{
             hashes: [...Array(200).keys()].map(n => L.hex(L.sha256(bytes(n)))),
             macs: [...Array(64).keys()].map(n => L.hex(L.hmac(bytes(n), bytes(3 * n)))),
             id: L.hex(L.gameId(rules)), session: L.hex(L.sessionOf(rules, 9n)), hello: L.hex(hello.slice(4, 12)),
@@ -64,7 +63,7 @@ def links(bench):
             worked: read({json.dumps(worked)}), longest: read({json.dumps(spelt(bytes([1, 2]) + bytes(6142)))}),
             watchers: L.hex(L.watchersSecret(bytes(32).map((_, i) => i))),
             speltLong: L.spellLong({{ seat: 2, room: 2n ** 63n + 9n, secret: bytes(32).map((_, i) => i), text: text.slice(0, 3000) }}),
-        }}); }})()"""))
+        }};""")
     data = lambda n: bytes((i * 7 + n) % 256 for i in range(n))
     session = session_of(bench.game_id("rally"), 9)
     check("SHA-256", said["hashes"] == [hashlib.sha256(data(n)).hexdigest() for n in range(200)])
@@ -78,7 +77,6 @@ def links(bench):
     check("a link of 8192 characters", said["longest"] == [2, "0", bytes(32).hex(), None, 6102], said["longest"])
     check("the watchers' secret", said["watchers"] == hmac.digest(SECRET, b"c8play watchers 1", "sha256").hex() and said["watchers"] in formats())
     check("wrong links", said["wrong"] == [None] * len(wrong), said["wrong"])
-    page.close()
 
 
 def agree(bench):
@@ -96,14 +94,12 @@ def agree(bench):
         shutil.copy(it, f"{bench.folder}/pages/agree-{os.path.basename(it)}")
     bench.stop_relay()
     bench.start_relay()
-    page = bench.browser.page(f"http://127.0.0.1:{bench.port}/none.game")
     modules = [it for it in ("c8.wasm", "c8-32.wasm") if os.path.exists(f"{PAGES}/{it}")]
     for module in modules:
         names = json.dumps([f"/agree-{os.path.basename(it)}" for it in games])
-        said = page.value(f"""(async () => {{
+        told[f"{module} in Chromium"] = bench.told(f"""
             const get = async it => new Uint8Array(await (await fetch(it)).arrayBuffer()), {{ agree }} = await import('/agree.mjs');
-            return JSON.stringify(await agree(await get('/{module}'), await Promise.all({names}.map(get)))); }})()""")
-        told[f"{module} in Chromium"] = json.loads(said) if said.startswith("[") else said
+            return agree(await get('/{module}'), await Promise.all({names}.map(get)));""")
         if shutil.which("node"):
             # node 20 has a memory of 64 bits only if asked
             flags = ["--experimental-wasm-memory64"] if module == "c8.wasm" else []
@@ -113,7 +109,6 @@ def agree(bench):
                 print("  this node does not read c8.wasm")
             else:
                 told[f"{module} in node"] = ran.stdout.split("\n")[:-1] or [ran.stderr]
-    page.close()
     first = next(iter(told.values()))
     are_equal = len(first) == len(games) + 1 and all(it == first for it in told.values())
     check("all modules agree", are_equal, *(f"\n{name}: {it}" for name, it in told.items()))
@@ -136,8 +131,7 @@ def rows(bench):
              sealed(show(0, 2)[:-1]), sealed(b"X" + show(0, 2)[1:])]
     good = [(show(3, 1), 0), (show(0, 2), 2), (show(0, 2), 2), (show(1, 3), 4), (show(6, 2), 4), (show(4, 16), 20), (show(0, 0), 20),
             (show(20, 9), 24)]
-    page = bench.browser.page(f"http://127.0.0.1:{bench.port}/none.game")
-    said = json.loads(page.value(f"""(async () => {{
+    said = bench.told(f"""
         const L = await import('/link.mjs'), {{ Spectator }} = await import('/watching.mjs'), bytes = it => L.unspell(it);
         const rules = L.rulesOf(new Uint8Array(await (await fetch('/trails.game')).arrayBuffer()));
         const it = new Spectator(6, {{ ...rules, frames: 24 }}, bytes('{spelt(session)}'), bytes('{spelt(SECRET)}'));
@@ -145,20 +139,18 @@ def rows(bench):
         it.counter = 9n;
         const seen = L.hex(it.seen());
         const good = {json.dumps([spelt(sealed(packet)) for packet, _ in good])}.map(packet => [it.take(bytes(packet)), it.rows.length]);
-        return JSON.stringify({{ wrong, seen, good, last: L.hex(it.seen()), rows: it.rows }}); }})()"""))
+        return {{ wrong, seen, good, last: L.hex(it.seen()), rows: it.rows }};""")
     told = lambda count: b"C8\x01\x08" + session + bytes([6, 1]) + struct.pack(">HIII", 4, 0, 0, count)
     seen = lambda count, counter: sealed(told(count), counter=struct.pack(">Q", counter))
     check("wrong packets", said["wrong"] == [False] * len(wrong), said["wrong"])
     check("what it takes", said["good"] == [[True, count] for _, count in good], said["good"])
     check("its rows", said["rows"] == [list(struct.unpack(">4H", row(frame))) for frame in range(24)], said["rows"])
     check("what it says", (said["seen"], said["last"]) == (seen(0, 9).hex(), seen(24, 10).hex()), said)
-    page.close()
 
 
 def memory(bench):
     """web/page.c gives blocks that do not overlap, and takes them back; a journal's file fails where JavaScript says so."""
-    page = bench.browser.page(f"http://127.0.0.1:{bench.port}/none.game")
-    said = page.value("""(async () => {
+    said = bench.told("""
         const { load } = await import('/c8.mjs'), c8 = await load(await (await fetch('/c8.wasm')).arrayBuffer());
         const x = c8.exports, before = x.page_blocks();
         const live = new Map(), chance = n => Math.floor(Math.random() * n);
@@ -177,10 +169,8 @@ def memory(bench):
         let closed = 0, why = 0;
         const file = { read: fails, write: fails, flush: fails, getSize: () => 0, close: () => closed++ };
         try { c8.openJournal(text, 1, 1n, 0, file); } catch (refusal) { why = refusal.number; }
-        return x.page_blocks() === before || x.page_blocks() - before < 8n ? `${why}, closed ${closed}` : 'blocks are left';
-    })()""")
+        return x.page_blocks() === before || x.page_blocks() - before < 8n ? `${why}, closed ${closed}` : 'blocks are left';""")
     check("memory and files", said == "1301, closed 1", said)
-    page.close()
 
 
 def wrong(bench):
