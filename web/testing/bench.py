@@ -134,7 +134,7 @@ class Bench:
         said = page.value(f"(async () => JSON.stringify({{ told: await (async () => {{ {body} }})() }}))()")
         if not said.startswith("{"):
             raise RuntimeError(said)
-        return json.loads(said)["told"]
+        return json.loads(said).get("told")
 
     def close(self):
         for it in self.shown:

@@ -9,7 +9,7 @@ from bench import check
 MATCH = """
     const C = await import('/c8.mjs'), {{ openJournal }} = await import('/journal.mjs'), L = await import('/link.mjs'), {{ Match }} = await import('/match.mjs');
     const get = async it => new Uint8Array(await (await fetch(it)).arrayBuffer()), c8 = await C.load(await get('/c8.wasm'));
-    const text = await get('/rally.game'), rules = L.rulesOf(text), FRAMES = 40, RECORDS = 30;
+    const text = await get('/rally.game'), rules = L.rulesOf(text), FRAMES = 24, RECORDS = 20;
     const fileOf = bytes => {{
         const it = {{
             bytes, close() {{}}, flush() {{}}, getSize: () => it.bytes.length,
@@ -96,8 +96,8 @@ MATCH = """
 SLOT = 144
 # Where the journal is cut with which the page begins, and how many inputs of each player it has then at least; and whether the opening has to
 # close the gate there. The slot there has no gate, or an open one, or with it a part of a body. The first journal is new, the last one whole.
-CUTS = [("0", -1, True), (f"{SLOT} * RECORDS", 9, True), (f"{SLOT} * RECORDS + 1", 9, True), (f"{SLOT} * RECORDS + 70", 9, True),
-        ("before.bytes.length", 38, False)]
+CUTS = [("0", -1, True), (f"{SLOT} * RECORDS", 6, True), (f"{SLOT} * RECORDS + 1", 6, True), (f"{SLOT} * RECORDS + 70", 6, True),
+        ("before.bytes.length", 22, False)]
 
 
 def saves(bench):

@@ -1,4 +1,5 @@
 """Matches between pages. Each ends with equal reports."""
+import glob
 import hmac
 import os
 import re
@@ -256,9 +257,31 @@ def unkept(bench):
     says(one, "then", "This browser keeps no files")
 
 
+# A worker that paints a ball on a canvas as often as a match does, and nothing else: what a picture costs whoever shows it.
+BARE = """import { Picture } from './picture.mjs';
+onmessage = ({ data }) => {
+    const picture = new Picture(data), begun = performance.now();
+    let frame = 0;
+    const paint = () => {
+        picture.screen = new Uint8Array(256);
+        picture.screen[8 * (frame % 32) + 4] = 0x80;
+        picture.paint();
+        setTimeout(paint, Math.max(0, Math.ceil(begun + ++frame * 1000 / 60 - performance.now())));
+    };
+    picture.become({ dark: 0xffffffff, lit: 0xff000000 });
+    paint();
+};"""
+SHOWN = """const canvas = Object.assign(document.createElement('canvas'), { width: 64, height: 32 });
+canvas.style = 'width: 960px; image-rendering: pixelated';
+document.body.append(canvas);
+const given = canvas.transferControlToOffscreen();
+new Worker('/bare.mjs', { type: 'module' }).postMessage(given, [given]);"""
+
+
 def cost(bench):
     """What a page takes of a processor that plays with 200 ms of round trip, its link included: that of its own process. The other page is
-    in another browser."""
+    in another browser. And what a page takes that only paints a picture as often: a browser paints in the page's process as well."""
+    bench.page.write(f"{bench.pages}/bare.mjs", BARE)
     bench.stop_relay()
     bench.start_relay(delay=100)
     bench.next_room()
@@ -267,22 +290,50 @@ def cost(bench):
         two = other.page(bench.link(2, "paddles"))
         one = bench.open(1, "paddles")
         check("both play", is_playing(one) and is_playing(two))
-        begun, before, was = time.monotonic(), times(bench), left(one)
-        until = begun + 10
-        while time.monotonic() < until:
+        was = left(one)
+
+        def press():
             # the other one's keys change, so that there is something to roll back
             for page in (one, two):
                 page.key(bench.chance.choice(KEYS[1][:2] if page is one else KEYS[2][:2]), bench.chance.random() < 0.5)
-            time.sleep(0.2)
-        passed = time.monotonic() - begun
-        parts = {name: 100 * (spent - before.get(name, 0)) / passed for name, spent in times(bench).items()}
-        told = ", ".join(f"{part:.1f} % {kind} ({pid})" for (kind, pid), part in parts.items() if part >= 0.5)
-        page = max((part for (kind, _), part in parts.items() if kind == "renderer"), default=0)
+        passed, parts = measured(bench, press)
+        told, page = ", ".join(f"{part:.1f} % {kind} ({pid})" for (kind, pid), part in parts.items() if part >= 0.5), part_of_page(parts)
         check("it plays 60 frames a second", abs(RATE * (was - left(one)) / passed - RATE) < 10, was, left(one), passed)
         check("a page takes little", 0 < page < MOST_COST, f"{page:.1f} %")
         print(f"  a page takes {page:.1f} % of a processor; all processes of its browser: {told}; {one.text('numbers')}")
+        bench.close()
+        bench.told(SHOWN)
+        print(f"  a page that only paints takes {part_of_page(measured(bench)[1]):.1f} %")
     finally:
         other.close()
+
+
+def measured(bench, act=lambda: None, seconds=10):
+    """How many seconds passed, and the percents of a processor that each process of the browser took, by its kind and number, while
+    something is done five times a second."""
+    begun, before = time.monotonic(), times(bench)
+    while time.monotonic() < begun + seconds:
+        act()
+        time.sleep(0.2)
+    passed = time.monotonic() - begun
+    return passed, {name: 100 * (spent - before.get(name, 0)) / passed for name, spent in times(bench).items()}
+
+
+def part_of_page(parts):
+    """What the page takes: the process that has a worker. A browser has processes in reserve for other pages."""
+    return sum(part for (kind, pid), part in parts.items() if kind == "renderer" and "DedicatedWorker" in threads(pid))
+
+
+def threads(pid):
+    """The names of a process's threads."""
+    names = []
+    for it in glob.glob(f"/proc/{pid}/task/*/comm"):
+        try:
+            with open(it, encoding="utf-8") as name:
+                names.append(name.read().strip())
+        except OSError:
+            pass  # it has ended
+    return names
 
 
 def times(bench):
