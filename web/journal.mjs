@@ -139,7 +139,8 @@ class Kept extends Held {
 
   /** @param {number} at where a gate was opened, or closed by an opening */
   addGate(at) {
-    const last = this.steps.at(-1), end = Math.max(at + 1, this.end), isNext = last && last.bytes.length > 1 && last.at + last.bytes.length - 1 === at;
+    const last = this.steps.at(-1), end = Math.max(at + 1, this.end);
+    const isNext = last && last.bytes.length > 1 && last.at + last.bytes.length - 1 === at;
     if (isNext) last.bytes = this.bytes.slice(last.at, end);
     else this.steps.push({ at, bytes: this.bytes.slice(at, end) });
   }

@@ -19,7 +19,8 @@ class Site:
     """Serves a folder, with the cache headers of docs/HOSTING.md; counts what is asked for, and is away when told so."""
 
     def __init__(self, folder):
-        self.asked, self.is_away = {}, False
+        self.asked: dict[str, int] = {}
+        self.is_away = False
         site = self
 
         class Handler(http.server.SimpleHTTPRequestHandler):

@@ -7,7 +7,8 @@ from bench import check
 # page's keeper runs in this page. Then the journal is opened again from what a crash may leave: all that was waited for, and of the
 # writes after it any, whole or in part.
 MATCH = """
-    const C = await import('/c8.mjs'), {{ openJournal }} = await import('/journal.mjs'), L = await import('/link.mjs'), {{ Match }} = await import('/match.mjs');
+    const C = await import('/c8.mjs'), L = await import('/link.mjs'), {{ Match }} = await import('/match.mjs');
+    const {{ openJournal }} = await import('/journal.mjs');
     const get = async it => new Uint8Array(await (await fetch(it)).arrayBuffer()), c8 = await C.load(await get('/c8.wasm'));
     const text = await get('/rally.game'), rules = L.rulesOf(text), FRAMES = 24, RECORDS = 20;
     const fileOf = bytes => {{
@@ -39,7 +40,8 @@ MATCH = """
 
     // the page's keeper over a disk
     const calls = [], saves = [];
-    const handle = {{ ...fileOf(start), write: (bytes, {{ at }}) => (calls.push({{ at, bytes: bytes.slice() }}), bytes.length), flush: () => calls.push(null) }};
+    const write = (bytes, {{ at }}) => {{ calls.push({{ at, bytes: bytes.slice() }}); return bytes.length; }};
+    const handle = {{ ...fileOf(start), write, flush: () => calls.push(null) }};
     navigator.storage.getDirectory = async () => ({{
         async *values() {{}}, getFileHandle: async () => ({{ createSyncAccessHandle: async () => handle }}) }});
     let worker;

@@ -173,6 +173,25 @@ def memory(bench):
     check("memory and files", said == "1301, closed 1", said)
 
 
+def paints(bench):
+    """A canvas shows each screen, whatever it showed before, in the colors of the page."""
+    wrong = bench.told("""
+        const { Picture } = await import('/picture.mjs'), canvas = new OffscreenCanvas(64, 32), picture = new Picture(canvas), wrong = [];
+        const colors = [{ dark: 0xffffffff, lit: 0xff000000 }, { dark: 0xff332211, lit: 0xffddeeff }], chance = n => Math.floor(n * Math.random());
+        picture.become(colors[0]);
+        for (let it = 0; it < 400; it++) {
+            const screen = picture.screen.slice();
+            for (let count = it % 4; count > 0; count--) screen[chance(256)] ^= 1 << chance(8);
+            picture.screen = screen;
+            if (it % 50 === 49) picture.become(colors[it % 100 === 49 ? 1 : 0]);
+            else picture.paint();
+            const points = new Uint32Array(canvas.getContext('2d').getImageData(0, 0, 64, 32).data.buffer), { dark, lit } = picture.colors;
+            if (points.some((point, at) => point !== (screen[at >> 3] >> (7 - at % 8) & 1 ? lit : dark))) wrong.push(it);
+        }
+        return wrong;""")
+    check("each screen is shown", wrong == [], wrong)
+
+
 def wrong(bench):
     """What the page says where it cannot begin."""
     bench.next_room()
