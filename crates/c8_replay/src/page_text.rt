@@ -109,6 +109,7 @@ pub(crate) const AFTER_PICTURES: &str = r##"</script>
 <script>
 "use strict";
 const COLUMNS = 64, ROWS = 32;
+const BYTES = COLUMNS / 8;
 class Picture {
   constructor(canvas) {
     this.context = (canvas.getContext('2d'));
@@ -124,11 +125,18 @@ class Picture {
     this.paint();
   }
   paint() {
-    const { screen, colors: { dark, lit } } = this;
-    if (screen === this.painted) return;
+    const { screen, painted, colors: { dark, lit } } = this;
+    let left = BYTES, right = -1, top = ROWS, bottom = -1;
+    for (let place = 0; place < screen.length; place++) {
+      if (painted?.[place] === screen[place]) continue;
+      const row = Math.floor(place / BYTES), column = place % BYTES;
+      for (let it = 0; it < 8; it++) this.points[8 * place + it] = screen[place] >> (7 - it) & 1 ? lit : dark;
+      left = Math.min(left, column), right = Math.max(right, column);
+      top = Math.min(top, row), bottom = row;
+    }
     this.painted = screen;
-    for (let it = 0; it < COLUMNS * ROWS; it++) this.points[it] = screen[it >> 3] >> (7 - (it & 7)) & 1 ? lit : dark;
-    this.context.putImageData(this.image, 0, 0);
+    if (bottom < 0) return;
+    this.context.putImageData(this.image, 0, 0, 8 * left, top, 8 * (right - left + 1), bottom - top + 1);
   }
 }
 function followColors(tell) {
