@@ -15,7 +15,7 @@
  * What a caller owes; what a call does otherwise is undefined:
  * - A session starts as {0}. Never change `at`, and keep one live copy: pass pointers.
  * - One call at a time on a session. Sessions share nothing, so each may be used by a thread of its own. After fork() a
- *   child uses none of its parent's sessions, and closes none.
+ *   child uses none of its parent's sessions, and closes none; no thread forks while another opens a session.
  * - A pointer is not null (but for c8_deliver of no bytes), and points to as many bytes as its length or array bound says. Two pointers of one call that
  *   the call writes to do not overlap each other or what it reads.
  *
@@ -35,8 +35,8 @@
 
 /* The version of the library that this header is for; as a number, a byte for each part. docs/EMBEDDING.md says what may
  * change between versions. */
-#define C8_VERSION "0.2.1"
-#define C8_VERSION_NUMBER 0x000201
+#define C8_VERSION "0.2.2"
+#define C8_VERSION_NUMBER 0x000202
 
 #ifdef __cplusplus
 extern "C" {
@@ -64,6 +64,7 @@ enum {
     C8_SEEN_BEFORE = 104,    /* a packet that came before, or is too old to tell */
     C8_BAD_SECRET = 105,     /* the watchers' secret is that of the players, or not 32 bytes */
     C8_SEALED_ALREADY = 106, /* the session has a secret already */
+    C8_REPLAY = 107,         /* the session is a replay: it only reads */
     C8_THRESHOLD = 401,      /* too far ahead of what is confirmed: tick this input again later */
     C8_END = 402,            /* the last frame was ticked */
     C8_DROPPED = 403,        /* player 1 has dropped this player */
@@ -124,14 +125,16 @@ enum {
 
 /* Opens the session of a player, 1 to 4, in a match: the text of a game (docs/FORMATS.md, or c8_rules) and a room, a
  * number that all players of the match share. The journal is in memory. Opening over an open session closes that one,
- * unless it is refused. The rules of the game, some hundred bytes and its program, are never given back. Use a room once.
+ * unless it is refused. An opening that is refused gives back all memory that it took, and so does a close. Openings of several
+ * threads wait for each other. Use a room once.
  *
  * Only player 1 drops players, and nobody drops player 1: a match without it waits, and ends there if it does not come
- * back. Player 1 drops a player who was silent for `patience` turns after its link opened; 0 never. It waits for ever for
- * the first link: c8_patience changes both. At the sessions of other players `patience` does nothing.
+ * back. Player 1 drops a player who was silent for `patience` turns after its link opened, or milliseconds if c8_clock tells
+ * the time; 0 never. It waits for ever for the first link: c8_patience changes both. At the sessions of other players `patience` does nothing.
  *
- * It reserves 144 bytes for each record of the journal: players times frames, 37 for each 3,600 frames, and 65,536 more.
- * That is 9.6 MB for two players and 600 frames, 161 MB for four and 262,144; what is not used is not touched. */
+ * It reserves 144 bytes for each record of the journal: players times frames, 37 for each 3,600 frames, and 16,384 more: so
+ * often a journal can be opened. That is 2.6 MB for two players and 600 frames, 154 MB for four and 262,144; what is not
+ * used is not touched. */
 c8_answer c8_open(const uint8_t *text, size_t length, uint8_t player, uint64_t room, uint32_t patience, c8_session *);
 
 /* The same over a journal in a file, from which a crashed program goes on where it was: with the same text, player and
@@ -147,10 +150,31 @@ c8_answer c8_open_journal(const uint8_t *text, size_t length, uint8_t player, ui
  * compile c8_journal.c with the program. */
 int c8_journal_open(const char *path, int32_t *file, int32_t *folder);
 
+/* Opens a replay of a match: a session that only reads a journal, of the player and the room that the journal names. Call
+ * c8_step until it returns fewer rows than fit, as after any opening: that gives all frames up to c8_ticked. The rows below
+ * c8_confirmed are final, those above have guesses. c8_status, c8_player, c8_event and CHIP-8's own machine tell what they
+ * tell of the session whose journal it is; c8_epoch is one more than its openings.
+ *
+ * The file is read once, by this call. It is not locked and never changed, and no epoch begins in it: its session may be
+ * open and go on, and the replay has what the file held. The calls that play or send are refused with C8_REPLAY: c8_deliver,
+ * c8_tick, c8_turn, c8_watched, c8_patience, c8_clock, c8_end, c8_say, c8_leave, c8_decide, c8_checkpoint and c8_secrets; c8_next and
+ * c8_wait return 0. It takes a descriptor that is open to read, as of c8_journal_read, and closes it, also when it refuses:
+ * with 301 if the journal is of another game, with 303 if a record is wrong or there is none. */
+c8_answer c8_replay_open(const uint8_t *text, size_t length, int32_t file, c8_session *);
+
+/* Opens the file at this path to read, as c8_journal_open does; but it makes no file. */
+int c8_journal_read(const char *path, int32_t *file);
+
 /* From now on player 1 drops a player who was silent for `later` turns, and one that was never heard over an open link for
- * `first` turns since the opening; 0 never. After an opening `first` is 0. Count them in turns of the present rate. Refused
- * with C8_CLOSED. */
+ * `first` turns since the opening; 0 never. After an opening `first` is 0. Count them in turns of the present rate, or give
+ * the session a clock: then they are milliseconds. Refused with C8_CLOSED. */
 c8_answer c8_patience(c8_session *, uint32_t first, uint32_t later);
+
+/* Tells the session the time in milliseconds, since any moment. Call it once a frame, before the deliveries, if at all. From
+ * the first call on, the numbers of an opening and of c8_patience are milliseconds, `first` since that call. So players with
+ * other rates of frames drop after the same time. A time before the last one counts as the last one. Everything else still
+ * counts turns: `silent`, C8_EVENT_INTERRUPTED and the end. Refused with C8_CLOSED. */
+c8_answer c8_clock(c8_session *, uint64_t milliseconds);
 
 /* The match ends after this many frames, no more than those of the game, as the engine's own machine says. All players name
  * the same frame, since their machines agree once it is confirmed. From then on the session is over by the rule of the last

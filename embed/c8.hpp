@@ -63,6 +63,14 @@ struct Journal {
     std::int32_t file = -1, folder = -1;
 };
 
+// The file of a journal, open to read, as c8_replay_open takes it.
+struct Recording {
+    explicit Recording(const char *path) {
+        if (c8_journal_read(path, &file)) throw std::runtime_error(std::string("the journal cannot be read: ") + path);
+    }
+    std::int32_t file = -1;
+};
+
 struct Packet {
     std::array<std::uint8_t, C8_PACKET> room;
     std::uint32_t length = 0;
@@ -92,6 +100,8 @@ public:
     Session(std::string_view text, std::uint8_t player, std::uint64_t room, std::uint32_t patience, const Journal &journal) {
         done(c8_open_journal(start(text), text.size(), player, room, patience, journal.file, journal.folder, &handle));
     }
+    // A replay of a journal: it only reads. Calls that play throw C8_REPLAY, or answer it.
+    Session(std::string_view text, const Recording &recording) { done(c8_replay_open(start(text), text.size(), recording.file, &handle)); }
     Session(Session &&other) noexcept : handle(std::exchange(other.handle, c8_session{})) {}
     Session &operator=(Session &&other) noexcept {
         std::swap(handle, other.handle);
@@ -107,6 +117,7 @@ public:
     void turn() { done(c8_turn(&handle)); }
     // How many ticks to leave out in this frame: once a frame, before the tick.
     std::uint32_t wait() { return c8_wait(&handle); }
+    void clock(std::uint64_t milliseconds) { done(c8_clock(&handle, milliseconds)); }
     void patience(std::uint32_t first, std::uint32_t later) { done(c8_patience(&handle, first, later)); }
     void end(std::uint32_t frames) { done(c8_end(&handle, frames)); }
     // The next packet of this turn, until there is none.

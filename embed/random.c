@@ -117,7 +117,21 @@ static uint32_t any_patience(void) {
     return some[roll(8)];
 }
 
+/* A replay of the journal that another session may have open: it has a later epoch than the journal. */
+static void open_replay(c8_session *s) {
+    int32_t file;
+    if (c8_journal_read(journal, &file)) return;
+    openings++;
+    if (answered(c8_replay_open(text, text_length, file, s))) return;
+    is_sealed[s - sessions] = false;
+    if (c8_epoch(s) < 2 || c8_tick(s, 1) != C8_REPLAY) fail("a replay plays", c8_epoch(s));
+}
+
 static void open_one(int i) {
+    if (i == 3 && roll(3) == 0) {
+        open_replay(&sessions[i]);
+        return;
+    }
     uint8_t player = i < 4 && roll(16) ? (uint8_t)(i % 3 + 1) : (uint8_t)roll(7);
     uint64_t match = i < 3 ? 1 : roll(3);
     uint32_t why;
@@ -238,6 +252,7 @@ static void tell(c8_session *s) {
     answered(c8_status(s, (uint32_t)roll(2100), clear()));
     untouched(4);
     if (!roll(50)) answered(c8_patience(s, any_patience(), any_patience()));
+    if (!roll(100)) answered(c8_clock(s, roll(100000)));
     if (!roll(200)) answered(c8_end(s, (uint32_t)roll(3000)));
 }
 
@@ -468,13 +483,13 @@ int main(int count, char **words) {
     what = "the end";
     for (int i = 0; i < SESSIONS; i++) c8_close(&sessions[i]);
     if (taken < openings) fail("memory that c8_memory does not see", taken);
-    if (taken - given_back > 2 * openings) fail("lost memory", taken - given_back);
+    if (taken != given_back) fail("lost memory", taken - given_back);
     remove(journal);
     printf("random: %" PRIu64 " calls, fine\n", calls);
     fprintf(stderr,
             "openings %" PRIu64 ", ticks %" PRIu64 ", rows %" PRIu64 ", packets kept %" PRIu64 ", refused %" PRIu64
-            ", not sealed %" PRIu64 ", seen before %" PRIu64 ", dropped %" PRIu64 ", blocks lost %" PRIu64 "\n",
-            openings, ticks, rows, heard, refusals, unsealed, repeated, drops, taken - given_back);
+            ", not sealed %" PRIu64 ", seen before %" PRIu64 ", dropped %" PRIu64 "\n",
+            openings, ticks, rows, heard, refusals, unsealed, repeated, drops);
     if (most >= 100000 && (!unsealed || !repeated)) fail("no packet was refused as one", unsealed);
     return 0;
 }

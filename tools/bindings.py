@@ -16,7 +16,7 @@ TOP = os.path.dirname(os.path.dirname(os.path.realpath(__file__)))
 DOCUMENT, BEGIN, END = f"{TOP}/docs/EMBEDDING.md", "<!-- tools/bindings.py -->", "<!-- end -->"
 # What a binding does without: an engine's own memory is for C, and a page's journal is a file that JavaScript opened.
 WITHOUT = {("c8_memory", "C++"), ("c8_memory", "Rust"), ("c8_memory", "Python"), ("c8_memory", "JavaScript"),
-           ("c8_journal_open", "JavaScript"), ("c8_journal_open", "Rust")}
+           ("c8_journal_open", "JavaScript"), ("c8_journal_open", "Rust"), ("c8_journal_read", "JavaScript"), ("c8_journal_read", "Rust")}
 # Where the calls of a language stand, how a call looks there, and how the head of a function does.
 HEADS = {
     "C++": (["embed/c8.hpp"], r"\b(c8_\w+)\b",
@@ -25,7 +25,7 @@ HEADS = {
     "JavaScript": (["web/c8.mjs"], r"\.(c8_\w+)\(", r"^  \*?(\w+)\(.*\) \{"),
 }
 # Functions whose names say nothing to a user.
-SHOWN = {"__init__": "Session", "open_journal": "Session"}
+SHOWN = {"__init__": "Session", "open_journal": "Session", "read_journal": "replay"}
 
 
 def read(path):

@@ -12,7 +12,7 @@ C = ["-std=c11", "-O2", "-Wall", "-Wextra", "-Werror", "-ffunction-sections", f"
 # The newest version of the C library that a shared library for Linux may ask for; its README says so.
 GLIBC = (2, 33)
 # c8_journal.c is no part of these libraries: its headers are those of the system.
-NO_JOURNAL = ("macos", "ios", "android")
+NO_JOURNAL, OF_JOURNAL = ("macos", "ios", "android"), ("c8_journal_open", "c8_journal_read")
 
 
 class NotMade(Exception):
@@ -55,7 +55,7 @@ class Work:
         # before each name
         self.mark = "_" if system.startswith(("macos", "ios")) else ""
         is_partial = system.split("-")[0] in NO_JOURNAL
-        self.exported = [it for it in EXPORTED if not (is_partial and it == "c8_journal_open")]
+        self.exported = [it for it in EXPORTED if not (is_partial and it in OF_JOURNAL)]
 
     # ---- what is made of what
 
@@ -83,6 +83,8 @@ class Work:
             self.run(ar, "x", archive, name)
             # no name of an object file of ours
             os.rename(f"{self.folder}/{name}", f"{self.folder}/engine-{name}")
+            names = [word for it in sorted(retargeting.OPENINGS) for word in ("--redefine-sym", f"{it}=c8os_{it}")]
+            self.run("objcopy", *names, f"engine-{name}")
             self.objects.append(f"engine-{name}")
 
     def engine(self, target):
@@ -103,10 +105,12 @@ class Work:
         return [self.clang, "--no-default-config", f"--target={triple}", "-ffreestanding", "-nostdinc", *folders]
 
     def c(self, compiler, *names):
-        pic = [] if self.system.startswith("windows") else ["-fPIC"]
+        flags = [] if self.system.startswith("windows") else ["-fPIC"]
+        # else an atomic call needs a function of the compiler's own library
+        flags += ["-mno-outline-atomics"] if self.system in ("linux-aarch64", "android-arm64") else []
         for name in names:
             made = os.path.basename(name).replace(".c", ".o")
-            self.run(*compiler, *C, *pic, "-c", f"{NATIVE}/{name}", "-o", made)
+            self.run(*compiler, *C, *flags, "-c", f"{NATIVE}/{name}", "-o", made)
             self.objects.append(made)
 
     def pack(self, name):

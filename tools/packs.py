@@ -19,7 +19,7 @@ RUN = ("linux-x86_64", "linux-aarch64", "windows-x86_64")
 NEW = "and an x86-64 processor with SSE4.2 (2009 and newer)", "and 64-bit ARM"
 KINDS = {"libc8.a": "an archive to link into a program", "libc8.so": "a shared library", "libc8.dylib": "a shared library",
          "c8.dll": "a shared library", "c8.lib": "what links with it"}
-JOURNAL = """- `c8_journal_open` is not in the library: compile `c8_journal.c` with the program. The game over UDP needs it too:
+JOURNAL = """- `c8_journal_open` and `c8_journal_read` are not in the library: compile `c8_journal.c` with the program. The game over UDP needs it too:
   `clang -O2 -I. examples/game.c c8_journal.c lib/libc8.a -o game`."""
 APPLE = f"""{JOURNAL}
 - The shared library has the name `@rpath/libc8.dylib`. Sign it with the program.
@@ -29,7 +29,7 @@ NOTES = {
     "ios": APPLE,
     "android": f"{JOURNAL}\n- The shared library has pages of 16 KB, and needs API level 24 or newer.",
     "windows": "- `c8.dll` calls KERNEL32, msvcrt and ntdll. `c8.lib` links with it. The game over UDP also links with ws2_32 and winmm.\n"
-               "- The path of `c8_journal_open` is UTF-8. If it fails, `GetLastError` has the cause.",
+               "- The path of `c8_journal_open` and of `c8_journal_read` is UTF-8. If one fails, `GetLastError` has the cause.",
 }
 # What the C files of a library need to be compiled, by the system's first word; the compiler is trusted with the library.
 COMPILERS = {"linux-x86_64": "cc", "linux-aarch64": "aarch64-linux-gnu-gcc", "windows-x86_64": "x86_64-w64-mingw32-gcc"}

@@ -17,14 +17,14 @@
  */
 
 /** The version of this file. A module has to have the same first two numbers, and no smaller third. */
-export const VERSION = '0.2.1';
+export const VERSION = '0.2.2';
 
 /** The sizes of c8.h, in bytes; ROW is in words, ROWS in rows. */
 export const DATAGRAM = 174, PACKET = 198, PICTURE = 256, STATE = 4419, RULES = 256, ROW = 4, ROWS = 16;
 
 /** Answers that a program may test for. */
-export const CLOSED = 101, NOT_SEALED = 103, SEEN_BEFORE = 104, BAD_SECRET = 105, SEALED_ALREADY = 106, THRESHOLD = 401, END = 402,
-  DROPPED = 403, DESYNC = 814, DISK = 1301, FULL = 1302, LOCKED = 1303;
+export const CLOSED = 101, NOT_SEALED = 103, SEEN_BEFORE = 104, BAD_SECRET = 105, SEALED_ALREADY = 106, REPLAY = 107,
+  THRESHOLD = 401, END = 402, DROPPED = 403, DESYNC = 814, DISK = 1301, FULL = 1302, LOCKED = 1303;
 
 /** The kinds of `say`. */
 export const HELLO = 0, WELCOME = 1, DATA = 2, FREEZE = 3, FROZEN = 4, CUT = 5;
@@ -183,6 +183,16 @@ export class C8 {
   openJournal(text, player, room, patience, file) {
     const number = this.files.add(file);
     return this.opened((at, size, handle) => this.exports.c8_open_journal(at, size, player, room, patience, number, number + 1, handle), text);
+  }
+
+  /** Opens a replay of the journal in a file: a session that only reads, of the player and the room that the journal names. What plays or
+   * sends answers `REPLAY`. It reads the file once, and closes it with the session, or when it refuses.
+   * @param {Uint8Array} text
+   * @param {JournalFile} file
+   */
+  openReplay(text, file) {
+    const number = this.files.add(file);
+    return this.opened((at, size, handle) => this.exports.c8_replay_open(at, size, number, handle), text);
   }
 
   /** The text of a game for an engine with a machine of its own; empty if the numbers are out of range.
@@ -349,6 +359,13 @@ export class Session {
    */
   patience(first, later) {
     return this.#calls.c8_patience(this.#at, first, later);
+  }
+
+  /** Tells the session the time, since any moment: once a frame, before the deliveries. From then on `patience` is one of milliseconds.
+   * @param {number} milliseconds
+   */
+  clock(milliseconds) {
+    return this.#calls.c8_clock(this.#at, BigInt(Math.trunc(milliseconds)));
   }
 
   /** The match ends after this many frames.

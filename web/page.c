@@ -76,16 +76,28 @@ static u8 nothing[16] __attribute__((aligned(16)));
 
 static tried answer(void *at) { return (tried){at != 0, at ? at : nothing}; }
 
-tried rattle_alloc(size_t size, size_t align) { return answer(take(size ? size : align)); }
+/* of embed/native/memory.c, over the three below */
+void *c8os_take(size_t size);
+void *c8os_again(void *at, size_t size);
+void c8os_give(void *at);
 
-void rattle_dealloc(void *at) { give(at); }
+tried rattle_alloc(size_t size, size_t align) { return answer(c8os_take(size ? size : align)); }
 
-tried rattle_realloc(void *at, size_t kept, size_t size, size_t align) {
-    u8 *to = take(size ? size : align);
-    if (!to) return answer(0);
-    for (size_t i = 0; i < kept; i++) to[i] = ((u8 *)at)[i];
+void rattle_dealloc(void *at) { c8os_give(at); }
+
+tried rattle_realloc(void *at, size_t kept, size_t size, size_t align) { return (void)kept, answer(c8os_again(at, size ? size : align)); }
+
+void *malloc(size_t size) { return take(size); }
+
+void free(void *at) { give(at); }
+
+void *realloc(void *at, size_t size) {
+    size_t kept = ((block *)((u8 *)at - HEAD))->size - HEAD;
+    u8 *to = take(size);
+    if (!to) return 0;
+    for (size_t i = 0; i < kept && i < size; i++) to[i] = ((u8 *)at)[i];
     give(at);
-    return answer(to);
+    return to;
 }
 
 #define EXPORT(name) __attribute__((export_name(#name)))

@@ -1,4 +1,4 @@
-/* What the library calls of Windows for a journal in a file, and c8_journal_open.
+/* What the library calls of Windows for a journal in a file, and c8_journal_open and c8_journal_read.
  *
  * A descriptor is a handle: Windows keeps their upper 32 bits clear. The library has Linux's numbers of errors and flags. Its calls
  * begin with c8os_, because Windows' C library has functions lseek and close of other types. Descriptors of the C library do not occur,
@@ -85,7 +85,7 @@ int32_t c8os_posix_fadvise(int32_t file, int64_t at, int64_t length, int32_t how
 
 int32_t c8os_close(int32_t file) { return CloseHandle(handle_of(file)) ? 0 : -1; }
 
-/* ---- c8_journal_open, in place of c8_journal.c; the path is UTF-8 */
+/* ---- c8_journal_open and c8_journal_read, in place of c8_journal.c; the path is UTF-8 */
 
 /* Closes what was opened, and keeps the cause of the failure. */
 static int failed(HANDLE opened, DWORD why) {
@@ -100,13 +100,12 @@ static wchar_t *room_for(size_t length) { return HeapAlloc(GetProcessHeap(), 0, 
 
 static void give_back(wchar_t *path) { HeapFree(GetProcessHeap(), 0, path); }
 
-static HANDLE open_file(const char *path) {
+static HANDLE open_file(const char *path, DWORD access, DWORD how) {
     int room = MultiByteToWideChar(CP_UTF8, MB_ERR_INVALID_CHARS, path, -1, NULL, 0);
     wchar_t *wide = room > 0 ? room_for((size_t)room) : NULL;
     if (!wide) return INVALID_HANDLE_VALUE;
     MultiByteToWideChar(CP_UTF8, 0, path, -1, wide, room);
-    HANDLE opened = CreateFileW(wide, GENERIC_READ | GENERIC_WRITE, FILE_SHARE_READ | FILE_SHARE_WRITE, NULL, OPEN_ALWAYS,
-                                FILE_ATTRIBUTE_NORMAL, NULL);
+    HANDLE opened = CreateFileW(wide, access, FILE_SHARE_READ | FILE_SHARE_WRITE, NULL, how, FILE_ATTRIBUTE_NORMAL, NULL);
     DWORD why = GetLastError();
     give_back(wide);
     SetLastError(why);
@@ -136,8 +135,17 @@ static HANDLE folder_of(HANDLE file) {
     return folder;
 }
 
+int c8_journal_read(const char *path, int32_t *file) {
+    HANDLE opened = open_file(path, GENERIC_READ, OPEN_EXISTING);
+    if (opened == INVALID_HANDLE_VALUE) return failed(opened, GetLastError());
+    if (GetFileType(opened) != FILE_TYPE_DISK) return failed(opened, ERROR_INVALID_PARAMETER);
+    if (!fits(opened)) return failed(opened, ERROR_TOO_MANY_OPEN_FILES);
+    *file = (int32_t)(intptr_t)opened;
+    return 0;
+}
+
 int c8_journal_open(const char *path, int32_t *file, int32_t *folder) {
-    HANDLE opened = open_file(path);
+    HANDLE opened = open_file(path, GENERIC_READ | GENERIC_WRITE, OPEN_ALWAYS);
     if (opened == INVALID_HANDLE_VALUE) return failed(opened, GetLastError());
     if (GetFileType(opened) != FILE_TYPE_DISK) return failed(opened, ERROR_INVALID_PARAMETER);
     HANDLE above = folder_of(opened);

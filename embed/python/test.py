@@ -6,8 +6,8 @@ import tempfile
 import unittest
 
 import example
-from c8play import (Closed, Desync, DiskLocked, Dropped, Event, EventKind, Kind, NotSealed, Refusal, SealedAlready, SeenBefore, Session, Status,
-                    Threshold, calls, explain, rules, version)
+from c8play import (Closed, Desync, DiskLocked, Dropped, Event, EventKind, Kind, NotSealed, ReadOnly, Refusal, SealedAlready, SeenBefore,
+                    Session, Status, Threshold, calls, explain, rules, version)
 
 HERE = os.path.dirname(os.path.realpath(__file__))
 TEXT = rules(2, 100, 1, 8, b"test 1")
@@ -208,11 +208,18 @@ class Tests(unittest.TestCase):
                 self.assertRaises(DiskLocked, Session, TEXT, 1, 7, journal=path)
             with Session(TEXT, 1, 7, journal=path) as session:
                 self.assertEqual((session.ticked(), session.epoch(), [row[0] for _, row in session.rows()]), (2, 2, [0, 3]))
+                with Session.replay(TEXT, path) as replay:
+                    self.assertEqual((replay.ticked(), [row[0] for _, row in replay.rows()], list(replay.packets())), (2, [0, 3], []))
+                    self.assertRaises(ReadOnly, replay.tick, 5)
+                    self.assertRaises(ReadOnly, replay.turn)
+                self.assertTrue(session.tick(5))
             self.assertRaises(OSError, Session, TEXT, 1, 7, journal=f"{folder}/none/journal")
+            self.assertRaises(OSError, Session.replay, TEXT, f"{folder}/none")
+            self.assertRaises(Refusal, Session.replay, rules(2, 100, 1, 8, b"test 2"), path)
 
     def test_version(self) -> None:
         self.assertEqual(version(), calls.VERSION)
-        self.assertEqual([it for it in ("0.1.9", "0.2.0", "0.2.1", "0.2.7", "0.3.0", "1.2.1") if calls.fits(it)], ["0.2.1", "0.2.7"])
+        self.assertEqual([it for it in ("0.1.9", "0.2.1", "0.2.2", "0.2.7", "0.3.0", "1.2.2") if calls.fits(it)], ["0.2.2", "0.2.7"])
 
     def test_hand(self) -> None:
         with Session(TEXT, 1, 7) as session:

@@ -99,9 +99,18 @@ int journals(const char *path) {
     }
     c8::Session again(text, 1, 7, 0, c8::Journal(path));
     MUST(again.ticked() == 1 && again.epoch() == 2);
+    c8::Session replay(text, c8::Recording(path));
+    const c8::Step step = replay.step();
+    MUST(replay.ticked() == 1 && step.count == 1 && replay.tick(3) == C8_REPLAY && refused([&] { replay.turn(); }) == C8_REPLAY);
+    MUST(again.tick(4) == 0 && replay.ticked() == 1);
     try {
         c8::Journal none("no/such/journal");
         return std::puts("a journal without a folder"), 1;
+    } catch (const std::runtime_error &) {
+    }
+    try {
+        c8::Recording none("no/such/journal");
+        return std::puts("a replay without a file"), 1;
     } catch (const std::runtime_error &) {
         return 0;
     }

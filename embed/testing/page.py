@@ -35,8 +35,8 @@ class Pages:
     def __init__(self, bench):
         self.bench, self.folder = bench, f"{bench.folder}/pages"
         os.makedirs(self.folder, exist_ok=True)
-        for path in ("web/c8.mjs", "web/testing/agree.mjs", "embed/example.mjs", "embed/testing/random.mjs", "embed/testing/bench.mjs",
-                     *(f"out/pages/{it}" for it in MODULES)):
+        for path in ("web/c8.mjs", "web/testing/agree.mjs", "embed/example.mjs", "embed/testing/random.mjs", "embed/testing/replay.mjs",
+                     "embed/testing/bench.mjs", *(f"out/pages/{it}" for it in MODULES)):
             shutil.copyfile(f"{TOP}/{path}", f"{self.folder}/{os.path.basename(path)}")
         with open(f"{self.folder}/index.html", "w", encoding="utf-8") as it:
             it.write("<!doctype html>\n<title>c8</title>\n")
@@ -96,6 +96,7 @@ def page(bench):
         same(f"the example with {module}", said, read(f"{EMBED}/example.out").decode())
         same(f"the games with {module}", pages.in_node("agree", module, *games), wanted)
         same(f"random calls with {module}", pages.in_node("random", module, str(calls)), fine)
+        same(f"a replay with {module}", pages.in_node("replay", module), "replay: fine\n")
     if not shutil.which("chromium"):
         lacks.append("no chromium")
     else:

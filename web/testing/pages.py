@@ -169,7 +169,7 @@ def memory(bench):
         let closed = 0, why = 0;
         const file = { read: fails, write: fails, flush: fails, getSize: () => 0, close: () => closed++ };
         try { c8.openJournal(text, 1, 1n, 0, file); } catch (refusal) { why = refusal.number; }
-        return x.page_blocks() === before || x.page_blocks() - before < 8n ? `${why}, closed ${closed}` : 'blocks are left';""")
+        return x.page_blocks() === before ? `${why}, closed ${closed}` : 'blocks are left';""")
     check("memory and files", said == "1301, closed 1", said)
 
 

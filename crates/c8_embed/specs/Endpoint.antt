@@ -1,5 +1,7 @@
 -- What the calls of an endpoint do: with a secret it sends and takes sealed packets, without one bare datagrams.
-use Rattle.std.specs.Prelude.{ℕ, ◌≡◌, ◌↔◌, ◌*◌, ◌-◌, ◌^◌, Bool, true, false, IsTrue, List, [], take, Option, None, Some, IsSome, Result, Ok, Err}
+use Rattle.std.specs.Prelude.{ℕ, ◌≡◌, ◌↔◌, ◌*◌, ◌-◌, ◌^◌, Bool, true, false, IsTrue, List, [], ◌∷◌, ◌++◌, take, Option, None, Some, IsSome, Result}
+use Rattle.std.specs.Prelude.{Ok, Err}
+use Rattle.std.specs.List.{All}
 use Rattle.c8_disk.specs.declared.file.FileDisk.{FileDisk}
 use Rattle.c8_known.specs.Journal.{epoch}
 use Rattle.c8_wire.specs.checked.Read.{read}
@@ -13,11 +15,12 @@ use Rattle.c8_refusals.specs.declared.error.Unsayable.{Unsayable}
 use Rattle.c8_transport.specs.Counters.{IsNewest}
 use Rattle.c8_transport.specs.Given.{GivenValue, counters_of}
 use Rattle.c8_transport.specs.Opened.{AreKeysOf}
-use Rattle.c8_transport.specs.Sealer.{SealerValue, HasSealed, IsTaking}
+use Rattle.c8_transport.specs.Sealer.{SealerValue, HasSealed, IsUnsealed, IsTaking}
 use Rattle.c8_transport.specs.declared.error.NotTaken.{NotTaken}
+use Rattle.c8_transport.specs.declared.error.Unsealable.{Unsealable}
 use Rattle.c8_transport.specs.declared.keys.Secrets.{Secrets}
 use Rattle.c8_session.specs.Turns.{IsSayingTo}
-use Rattle.c8_embed.specs.Engine.{EngineValue, HasLookedAt, HasHeardAt}
+use Rattle.c8_embed.specs.Engine.{EngineValue, HasLookedAt, HasHeardAt, HasSpoken}
 use Rattle.c8_embed.specs.Journal.{disk}
 use Rattle.c8_embed.specs.declared.medium.Medium.{Medium}
 use Rattle.c8_embed.specs.declared.endpoint.Endpoint.{Endpoint}
@@ -42,6 +45,7 @@ pub record IsAsBefore (old new : Endpoint) : Type 0 where
   pub engine : new.engine ≡ old.engine
   pub sealer : new.sealer ≡ old.sealer
   pub number : new.number ≡ old.number
+  pub replay : new.is_replay ≡ old.is_replay
   pub sender : new.sender ≡ old.sender
 
 -- ---- a secret
@@ -58,7 +62,7 @@ pub record IsFirstSealer (endpoint : Endpoint) (secrets : Secrets) (s : SealerVa
 -- the endpoint gets a sealer, unless it has one
 abbrev pub HasSealing : Endpoint → Secrets → Bool → Endpoint → Type 0
 HasSealing old secrets true new = (s : SealerValue) × IsFirstSealer old secrets s × (old.sealer ≡ None) × (new.sealer ≡ Some s)
-    × (new.engine ≡ old.engine) × (new.number ≡ old.number) × (new.sender ≡ old.sender)
+    × (new.engine ≡ old.engine) × (new.number ≡ old.number) × (new.sender ≡ old.sender) × (new.is_replay ≡ old.is_replay)
 HasSealing old secrets false new = IsSome old.sealer × IsAsBefore old new
 
 -- ---- what comes
@@ -116,6 +120,7 @@ pub record HasDelivered (old : Endpoint) (bytes : List ℕ) (answer : Result Hea
   pub passed : IsPassedOn old.engine new.engine opened answer
   pub sender : new.sender ≡ sender_in opened
   pub number : new.number ≡ old.number
+  pub replay : new.is_replay ≡ old.is_replay
 
 -- ---- what goes
 
@@ -129,15 +134,45 @@ pub record HasSent (old new : Endpoint) (call : Call) (size : ℕ) (out : List �
   pub datagram : List ℕ
   pub said : IsSaid old.engine.peer call datagram
   pub wrapped : IsWrapped old.sealer datagram size out new.sealer
-  pub engine : new.engine ≡ old.engine
+  pub engine : HasSpoken old.engine new.engine
   pub number : new.number ≡ old.number
+  pub replay : new.is_replay ≡ old.is_replay
   pub sender : new.sender ≡ old.sender
 
--- they are the packet of some datagram to this seat
-abbrev pub HasNext : Endpoint → ℕ → ℕ → List ℕ → Endpoint → Type 0
-HasNext old to size out new = (call : Call) × IsSayingTo to call × HasSent old new call size out
+-- nothing has changed but what is left to say
+pub record HasPassed (old new : Endpoint) : Type 0 where
+  pub engine : HasSpoken old.engine new.engine
+  pub sealer : new.sealer ≡ old.sealer
+  pub number : new.number ≡ old.number
+  pub replay : new.is_replay ≡ old.is_replay
+  pub sender : new.sender ≡ old.sender
+
+-- why there is no packet of a datagram: the sealer has no key for it, or no counter. Without a sealer there is one of each.
+abbrev pub IsUnsealable : Option SealerValue → List ℕ → Type 0
+IsUnsealable None datagram = ⊥
+IsUnsealable (Some sealer) datagram = (why : Unsealable) × IsUnsealed sealer datagram why
+
+-- what the peer says in this call is left out
+pub record IsLeftOut (e : Endpoint) (call : Call) : Type 0 where
+  pub datagram : List ℕ
+  pub said : IsSaid e.engine.peer call datagram
+  pub unsealable : IsUnsealable e.sealer datagram
+
+-- They are the packet of the first datagram that is left to say in this turn and not left out. It is for this seat.
+pub record HasNext (old : Endpoint) (to size : ℕ) (out : List ℕ) (new : Endpoint) : Type 0 where
+  pub call : Call
+  pub to_is : IsSayingTo to call
+  pub sent : HasSent old new call size out
+  pub before : List Call
+  pub left_out : All (IsLeftOut old) before
+  pub in_order : old.engine.left ≡ before ++ call ∷ new.engine.left
+
+-- There is no packet: all that was left to say is left out.
+pub record HasNoNext (old new : Endpoint) : Type 0 where
+  pub passed : HasPassed old new
+  pub left_out : All (IsLeftOut old) old.engine.left
 
 abbrev pub HasSaidSealed : Endpoint → ℕ → Kind → Result (Option ℕ) Unsayable → List ℕ → Endpoint → Type 0
-HasSaidSealed old to kind (Ok (Some size)) out new = HasSent old new (Say to (saying_of kind)) size out
+HasSaidSealed old to kind (Ok (Some size)) out new = HasSent old new (Say to (saying_of kind)) size out × (new.engine.left ≡ old.engine.left)
 HasSaidSealed old to kind (Ok None) out new = IsAsBefore old new
 HasSaidSealed old to kind (Err why) out new = IsStep old.engine.peer (Say to (saying_of kind)) (Said (Err why)) old.engine.peer × IsAsBefore old new

@@ -13,7 +13,7 @@
 --
 -- A second event of one kind and player takes the place of the first, if that waits still.
 use Rattle.std.specs.Prelude.{ℕ, ◌≡◌, ◌+◌, ◌*◌, ◌-◌, ◌<◌, ◌≤◌, ◌&&◌, min, not, Bool, true, false, slice_index_or, slice_set, replicate}
-use Rattle.std.specs.Prelude.{List, Option, Some, None}
+use Rattle.std.specs.Prelude.{Option, Some, None}
 use Rattle.c8_embed.specs.declared.events.Event.{Event}
 use Rattle.c8_embed.specs.declared.events.EventKind.{EventKind}
 use Rattle.c8_embed.specs.declared.events.EventKind.TheVariants.{Linked, Interrupted, Resumed, Dropped, Desynced, Ended}

@@ -5,3 +5,4 @@ pub mod Lead
 pub mod Engine
 pub mod Journal
 pub mod Endpoint
+pub mod Head

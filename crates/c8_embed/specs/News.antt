@@ -84,7 +84,7 @@ mark_in from (packets.Cut c) = None
 mark_in from (packets.Show shown) = None
 mark_in from (packets.Seen ack) = None
 
--- the player and the frame of the mark in a packet
+-- whose mark a packet carries, and of which frame
 abbrev pub mark_of : Packet → Option Alarm
 mark_of p = mark_in p.head.from p.message
 

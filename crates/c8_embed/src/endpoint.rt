@@ -1,6 +1,6 @@
 //! The engine that a handle for C owns: with a secret it sends and takes sealed packets.
 ghost use Rattle.std.specs.Prelude.{◌≡◌, ◌≤◌, None, Ok, Err, IfOk, IfSome, MatchOption, MatchResult, length};
-ghost use Rattle.c8_embed.specs.Endpoint.{HasSealing, answer_of, opened_as, IsOpenedAs, HasDelivered, IsWrapped, HasNext, IsAsBefore, HasSaidSealed};
+ghost use Rattle.c8_embed.specs.Endpoint.{HasSealing, answer_of, opened_as, IsOpenedAs, HasDelivered, IsWrapped, IsUnsealable, HasNext, HasNoNext, HasSaidSealed};
 
 use crate::engine::Engine;
 use crate::medium::Medium;
@@ -21,6 +21,8 @@ pub struct Endpoint {
     pub sealer: Option<Sealer>,
     /// The sender of the last packet, if it was sealed and taken.
     sender: Option<Sender>,
+    /// Whether the endpoint only reads a journal.
+    pub is_replay: bool,
 }
 
 /// Who sealed a packet that was taken.
@@ -43,17 +45,19 @@ pub enum Undelivered {
 
 impl Endpoint {
     /// An endpoint without a secret.
-    pub fn new(engine: Engine<'static, FileDisk<Medium>>, number: u64) -> Endpoint
+    pub fn new(engine: Engine<'static, FileDisk<Medium>>, number: u64, is_replay: bool) -> Endpoint
         ensures engine { result.engine ≡ engine.entry }
         ensures number { result.number ≡ number }
         ensures sealer { result.sealer ≡ None }
         ensures sender { result.sender ≡ None }
+        ensures replay { result.is_replay ≡ is_replay }
     {
         Endpoint {
             engine,
             number,
             sealer: None,
             sender: None,
+            is_replay,
         }
     }
 
@@ -103,11 +107,11 @@ impl Endpoint {
     /// watcher if the watchers have no secret, and everything once the counters of this epoch are used up.
     pub fn next_packet(&mut self, out: &mut [u8; LONGEST_SEALED]) -> Option<(Seat, usize)>
         ensures next { IfSome result (λ next. HasNext self.old next.0.number next.1 out.new self.new) }
-        ensures none { result ≡ None → IsAsBefore self.old self.new }
+        ensures none { result ≡ None → HasNoNext self.old self.new }
         ensures fits { IfSome result (λ next. next.1 ≤ LONGEST_SEALED) }
     {
         let mut datagram = [0; LONGEST_DATAGRAM];
-        for _ in 0..MOST_DATAGRAMS + 1 {
+        for _passed in 0..MOST_DATAGRAMS + 1 {
             let (to, size) = self.engine.next_datagram(&mut datagram)?;
             if let Some(size) = wrap(&mut self.sealer, &datagram[..size], out) {
                 return Some((to, size));
@@ -179,7 +183,8 @@ fn wrap(
     out: &mut [u8; LONGEST_SEALED],
 ) -> Option<usize>
     requires { length datagram.now ≤ LONGEST_DATAGRAM }
-    ensures wrapped { MatchOption result (sealer.new ≡ sealer.old)
+    ensures wrapped { MatchOption result
+        ((sealer.new ≡ sealer.old) × IsUnsealable sealer.old datagram.now)
         (λ size. IsWrapped sealer.old datagram.now size out.new sealer.new) }
     ensures fits { IfSome result (λ size. size ≤ LONGEST_SEALED) }
 {
@@ -189,6 +194,6 @@ fn wrap(
     };
     match sealer.seal(datagram, out) {
         Ok(size) => Some(size),
-        Err(_) => None,
+        Err(_why) => None,
     }
 }

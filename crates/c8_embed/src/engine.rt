@@ -1,12 +1,13 @@
 //! One peer inside an engine: its calls, its turns, and the rows that it gives to the engine.
-ghost use Rattle.std.specs.Prelude.{ℕ, ◌≡◌, ◌≤◌, ◌+◌, [], IfOk, IfErr, IfSome, take, length};
+ghost use Rattle.std.specs.Prelude.{ℕ, ◌≡◌, ◌≤◌, ◌+◌, ◌∷◌, [], IfOk, IfErr, IfSome, None, true, take, length};
 ghost use Rattle.c8_wire.specs.checked.Read.{read};
 ghost use Rattle.c8_peer.specs.Opened.{IsOpened, IsRefusedOpening};
 ghost use Rattle.c8_peer.specs.Peer.{IsAnswered, IsSaid, known_by};
 ghost use Rattle.c8_peer.specs.State.{Call, Tick, Deliver, Leave, Decide, Checkpoint, Ticked, Delivered, Left, Decided, Checked};
+ghost use Rattle.c8_session.specs.Due.{left_to_say, said_in_turn, places_of_turn};
 ghost use Rattle.c8_session.specs.Runs.{IsStopped};
 ghost use Rattle.c8_session.specs.Turns.{HasTurned, IsSayingTo};
-ghost use Rattle.c8_embed.specs.Engine.{HasLookedAt, HasHeardAt, HasToldAt};
+ghost use Rattle.c8_embed.specs.Engine.{HasLookedAt, HasHeardAt, HasToldAt, HasSpoken, OwesTurn, is_dropped};
 ghost use Rattle.c8_embed.specs.Lead.{IsNewLead, HasAsked};
 ghost use Rattle.c8_embed.specs.News.{AreNoNews};
 ghost use Rattle.c8_embed.specs.Steps.{IsStepped};
@@ -15,7 +16,7 @@ use crate::events::Event;
 use crate::laws::what_was_given_stays;
 use crate::lead::Lead;
 use crate::news::News;
-use crate::patience::{End, Patience};
+use crate::patience::{Clock, End, Patience};
 use crate::steps::{Stepped, Steps};
 use c8_disk::{Disk, DiskError};
 use c8_game::{Game, Keys, Player};
@@ -42,17 +43,19 @@ pub struct Engine<'g, D: Disk> {
     news: News,
     lead: Lead,
     patience: Patience,
+    clock: Clock,
     /// How many turns have begun.
     turns: u64,
     end: End,
 }
 
 impl<'g, D: Disk> Model for Engine<'g, D> {
+    ghost use Rattle.c8_session.specs.Due.{left_to_say};
     ghost use Rattle.c8_embed.specs.Engine.{EngineValue, IsEngine};
 
     ghost Value = { EngineValue D };
 
-    ghost view = { λ e. record { peer = e.session.peer; steps = e.steps; depth = e.depth; news = e.news; lead = e.lead } };
+    ghost view = { λ e. record { peer = e.session.peer; steps = e.steps; depth = e.depth; news = e.news; lead = e.lead; left = left_to_say e.session } };
 
     ghost invariant = { λ e. IsEngine e.session.peer e.steps e.is_told };
 }
@@ -107,6 +110,7 @@ impl<'g, D: Disk> Engine<'g, D> {
                 first: patience,
                 later: patience,
             },
+            clock: Clock::new(),
             turns: 1,
             end: End::new(),
         })
@@ -168,6 +172,7 @@ impl<'g, D: Disk> Engine<'g, D> {
         self.session.is_sound();
         self.is_told = false;
         let answer = self.session.deliver(bytes);
+        self.clock.note(&self.session);
         self.news
             .look(&self.session, is_over(&self.session, &self.end));
         self.news.hear(bytes, answer);
@@ -235,6 +240,7 @@ impl<'g, D: Disk> Engine<'g, D> {
     pub fn turn(&mut self) -> Result<(), DiskError>
         ensures turned { HasTurned D.Disk self.old.peer self.new.peer }
         ensures stopped { IfErr result (IsStopped D.Disk self.old.peer self.new.peer) }
+        ensures due { IfOk result (λ done. OwesTurn self.new) }
         ensures steps { self.new.steps ≡ self.old.steps }
         ensures depth { self.new.depth ≡ self.old.depth }
         ensures lead { self.new.lead ≡ self.old.lead }
@@ -246,7 +252,7 @@ impl<'g, D: Disk> Engine<'g, D> {
         peers_run_on::<D>();
         self.session.is_sound();
         self.is_told = false;
-        let answer = make_turn(&mut self.session, &self.patience, self.turns);
+        let answer = make_turn(&mut self.session, &self.patience, self.turns, &self.clock);
         self.news
             .look(&self.session, is_over(&self.session, &self.end));
         answer
@@ -255,7 +261,7 @@ impl<'g, D: Disk> Engine<'g, D> {
     /// Starts to show a watcher the confirmed rows: one SHOW a turn, from the first row that the watcher has not
     /// acknowledged. Only player 1's peer shows rows.
     pub fn show_to(&mut self, watcher: Watcher)
-        ensures { self.new ≡ self.old }
+        ensures { HasSpoken self.old self.new }
     {
         self.session.show_to(watcher);
     }
@@ -263,21 +269,25 @@ impl<'g, D: Disk> Engine<'g, D> {
     /// Writes the next datagram of this turn to the front of `out`, and returns its addressee, a player or a watcher, and
     /// its length, at most 174 bytes. Once the turn has no more datagrams it returns `None`, until the next turn.
     pub fn next_datagram(&mut self, out: &mut [u8; LONGEST_DATAGRAM]) -> Option<(Seat, usize)>
-        ensures same { self.new ≡ self.old }
+        ensures spoken { HasSpoken self.old self.new }
         ensures said { IfSome result (λ said. (call : Call) × IsSayingTo said.0.number call
-            × IsSaid self.old.peer call (take said.1 out.new)) }
+            × IsSaid self.old.peer call (take said.1 out.new) × (self.old.left ≡ call ∷ self.new.left)) }
+        ensures over { result ≡ None → self.old.left ≡ [] }
+        ensures few { length self.old.left ≤ places_of_turn }
         ensures fits { IfSome result (λ said. said.1 ≤ LONGEST_DATAGRAM) }
     {
-        let said = self.session.next_datagram(out);
-        if said.is_none() {
-            self.end_turn();
+        match self.session.next_datagram(out) {
+            Some(said) => Some(said),
+            None => {
+                self.end_turn();
+                None
+            }
         }
-        said
     }
 
     /// Ends the present turn, unless it has ended, and begins the next one.
     fn end_turn(&mut self)
-        ensures { self.new ≡ self.old }
+        ensures { HasSpoken self.old self.new }
     {
         if self.session.end() {
             self.end.rest(self.session.peer());
@@ -292,6 +302,7 @@ impl<'g, D: Disk> Engine<'g, D> {
         ensures steps { self.new.steps ≡ self.old.steps }
         ensures depth { self.new.depth ≡ self.old.depth }
         ensures lead { self.new.lead ≡ self.old.lead }
+        ensures left { self.new.left ≡ self.old.left }
         ensures told { HasToldAt self.new.peer self.old.news result self.new.news }
     {
         self.news
@@ -306,6 +317,7 @@ impl<'g, D: Disk> Engine<'g, D> {
         ensures steps { self.new.steps ≡ self.old.steps }
         ensures depth { self.new.depth ≡ self.old.depth }
         ensures news { self.new.news ≡ self.old.news }
+        ensures left { self.new.left ≡ self.old.left }
         ensures asked { HasAsked self.old.peer self.old.lead result self.new.lead }
     {
         self.lead.leaves_out(self.session.peer())
@@ -316,6 +328,13 @@ impl<'g, D: Disk> Engine<'g, D> {
         ensures { self.new ≡ self.old }
     {
         self.patience = patience;
+    }
+
+    /// The caller tells the time, in milliseconds. From the first time on, the patience is one of milliseconds.
+    pub fn tell_time(&mut self, milliseconds: u64)
+        ensures { self.new ≡ self.old }
+    {
+        self.clock.tell(milliseconds);
     }
 
     /// The match ends after this many frames, as the engine's machine says: once they are confirmed and acknowledged, the
@@ -334,6 +353,7 @@ impl<'g, D: Disk> Engine<'g, D> {
         ensures depth { self.new.depth ≡ depth }
         ensures news { self.new.news ≡ self.old.news }
         ensures lead { self.new.lead ≡ self.old.lead }
+        ensures left { self.new.left ≡ self.old.left }
     {
         self.depth = depth;
     }
@@ -345,6 +365,7 @@ impl<'g, D: Disk> Engine<'g, D> {
         ensures depth { self.new.depth ≡ self.old.depth }
         ensures news { self.new.news ≡ self.old.news }
         ensures lead { self.new.lead ≡ self.old.lead }
+        ensures left { self.new.left ≡ self.old.left }
         ensures stepped { self.old.depth ≡ 0 → IsStepped (known_by self.old.peer) most
             self.old.steps.given self.new.steps.given result.from result.count }
         ensures tested { (left : ℕ) × IsStepped (known_by self.old.peer) most
@@ -380,15 +401,20 @@ fn make_turn<D: Disk>(
     session: &mut Session<'_, D>,
     patience: &Patience,
     turns: u64,
+    clock: &Clock,
 ) -> Result<(), DiskError>
     ensures turned { HasTurned D.Disk session.old.peer session.new.peer }
     ensures stopped { IfErr result (IsStopped D.Disk session.old.peer session.new.peer) }
+    ensures due { IfOk result (λ done. left_to_say session.new
+        ≡ said_in_turn session.new.peer session.new.schedule.greeters session.new.is_shown) }
 {
-    patience.give_up(session, turns);
+    patience.give_up(session, turns, clock);
     session.turn()
 }
 
 /// Returns whether a session is over, by its own rule or by the end that the engine's machine has set.
-fn is_over<D: Disk>(session: &Session<'_, D>, end: &End) -> bool {
+fn is_over<D: Disk>(session: &Session<'_, D>, end: &End) -> bool
+    ensures { is_dropped session.now.peer ≡ true → result ≡ true }
+{
     session.is_over() || end.has_rested()
 }

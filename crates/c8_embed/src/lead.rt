@@ -34,7 +34,7 @@ impl Lead {
     }
 
     /// Counts a frame before its tick, and returns whether to leave the tick out: the player is ahead now, and was in
-    /// all frames of the last second, and ticked in each. The count restarts when a tick is left out or was refused,
+    /// all frames of the last second, each of which was ticked. The count restarts when a tick is left out or was refused,
     /// since a player that has just waited does not wait again, and when the player is not ahead.
     pub fn leaves_out<D: Disk>(&mut self, peer: &Peer<'_, D>) -> bool
         ensures { HasAsked peer.now self.old result self.new }

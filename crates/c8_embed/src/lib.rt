@@ -9,6 +9,7 @@
 mod endpoint;
 mod engine;
 mod events;
+mod head;
 pub mod laws;
 mod lead;
 mod medium;
@@ -19,6 +20,7 @@ mod steps;
 pub use endpoint::{Endpoint, Sender, Undelivered};
 pub use engine::Engine;
 pub use events::{Event, EventKind, Events, Shown, Waiting};
+pub use head::{Head, head_of};
 pub use lead::Lead;
 pub use medium::Medium;
 pub use news::{Alarm, News};

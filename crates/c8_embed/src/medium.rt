@@ -15,6 +15,9 @@ pub enum Medium {
     /// The descriptors of a regular file that is open to read and write, and of the folder that has its name. Dropping
     /// the medium closes both.
     File { file: OwnedFd, folder: OwnedFd },
+    /// The descriptor of a regular file that is open to read. It is read once, when the disk is opened; it is not locked,
+    /// and what the disk writes stays in memory. Dropping the medium closes it.
+    Copy { file: OwnedFd },
 }
 
 impl Medium {
@@ -26,6 +29,28 @@ impl Medium {
             file: file?,
             folder: folder?,
         })
+    }
+
+    /// Takes over a descriptor that is open to read, which nothing else may close. Returns `None` if it is negative.
+    pub fn copy_of(file: i32) -> Option<Medium> {
+        Some(Medium::Copy { file: owned(file)? })
+    }
+
+    /// Lends the file that is read, if there is one.
+    fn file(&self) -> Option<&OwnedFd> {
+        match self {
+            Medium::Memory => None,
+            Medium::File { file, .. } => Some(file),
+            Medium::Copy { file } => Some(file),
+        }
+    }
+
+    /// Lends the file that is written, if there is one.
+    fn written(&self) -> Option<&OwnedFd> {
+        match self {
+            Medium::File { file, .. } => Some(file),
+            Medium::Memory | Medium::Copy { .. } => None,
+        }
     }
 }
 
@@ -53,7 +78,7 @@ fn done(status: i32) -> io::Result<()> {
 
 impl FileExt for Medium {
     fn read_at(&self, buffer: &mut [u8], at: u64) -> io::Result<usize> {
-        let Medium::File { file, .. } = self else {
+        let Some(file) = self.file() else {
             return Ok(0);
         };
         let count = libc::pread(file.as_raw_fd(), buffer, at.cast_signed());
@@ -65,7 +90,7 @@ impl FileExt for Medium {
     }
 
     fn write_at(&self, bytes: &[u8], at: u64) -> io::Result<usize> {
-        let Medium::File { file, .. } = self else {
+        let Some(file) = self.written() else {
             return Ok(bytes.len());
         };
         let count = libc::pwrite(file.as_raw_fd(), bytes, at.cast_signed());
@@ -79,7 +104,7 @@ impl FileExt for Medium {
 
 impl SystemFile for Medium {
     fn len(&self) -> io::Result<u64> {
-        let Medium::File { file, .. } = self else {
+        let Some(file) = self.file() else {
             return Ok(0);
         };
         let length = libc::lseek(file.as_raw_fd(), 0, libc::SEEK_END);
@@ -91,30 +116,28 @@ impl SystemFile for Medium {
     }
 
     fn try_lock(&self) -> io::Result<()> {
-        match self {
-            Medium::Memory => Ok(()),
-            Medium::File { file, .. } => {
-                done(libc::flock(file.as_raw_fd(), libc::LOCK_EX | libc::LOCK_NB))
-            }
+        match self.written() {
+            Some(file) => done(libc::flock(file.as_raw_fd(), libc::LOCK_EX | libc::LOCK_NB)),
+            None => Ok(()),
         }
     }
 
     fn sync_all(&self) -> io::Result<()> {
-        match self {
-            Medium::Memory => Ok(()),
-            Medium::File { file, .. } => done(libc::fsync(file.as_raw_fd())),
+        match self.written() {
+            Some(file) => done(libc::fsync(file.as_raw_fd())),
+            None => Ok(()),
         }
     }
 
     fn sync_data(&self) -> io::Result<()> {
-        match self {
-            Medium::Memory => Ok(()),
-            Medium::File { file, .. } => done(libc::fdatasync(file.as_raw_fd())),
+        match self.written() {
+            Some(file) => done(libc::fdatasync(file.as_raw_fd())),
+            None => Ok(()),
         }
     }
 
     fn drop_copies(&self) -> io::Result<()> {
-        let Medium::File { file, .. } = self else {
+        let Some(file) = self.written() else {
             return Ok(());
         };
         let error = libc::posix_fadvise(file.as_raw_fd(), 0, 0, libc::POSIX_FADV_DONTNEED);
@@ -126,7 +149,7 @@ impl SystemFile for Medium {
 
     fn sync_folder(&self) -> io::Result<()> {
         match self {
-            Medium::Memory => Ok(()),
+            Medium::Memory | Medium::Copy { .. } => Ok(()),
             Medium::File { folder, .. } => done(libc::fsync(folder.as_raw_fd())),
         }
     }

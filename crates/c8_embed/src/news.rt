@@ -182,7 +182,7 @@ fn is_desync(answer: Result<Heard, Refused>) -> bool
     }
 }
 
-/// The player and the frame of the mark in a datagram.
+/// Whose mark a datagram carries, and of which frame.
 fn mark_of(datagram: &Datagram<'_>) -> Option<Alarm>
     ensures mark { result ≡ mark_of (packet_of datagram.now) }
     ensures within { IfSome result (λ alarm. alarm.player ≤ 4) }

@@ -2,7 +2,7 @@
 ghost use Rattle.std.specs.Prelude.{◌≡◌};
 
 use c8_disk::Disk;
-use c8_game::Player;
+use c8_game::{MOST_PLAYERS, Player};
 use c8_peer::Peer;
 use c8_session::Session;
 
@@ -10,7 +10,7 @@ use c8_session::Session;
 /// acknowledgements.
 const REST: u32 = 120;
 
-/// After how many silent turns player 1 drops a player; `None` for never.
+/// After how many silent turns player 1 drops a player, or with a clock after how many milliseconds; `None` for never.
 #[derive(Clone, Copy)]
 pub struct Patience {
     /// A player who was never heard over an open link.
@@ -22,28 +22,81 @@ pub struct Patience {
 impl Patience {
     /// Drops the players who were silent for too long in the next turn of player 1's session, `turns` turns after its
     /// opening.
-    pub(crate) fn give_up<D: Disk>(&self, session: &mut Session<'_, D>, turns: u64)
+    pub(crate) fn give_up<D: Disk>(&self, session: &mut Session<'_, D>, turns: u64, clock: &Clock)
         ensures { session.new.peer ≡ session.old.peer }
     {
         for number in 1..session.peer().players() + 1 {
             if let Some(player) = Player::new(number)
-                && self.is_over(session.silent(player), turns)
+                && self.is_over(session.silent(player), turns, player, clock)
             {
                 session.give_up(player);
             }
         }
     }
 
-    /// Returns whether a player was silent for too long. One that was never heard was silent for all turns.
-    fn is_over(&self, silent: u64, turns: u64) -> bool {
+    /// Returns whether a player was silent for too long, after so many silent turns. One that was never heard was silent for
+    /// all turns.
+    fn is_over(&self, silent: u64, turns: u64, player: Player, clock: &Clock) -> bool {
         let patience = if silent < turns {
             self.later
         } else {
             self.first
         };
         match patience {
-            Some(patience) => silent >= patience,
+            Some(patience) => clock.silence(player, silent) >= patience,
             None => false,
+        }
+    }
+}
+
+/// The caller's clock, and when each player was last heard by it.
+#[derive(Clone, Copy)]
+pub(crate) struct Clock {
+    /// The time that the caller told last, in milliseconds; `None` if it has told none.
+    now: Option<u64>,
+    /// When each player was last heard, by place: at first when the clock began.
+    heard: [u64; MOST_PLAYERS],
+}
+
+impl Clock {
+    /// Before the caller tells a time.
+    pub fn new() -> Clock {
+        Clock {
+            now: None,
+            heard: [0; MOST_PLAYERS],
+        }
+    }
+
+    /// The caller tells the time. One before the last one counts as the last one.
+    pub fn tell(&mut self, milliseconds: u64) {
+        match self.now {
+            Some(now) => self.now = Some(now.max(milliseconds)),
+            None => {
+                self.now = Some(milliseconds);
+                self.heard = [milliseconds; MOST_PLAYERS];
+            }
+        }
+    }
+
+    /// Notes who was heard in this turn.
+    pub fn note<D: Disk>(&mut self, session: &Session<'_, D>) {
+        let Some(now) = self.now else {
+            return;
+        };
+        for number in 1..MOST_PLAYERS as u8 + 1 {
+            if let Some(player) = Player::new(number)
+                && session.silent(player) == 0
+            {
+                self.heard[player.place()] = now;
+            }
+        }
+    }
+
+    /// Returns for how long a player was silent, in milliseconds; without a clock in turns, which it is told.
+    fn silence(&self, player: Player, turns: u64) -> u64 {
+        match self.now {
+            Some(now) => now.saturating_sub(self.heard[player.place()]),
+            None => turns,
         }
     }
 }

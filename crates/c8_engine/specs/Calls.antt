@@ -1,7 +1,8 @@
 -- What the calls of a handle do to its session.
-use Rattle.std.specs.Prelude.{ℕ, ◌≡◌, ◌≢◌, ◌⊎◌, ◌/◌, min, Bool, true, false, List, [], ◌∷◌, ◌++◌, length, map, Option, None, Some, Result, Err, IfErr}
-use Rattle.std.specs.Prelude.{nat_lt, if◌then◌else◌}
+use Rattle.std.specs.Prelude.{ℕ, ◌≡◌, ◌≢◌, ◌⊎◌, ◌/◌, min, Bool, true, false, List, [], ◌∷◌, ◌++◌, length, map, Option, None, Some, Result, Err}
+use Rattle.std.specs.Prelude.{IfOk, IfErr, nat_lt, if◌then◌else◌}
 use Rattle.c8_disk.specs.declared.error.DiskError.{DiskError}
+use Rattle.c8_disk.specs.File.{file_bytes}
 use Rattle.c8_disk.specs.declared.file.FileDisk.{FileDisk}
 use Rattle.c8_game.specs.Rules.{Rules, session_of}
 use Rattle.c8_game.specs.GameText.{Spells}
@@ -23,12 +24,13 @@ use Rattle.c8_embed.specs.declared.endpoint.Endpoint.{Endpoint}
 use Rattle.c8_embed.specs.declared.endpoint.Sender.{Sender}
 use Rattle.c8_session.specs.Runs.{IsStopped}
 use Rattle.c8_session.specs.Turns.{HasTurned}
-use Rattle.c8_embed.specs.Endpoint.{EngineOf, HasCalled, HasSealing, HasDelivered, HasSent, HasNext, IsAsBefore}
+use Rattle.c8_embed.specs.Endpoint.{EngineOf, HasCalled, HasSealing, HasDelivered, HasSent, HasNext, HasNoNext, IsAsBefore}
 use Rattle.c8_embed.specs.declared.endpoint.Undelivered.{Undelivered}
 use Rattle.c8_transport.specs.declared.keys.Secrets.{Secrets}
 use Rattle.c8_known.specs.Known.{PlayerValue, KnownValue, player_in}
 use Rattle.c8_known.specs.Confirmed.{past_cut, has_value}
-use Rattle.c8_embed.specs.Engine.{HasLookedAt, HasToldAt}
+use Rattle.c8_embed.specs.Engine.{HasLookedAt, HasToldAt, OwesTurn}
+use Rattle.c8_embed.specs.Head.{NamesHead}
 use Rattle.c8_embed.specs.Lead.{IsNewLead, HasAsked}
 use Rattle.c8_embed.specs.News.{AreNoNews}
 use Rattle.c8_embed.specs.declared.events.Event.{Event}
@@ -43,16 +45,29 @@ IfSession None new P = Unit {0}
 IfSession (Some e) None P = ⊥
 IfSession (Some e) (Some f) P = P e f
 
--- the same of its engine, and the secret stays
+-- the same of its engine, and the secret stays; so does whether it is a replay
 abbrev pub IfOpen : Option Endpoint → Option Endpoint → (EngineOf → EngineOf → Type 0) → Type 0
 IfOpen old new P =
-    IfSession old new (λ e f. P e.engine f.engine × (f.sealer ≡ e.sealer) × (f.number ≡ e.number) × (f.sender ≡ e.sender))
+    IfSession old new (λ e f. P e.engine f.engine × (f.sealer ≡ e.sealer) × (f.number ≡ e.number) × (f.sender ≡ e.sender)
+    × (f.is_replay ≡ e.is_replay))
 
--- The handle has a session of this player in this room, of the game that the text spells. Its engine was given nothing.
-pub record IsOpenedBy (text : List ℕ) (player room : ℕ) (session : Endpoint) : Type 0 where
+-- whether the handle has a replay: a session that only reads
+abbrev pub replays : Option Endpoint → Bool
+replays None = false
+replays (Some e) = e.is_replay
+
+-- what holds of a handle whose session is no replay
+abbrev pub IfPlaying : Option Endpoint → Option Endpoint → (Endpoint → Endpoint → Type 0) → Type 0
+IfPlaying old new P = replays old ≡ false → IfSession old new P
+
+abbrev pub IfPlays : Option Endpoint → Option Endpoint → (EngineOf → EngineOf → Type 0) → Type 0
+IfPlays old new P = replays old ≡ false → IfOpen old new P
+
+-- The handle has a session of this player in this room, of the game that the text spells, over the journal of this disk, or
+-- a replay of that. Its engine was given nothing.
+pub record IsOpenedBy (text : List ℕ) (player room : ℕ) (kept : FileDisk Medium) (is_replay : Bool) (session : Endpoint) : Type 0 where
   pub rules : Rules
   pub game : Spells text rules
-  pub kept : FileDisk Medium
   pub opened : IsOpened disk kept rules room player session.engine.peer
   pub given : session.engine.steps.given ≡ []
   pub depth : session.engine.depth ≡ 0
@@ -61,10 +76,21 @@ pub record IsOpenedBy (text : List ℕ) (player room : ℕ) (session : Endpoint)
   pub number : session.number ≡ session_of rules room
   pub sealer : session.sealer ≡ None
   pub sender : session.sender ≡ None
+  pub replay : session.is_replay ≡ is_replay
 
+abbrev pub IsOpenOver : List ℕ → ℕ → ℕ → FileDisk Medium → Bool → Option Endpoint → Type 0
+IsOpenOver text player room kept is_replay None = ⊥
+IsOpenOver text player room kept is_replay (Some session) = IsOpenedBy text player room kept is_replay session
+
+-- a session of this player in this room
 abbrev pub IsOpenWith : List ℕ → ℕ → ℕ → Option Endpoint → Type 0
-IsOpenWith text player room None = ⊥
-IsOpenWith text player room (Some session) = IsOpenedBy text player room session
+IsOpenWith text player room session = (kept : FileDisk Medium) × IsOpenOver text player room kept false session
+
+-- a replay of a journal, of the player and the room that its first record names
+abbrev pub IsReplayWith : List ℕ → Option Endpoint → Type 0
+IsReplayWith text session =
+    (player : ℕ) × (room : ℕ) × (kept : FileDisk Medium) × NamesHead (file_bytes kept) player room
+    × IsOpenOver text player room kept true session
 
 pub record HasTicked (old new : EngineOf) (keys code : ℕ) : Type 0 where
   pub reply : Result (Unit {0}) TickError
@@ -95,6 +121,7 @@ pub record HasMadeTurn (old new : EngineOf) (code : ℕ) : Type 0 where
   pub reply : Result (Unit {0}) DiskError
   pub turned : HasTurned disk old.peer new.peer
   pub stopped : IfErr reply (IsStopped disk old.peer new.peer)
+  pub due : IfOk reply (λ done. OwesTurn new)
   pub steps : new.steps ≡ old.steps
   pub depth : new.depth ≡ old.depth
   pub lead : new.lead ≡ old.lead
@@ -116,6 +143,7 @@ pub record HasToldEvent (old new : EngineOf) (there : Bool) (before after : Even
   pub steps : new.steps ≡ old.steps
   pub depth : new.depth ≡ old.depth
   pub lead : new.lead ≡ old.lead
+  pub left : new.left ≡ old.left
 
 -- the engine counts a frame, and says whether to leave out its tick
 pub record HasWaited (old new : EngineOf) (code : ℕ) : Type 0 where
@@ -126,6 +154,7 @@ pub record HasWaited (old new : EngineOf) (code : ℕ) : Type 0 where
   pub steps : new.steps ≡ old.steps
   pub depth : new.depth ≡ old.depth
   pub news : new.news ≡ old.news
+  pub left : new.left ≡ old.left
 
 -- what an input of a row is: 1 for one that its player entered, 2 for the empty one from a cut on, 0 for a guess
 abbrev pub status_of : PlayerValue → ℕ → ℕ
@@ -142,9 +171,9 @@ abbrev pub cut_code : Option ℕ → ℕ
 cut_code None = 4294967295
 cut_code (Some length) = length
 
--- the first `size` bytes are the packet of a datagram that the peer says to this seat; or there are none, and nothing changed
+-- The first `size` bytes are the packet of the next datagram of this turn, which is for this seat; or there is none.
 abbrev pub HasSaid : Endpoint → ℕ → ℕ → List ℕ → Endpoint → Type 0
-HasSaid e to size out f = HasNext e to size out f ⊎ ((size ≡ 0) × IsAsBefore e f)
+HasSaid e to size out f = HasNext e to size out f ⊎ ((size ≡ 0) × HasNoNext e f)
 
 -- the saying that a kind's number asks for, about this leaver if it is about one
 abbrev pub IsKind : ℕ → ℕ → Saying → Type 0
@@ -160,7 +189,7 @@ IsKind kind leaver (Cut l) = (kind ≡ 5) × (l ≡ leaver)
 pub record HasSaidKind (e : Endpoint) (to kind leaver size : ℕ) (out : List ℕ) (f : Endpoint) : Type 0 where
   pub what : Saying
   pub kind_is : IsKind kind leaver what
-  pub said : HasSent e f (Say to what) size out ⊎ ((size ≡ 0) × IsAsBefore e f)
+  pub said : (HasSent e f (Say to what) size out × (f.engine.left ≡ e.engine.left)) ⊎ ((size ≡ 0) × IsAsBefore e f)
 
 -- the peer refuses to say a datagram of this kind to this player, and the code tells why
 pub record HasRefusedToSay (e : Endpoint) (to kind leaver code : ℕ) (f : Endpoint) : Type 0 where

@@ -55,6 +55,10 @@ bad_secret_code = 105
 abbrev pub sealed_already_code : ℕ
 sealed_already_code = 106
 
+-- what calls that play answer at a replay
+abbrev pub replay_code : ℕ
+replay_code = 107
+
 abbrev pub disk_code : DiskError → ℕ
 disk_code why = 1300 + disks.disk_number_of why
 

@@ -1,5 +1,6 @@
 -- Why an opening is refused, and which number it answers.
 use Rattle.std.specs.Prelude.{ℕ, ◌≡◌, ◌⊎◌, ◌<◌, List}
+use Rattle.c8_disk.specs.File.{file_bytes}
 use Rattle.c8_disk.specs.declared.file.FileDisk.{FileDisk}
 use Rattle.c8_disk.specs.declared.error.FileError.{FileError}
 use Rattle.c8_game.specs.GameFaults.{IsRefused}
@@ -10,6 +11,7 @@ use Rattle.c8_game.specs.declared.error.GameError.TheVariants as games
 use Rattle.c8_peer.specs.Opened.{IsRefusedOpening}
 use Rattle.c8_refusals.specs.declared.error.OpenError.{OpenError}
 use Rattle.c8_refusals.specs.declared.error.OpenError.TheVariants as opens
+use Rattle.c8_embed.specs.Head.{NamesNone}
 use Rattle.c8_embed.specs.Journal.{disk}
 use Rattle.c8_embed.specs.declared.medium.Medium.{Medium}
 use Rattle.c8_engine.specs.Codes.{nobody_code, game_code, open_code, file_code}
@@ -40,7 +42,22 @@ pub record IsNoPeer (text : List ℕ) (player room code : ℕ) : Type 0 where
   pub refused : IsRefusedOpening disk kept rules room player error left
   pub code_is : code ≡ open_code error
 
--- one of these reasons, or memory was refused
+-- the same, or memory was refused
+abbrev pub IsNoSession : List ℕ → ℕ → ℕ → ℕ → Type 0
+IsNoSession text player room code = IsNoPeer text player room code ⊎ (code ≡ open_code opens.Memory)
+
+-- one of these reasons
 abbrev pub IsRefusedAs : List ℕ → ℕ → ℕ → ℕ → Type 0
-IsRefusedAs text player room code =
-    IsNoGame text code ⊎ (IsNoPlayer player code ⊎ (IsNoJournal code ⊎ (IsNoPeer text player room code ⊎ (code ≡ open_code opens.Memory))))
+IsRefusedAs text player room code = IsNoGame text code ⊎ (IsNoPlayer player code ⊎ (IsNoJournal code ⊎ IsNoSession text player room code))
+
+-- the journal that was found names no player
+pub record IsHeadless (code : ℕ) : Type 0 where
+  pub kept : FileDisk Medium
+  pub none : NamesNone (file_bytes kept)
+  pub code_is : code ≡ open_code (opens.BadRecord 0)
+
+-- why there is no replay
+abbrev pub IsNoReplay : List ℕ → ℕ → Type 0
+IsNoReplay text code =
+    IsNoGame text code
+    ⊎ (IsNoJournal code ⊎ (IsHeadless code ⊎ (((player : ℕ) × (room : ℕ) × IsNoPeer text player room code) ⊎ (code ≡ open_code opens.Memory))))

@@ -1,11 +1,12 @@
 //! The calls of a session's peer, and its turn.
-ghost use Rattle.std.specs.Prelude.{◌≡◌, ◌≤◌, None};
-ghost use Rattle.c8_engine.specs.Codes.{closed_code, nobody_code};
-ghost use Rattle.c8_engine.specs.Calls.{IfOpen, IfSession, HasTicked, HasHeard, HasLeft, HasDecided, HasSaved, HasMadeTurn};
+ghost use Rattle.std.specs.Prelude.{◌≡◌, ◌≤◌, None, true, false};
+ghost use Rattle.c8_embed.specs.Engine.{HasSpoken};
+ghost use Rattle.c8_engine.specs.Codes.{closed_code, nobody_code, replay_code};
+ghost use Rattle.c8_engine.specs.Calls.{IfOpen, IfPlays, IfPlaying, replays, HasTicked, HasHeard, HasLeft, HasDecided, HasSaved, HasMadeTurn};
 
 use crate::codes::{
-    check_code, closed_code, decide_code, delivered_code, leave_code, nobody_code, tick_code,
-    turn_code,
+    check_code, closed_code, decide_code, delivered_code, leave_code, nobody_code, replay_code,
+    tick_code, turn_code,
 };
 use crate::handle::Handle;
 use c8_embed::Patience;
@@ -16,10 +17,14 @@ use c8_wire::Watcher;
 #[unsafe(no_mangle)]
 pub extern "C" fn c8_tick(handle: &mut Handle, keys: u16) -> u32
     ensures closed { handle.old.value ≡ None → (result ≡ closed_code) × (handle.new ≡ handle.old) }
-    ensures ticked { IfOpen handle.old.value handle.new.value (λ e f. HasTicked e f keys result) }
+    ensures replayed { replays handle.old.value ≡ true → (result ≡ replay_code) × (handle.new ≡ handle.old) }
+    ensures ticked { IfPlays handle.old.value handle.new.value (λ e f. HasTicked e f keys result) }
 {
     if !handle.is_open() {
         return closed_code();
+    }
+    if handle.is_replay() {
+        return replay_code();
     }
     tick_code(handle.session().engine.tick(Keys(keys)))
 }
@@ -28,10 +33,14 @@ pub extern "C" fn c8_tick(handle: &mut Handle, keys: u16) -> u32
 #[unsafe(no_mangle)]
 pub extern "C" fn c8_deliver(handle: &mut Handle, bytes: &[u8]) -> u32
     ensures closed { handle.old.value ≡ None → (result ≡ closed_code) × (handle.new ≡ handle.old) }
-    ensures heard { IfSession handle.old.value handle.new.value (λ e f. HasHeard e bytes.now result f) }
+    ensures replayed { replays handle.old.value ≡ true → (result ≡ replay_code) × (handle.new ≡ handle.old) }
+    ensures heard { IfPlaying handle.old.value handle.new.value (λ e f. HasHeard e bytes.now result f) }
 {
     if !handle.is_open() {
         return closed_code();
+    }
+    if handle.is_replay() {
+        return replay_code();
     }
     delivered_code(handle.session().deliver(bytes))
 }
@@ -40,13 +49,17 @@ pub extern "C" fn c8_deliver(handle: &mut Handle, bytes: &[u8]) -> u32
 #[unsafe(no_mangle)]
 pub extern "C" fn c8_leave(handle: &mut Handle, leaver: u8) -> u32
     ensures closed { handle.old.value ≡ None → (result ≡ closed_code) × (handle.new ≡ handle.old) }
+    ensures replayed { replays handle.old.value ≡ true → (result ≡ replay_code) × (handle.new ≡ handle.old) }
     ensures left { 1 ≤ leaver → leaver ≤ 4
-        → IfOpen handle.old.value handle.new.value (λ e f. HasLeft e f leaver result) }
-    ensures nobody { (1 ≤ leaver → leaver ≤ 4 → ⊥) → (handle.old.value ≡ None → ⊥)
+        → IfPlays handle.old.value handle.new.value (λ e f. HasLeft e f leaver result) }
+    ensures nobody { (1 ≤ leaver → leaver ≤ 4 → ⊥) → (handle.old.value ≡ None → ⊥) → replays handle.old.value ≡ false
         → (result ≡ nobody_code) × (handle.new ≡ handle.old) }
 {
     if !handle.is_open() {
         return closed_code();
+    }
+    if handle.is_replay() {
+        return replay_code();
     }
     let Some(leaver) = Player::new(leaver) else {
         return nobody_code();
@@ -58,13 +71,17 @@ pub extern "C" fn c8_leave(handle: &mut Handle, leaver: u8) -> u32
 #[unsafe(no_mangle)]
 pub extern "C" fn c8_decide(handle: &mut Handle, leaver: u8) -> u32
     ensures closed { handle.old.value ≡ None → (result ≡ closed_code) × (handle.new ≡ handle.old) }
+    ensures replayed { replays handle.old.value ≡ true → (result ≡ replay_code) × (handle.new ≡ handle.old) }
     ensures decided { 1 ≤ leaver → leaver ≤ 4
-        → IfOpen handle.old.value handle.new.value (λ e f. HasDecided e f leaver result) }
-    ensures nobody { (1 ≤ leaver → leaver ≤ 4 → ⊥) → (handle.old.value ≡ None → ⊥)
+        → IfPlays handle.old.value handle.new.value (λ e f. HasDecided e f leaver result) }
+    ensures nobody { (1 ≤ leaver → leaver ≤ 4 → ⊥) → (handle.old.value ≡ None → ⊥) → replays handle.old.value ≡ false
         → (result ≡ nobody_code) × (handle.new ≡ handle.old) }
 {
     if !handle.is_open() {
         return closed_code();
+    }
+    if handle.is_replay() {
+        return replay_code();
     }
     let Some(leaver) = Player::new(leaver) else {
         return nobody_code();
@@ -76,10 +93,14 @@ pub extern "C" fn c8_decide(handle: &mut Handle, leaver: u8) -> u32
 #[unsafe(no_mangle)]
 pub extern "C" fn c8_checkpoint(handle: &mut Handle) -> u32
     ensures closed { handle.old.value ≡ None → (result ≡ closed_code) × (handle.new ≡ handle.old) }
-    ensures saved { IfOpen handle.old.value handle.new.value (λ e f. HasSaved e f result) }
+    ensures replayed { replays handle.old.value ≡ true → (result ≡ replay_code) × (handle.new ≡ handle.old) }
+    ensures saved { IfPlays handle.old.value handle.new.value (λ e f. HasSaved e f result) }
 {
     if !handle.is_open() {
         return closed_code();
+    }
+    if handle.is_replay() {
+        return replay_code();
     }
     check_code(handle.session().engine.checkpoint())
 }
@@ -88,10 +109,14 @@ pub extern "C" fn c8_checkpoint(handle: &mut Handle) -> u32
 #[unsafe(no_mangle)]
 pub extern "C" fn c8_turn(handle: &mut Handle) -> u32
     ensures closed { handle.old.value ≡ None → (result ≡ closed_code) × (handle.new ≡ handle.old) }
-    ensures turned { IfOpen handle.old.value handle.new.value (λ e f. HasMadeTurn e f result) }
+    ensures replayed { replays handle.old.value ≡ true → (result ≡ replay_code) × (handle.new ≡ handle.old) }
+    ensures turned { IfPlays handle.old.value handle.new.value (λ e f. HasMadeTurn e f result) }
 {
     if !handle.is_open() {
         return closed_code();
+    }
+    if handle.is_replay() {
+        return replay_code();
     }
     turn_code(handle.session().engine.turn())
 }
@@ -100,13 +125,17 @@ pub extern "C" fn c8_turn(handle: &mut Handle) -> u32
 #[unsafe(no_mangle)]
 pub extern "C" fn c8_watched(handle: &mut Handle, watcher: u8) -> u32
     ensures closed { handle.old.value ≡ None → (result ≡ closed_code) × (handle.new ≡ handle.old) }
+    ensures replayed { replays handle.old.value ≡ true → (result ≡ replay_code) × (handle.new ≡ handle.old) }
     ensures watched { 5 ≤ watcher → watcher ≤ 6
-        → IfOpen handle.old.value handle.new.value (λ e f. (f ≡ e) × (result ≡ 0)) }
-    ensures nobody { (5 ≤ watcher → watcher ≤ 6 → ⊥) → (handle.old.value ≡ None → ⊥)
+        → IfPlays handle.old.value handle.new.value (λ e f. HasSpoken e f × (result ≡ 0)) }
+    ensures nobody { (5 ≤ watcher → watcher ≤ 6 → ⊥) → (handle.old.value ≡ None → ⊥) → replays handle.old.value ≡ false
         → (result ≡ nobody_code) × (handle.new ≡ handle.old) }
 {
     if !handle.is_open() {
         return closed_code();
+    }
+    if handle.is_replay() {
+        return replay_code();
     }
     let Some(watcher) = Watcher::new(watcher) else {
         return nobody_code();
@@ -121,7 +150,7 @@ pub extern "C" fn c8_check(handle: &mut Handle, depth: u32) -> u32
     ensures closed { handle.old.value ≡ None → (result ≡ closed_code) × (handle.new ≡ handle.old) }
     ensures checked { IfOpen handle.old.value handle.new.value (λ e f.
         (result ≡ 0) × (f.peer ≡ e.peer) × (f.steps ≡ e.steps) × (f.depth ≡ depth) × (f.news ≡ e.news)
-        × (f.lead ≡ e.lead)) }
+        × (f.lead ≡ e.lead) × (f.left ≡ e.left)) }
 {
     if !handle.is_open() {
         return closed_code();
@@ -135,16 +164,37 @@ pub extern "C" fn c8_check(handle: &mut Handle, depth: u32) -> u32
 #[unsafe(no_mangle)]
 pub extern "C" fn c8_patience(handle: &mut Handle, first: u32, later: u32) -> u32
     ensures closed { handle.old.value ≡ None → (result ≡ closed_code) × (handle.new ≡ handle.old) }
-    ensures set { IfOpen handle.old.value handle.new.value (λ e f. (f ≡ e) × (result ≡ 0)) }
+    ensures replayed { replays handle.old.value ≡ true → (result ≡ replay_code) × (handle.new ≡ handle.old) }
+    ensures set { IfPlays handle.old.value handle.new.value (λ e f. (f ≡ e) × (result ≡ 0)) }
 {
     if !handle.is_open() {
         return closed_code();
+    }
+    if handle.is_replay() {
+        return replay_code();
     }
     let patience = Patience {
         first: turns(first),
         later: turns(later),
     };
     handle.session().engine.set_patience(patience);
+    0
+}
+
+/// Tells the session the time, in milliseconds. From the first time on, the numbers of `c8_patience` are milliseconds.
+#[unsafe(no_mangle)]
+pub extern "C" fn c8_clock(handle: &mut Handle, milliseconds: u64) -> u32
+    ensures closed { handle.old.value ≡ None → (result ≡ closed_code) × (handle.new ≡ handle.old) }
+    ensures replayed { replays handle.old.value ≡ true → (result ≡ replay_code) × (handle.new ≡ handle.old) }
+    ensures told { IfPlays handle.old.value handle.new.value (λ e f. (f ≡ e) × (result ≡ 0)) }
+{
+    if !handle.is_open() {
+        return closed_code();
+    }
+    if handle.is_replay() {
+        return replay_code();
+    }
+    handle.session().engine.tell_time(milliseconds);
     0
 }
 
@@ -161,10 +211,14 @@ pub(crate) fn turns(number: u32) -> Option<u64> {
 #[unsafe(no_mangle)]
 pub extern "C" fn c8_end(handle: &mut Handle, frames: u32) -> u32
     ensures closed { handle.old.value ≡ None → (result ≡ closed_code) × (handle.new ≡ handle.old) }
-    ensures ended { IfOpen handle.old.value handle.new.value (λ e f. (f ≡ e) × (result ≡ 0)) }
+    ensures replayed { replays handle.old.value ≡ true → (result ≡ replay_code) × (handle.new ≡ handle.old) }
+    ensures ended { IfPlays handle.old.value handle.new.value (λ e f. (f ≡ e) × (result ≡ 0)) }
 {
     if !handle.is_open() {
         return closed_code();
+    }
+    if handle.is_replay() {
+        return replay_code();
     }
     handle.session().engine.end_at(frames);
     0

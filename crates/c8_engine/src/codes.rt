@@ -1,6 +1,6 @@
 //! The number that each answer has in C.
 ghost use Rattle.std.specs.Prelude.{◌≡◌, ◌<◌};
-ghost use Rattle.c8_engine.specs.Codes.{closed_code, nobody_code, not_taken_code, bad_secret_code, sealed_already_code, delivered_code, disk_code, game_code, open_code, tick_code, heard_code, leave_code, decide_code, check_code, turn_code, file_code, say_code, event_code, wait_code};
+ghost use Rattle.c8_engine.specs.Codes.{closed_code, nobody_code, not_taken_code, bad_secret_code, sealed_already_code, replay_code, delivered_code, disk_code, game_code, open_code, tick_code, heard_code, leave_code, decide_code, check_code, turn_code, file_code, say_code, event_code, wait_code};
 
 use c8_disk::{DiskError, FileError};
 use c8_embed::{EventKind, Undelivered};
@@ -45,6 +45,13 @@ pub(crate) fn sealed_already_code() -> u32
     ensures { result ≡ sealed_already_code }
 {
     106
+}
+
+/// What a call that plays answers at a replay.
+pub(crate) fn replay_code() -> u32
+    ensures { result ≡ replay_code }
+{
+    107
 }
 
 pub(crate) fn disk_code(why: DiskError) -> u32

@@ -79,6 +79,7 @@ fn own(number: u8, text: &mut Text) -> fmt::Result {
             "BadSecret: the watchers' secret is that of the players, or has not 32 bytes"
         ),
         6 => write!(text, "SealedAlready: the session has a secret already"),
+        7 => write!(text, "Replay: the session is a replay, which only reads"),
         _ => Ok(()),
     }
 }

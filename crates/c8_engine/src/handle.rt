@@ -23,6 +23,7 @@ impl Model for Handle {
 }
 
 impl Handle {
+    ghost use Rattle.c8_engine.specs.Calls.{replays};
     ghost use Rattle.c8_engine.specs.Held.Lent.{LendsSession};
 
     /// Makes a closed handle.
@@ -71,6 +72,17 @@ impl Handle {
         ensures { (result ≡ is_some self.old.value) × (self.new ≡ self.old) }
     {
         !self.at.is_null()
+    }
+
+    /// Returns whether the handle has a replay.
+    pub(crate) fn is_replay(&mut self) -> bool
+        ensures replay { result ≡ replays self.old.value }
+        ensures same { self.new ≡ self.old }
+    {
+        if !self.is_open() {
+            return false;
+        }
+        self.session().is_replay
     }
 
     /// Lends the session of an open handle.

@@ -2,15 +2,15 @@
 ghost use Rattle.std.specs.Prelude.{◌≡◌, ◌<◌, ◌⊎◌, ℕ, List, None, IfErr};
 ghost use Rattle.c8_game.specs.GameText.{Spells};
 ghost use Rattle.c8_refusals.specs.declared.error.OpenError.TheVariants as opens;
-ghost use Rattle.c8_engine.specs.Calls.{IsOpenWith};
+ghost use Rattle.c8_engine.specs.Calls.{IsOpenWith, IsOpenOver, IsReplayWith};
 ghost use Rattle.c8_engine.specs.Codes.{open_code};
-ghost use Rattle.c8_engine.specs.Refused.{IsNoJournal, IsRefusedAs};
+ghost use Rattle.c8_engine.specs.Refused.{IsNoJournal, IsNoSession, IsNoReplay, IsRefusedAs};
 
 use crate::calls::turns;
 use crate::codes::{file_code, game_code, nobody_code, open_code};
 use crate::handle::Handle;
-use c8_disk::FileDisk;
-use c8_embed::{Endpoint, Engine, Medium, Patience};
+use c8_disk::{FileDisk, FileError};
+use c8_embed::{Endpoint, Engine, Medium, Patience, head_of};
 use c8_game::{Game, Player};
 use c8_log::SLOT_LENGTH;
 use c8_peer::OpenError;
@@ -23,7 +23,16 @@ const INTERVAL: u32 = 3600;
 const RECORDS_OF_CHECKPOINT: u32 = 37;
 
 /// How many records a journal has room for beside the inputs and the checkpoints: openings and drop rounds.
-const SPARE_RECORDS: u32 = 65_536;
+const SPARE_RECORDS: u32 = 16_384;
+
+/// How a session is opened.
+#[derive(Clone, Copy)]
+pub(crate) struct Way {
+    /// After how many silent turns player 1 drops a player; 0 for never.
+    patience: u32,
+    /// Whether the session only reads.
+    is_replay: bool,
+}
 
 /// Opens a session over a journal in memory, in place of the one that the handle had.
 #[unsafe(no_mangle)]
@@ -61,11 +70,62 @@ pub extern "C" fn c8_open_journal(
 {
     match Medium::take(file, folder) {
         Some(medium) => open_over(alloc, text, player, room, patience, medium, handle),
-        None => file_code(c8_disk::FileError::Failed),
+        None => file_code(FileError::Failed),
     }
 }
 
-/// Opens a session over a journal. The game is never given back.
+/// Opens a replay of the journal in a file, in place of the session that the handle had: a session that only reads. It takes
+/// the descriptor, and closes it also when it refuses. It changes nothing in the file, and opens no epoch there.
+#[unsafe(no_mangle)]
+pub extern "C" fn c8_replay_open(alloc: Global, text: &[u8], file: i32, handle: &mut Handle) -> u32
+    ensures opened { result ≡ 0 → IsReplayWith text.now handle.new.value }
+    ensures refused { 0 < result → handle.new ≡ handle.old }
+    ensures why { 0 < result → IsNoReplay text.now result }
+{
+    match Medium::copy_of(file) {
+        Some(medium) => replay_over(alloc, text, medium, handle),
+        None => file_code(FileError::Failed),
+    }
+}
+
+/// Opens a replay of the journal in a medium.
+fn replay_over(alloc: Global, text: &[u8], medium: Medium, handle: &mut Handle) -> u32
+    ensures opened { result ≡ 0 → IsReplayWith text.now handle.new.value }
+    ensures refused { 0 < result → handle.new ≡ handle.old }
+    ensures why { 0 < result → IsNoReplay text.now result }
+{
+    let game = match Game::read(alloc, text) {
+        Ok(game) => game,
+        Err(error) => return game_code(error),
+    };
+    // The record of the opening stays in memory, and has its room there beside a full journal.
+    let capacity = capacity_of(&game).saturating_add(SLOT_LENGTH as u32);
+    let disk = match disk_for(alloc, capacity, medium) {
+        Ok(disk) => disk,
+        Err(code) => return code,
+    };
+    let Some(head) = head_of(&disk) else {
+        return open_code(OpenError::BadRecord(0));
+    };
+    let way = Way {
+        patience: 0,
+        is_replay: true,
+    };
+    match Box::new(alloc, game) {
+        Ok(game) => open_on(
+            alloc,
+            disk,
+            Box::leak(game),
+            head.player,
+            head.room,
+            way,
+            handle,
+        ),
+        Err(_) => open_code(OpenError::Memory),
+    }
+}
+
+/// Opens a session over a journal. The game stays in memory: `embed/native/memory.c` gives it back.
 fn open_over(
     alloc: Global,
     text: &[u8],
@@ -86,22 +146,25 @@ fn open_over(
     let Some(me) = Player::new(player) else {
         return nobody_code();
     };
-    let disk = match disk_for(alloc, &game, medium) {
+    let disk = match disk_for(alloc, capacity_of(&game), medium) {
         Ok(disk) => disk,
         Err(code) => return code,
     };
+    let way = Way {
+        patience,
+        is_replay: false,
+    };
     match Box::new(alloc, game) {
-        Ok(game) => open_on(alloc, disk, Box::leak(game), me, room, patience, handle),
+        Ok(game) => open_on(alloc, disk, Box::leak(game), me, room, way, handle),
         Err(_) => open_code(OpenError::Memory),
     }
 }
 
-/// The disk of a journal with room for a match. The error is a code.
-fn disk_for(alloc: Global, game: &Game, medium: Medium) -> Result<FileDisk<Medium>, u32>
+/// The disk of a journal with room for so many bytes. The error is a code.
+fn disk_for(alloc: Global, capacity: u32, medium: Medium) -> Result<FileDisk<Medium>, u32>
     ensures some { IfErr result (λ code. 0 < code) }
     ensures why { IfErr result (λ code. IsNoJournal code ⊎ (code ≡ open_code opens.Memory)) }
 {
-    let capacity = capacity_of(game);
     let Ok(bytes) = Vec::with_capacity(alloc, capacity as usize) else {
         return Err(open_code(OpenError::Memory));
     };
@@ -118,14 +181,14 @@ fn open_on(
     game: &'static Game,
     me: Player,
     room: u64,
-    patience: u32,
+    way: Way,
     handle: &mut Handle,
 ) -> u32
     ensures opened { result ≡ 0 → (text : List ℕ) → Spells text game.now
-        → IsOpenWith text me.number room handle.new.value }
+        → IsOpenOver text me.number room disk way.is_replay handle.new.value }
     ensures refused { 0 < result → handle.new ≡ handle.old }
     ensures why { 0 < result → (text : List ℕ) → Spells text game.now
-        → IsRefusedAs text me.number room result }
+        → IsNoSession text me.number room result }
 {
     let number = game.session(room);
     let mut engine = match Engine::open(alloc, disk, game, me, room, None, INTERVAL) {
@@ -134,9 +197,9 @@ fn open_on(
     };
     engine.set_patience(Patience {
         first: None,
-        later: turns(patience),
+        later: turns(way.patience),
     });
-    match Box::new(alloc, Endpoint::new(engine, number)) {
+    match Box::new(alloc, Endpoint::new(engine, number, way.is_replay)) {
         Ok(session) => {
             *handle = Handle::of(session);
             0
@@ -155,7 +218,7 @@ fn capacity_of(game: &Game) -> u32 {
         .saturating_mul(SLOT_LENGTH as u32)
 }
 
-/// Gives back all that a session owned, but its game. A closed handle stays closed, and may be opened again.
+/// Gives back all that a session owned, but its game: `embed/native/memory.c` gives that back. A closed handle stays closed, and may be opened again.
 #[unsafe(no_mangle)]
 pub extern "C" fn c8_close(alloc: Global, handle: &mut Handle)
     ensures { handle.new.value ≡ None }

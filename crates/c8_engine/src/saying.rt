@@ -1,11 +1,11 @@
 //! The packets of a session.
-ghost use Rattle.std.specs.Prelude.{◌≡◌, ◌≢◌, ◌≤◌, ◌<◌, None, IfSome};
+ghost use Rattle.std.specs.Prelude.{◌≡◌, ◌≢◌, ◌≤◌, ◌<◌, None, IfSome, true, false};
 ghost use Rattle.c8_peer.specs.Asked.{saying_of};
-ghost use Rattle.c8_engine.specs.Codes.{closed_code, nobody_code};
+ghost use Rattle.c8_engine.specs.Codes.{closed_code, nobody_code, replay_code};
 ghost use Rattle.c8_embed.specs.Endpoint.{IsAsBefore};
-ghost use Rattle.c8_engine.specs.Calls.{IfSession, IsKind, HasSaid, HasSaidKind, HasRefusedToSay};
+ghost use Rattle.c8_engine.specs.Calls.{IfPlaying, replays, IsKind, HasSaid, HasSaidKind, HasRefusedToSay};
 
-use crate::codes::{closed_code, nobody_code, say_code};
+use crate::codes::{closed_code, nobody_code, replay_code, say_code};
 use crate::handle::Handle;
 use c8_game::Player;
 use c8_peer::Kind;
@@ -15,10 +15,14 @@ use c8_peer::Kind;
 #[unsafe(no_mangle)]
 pub extern "C" fn c8_next(handle: &mut Handle, out: &mut [u8; 198], to: &mut u8) -> u32
     ensures closed { handle.old.value ≡ None → (result ≡ 0) × (handle.new ≡ handle.old) }
-    ensures said { IfSession handle.old.value handle.new.value (λ e f. HasSaid e to.new result out.new f) }
+    ensures replayed { replays handle.old.value ≡ true → (result ≡ 0) × (handle.new ≡ handle.old) }
+    ensures said { IfPlaying handle.old.value handle.new.value (λ e f. HasSaid e to.new result out.new f) }
     ensures fits { result ≤ 198 }
 {
     if !handle.is_open() {
+        return 0;
+    }
+    if handle.is_replay() {
         return 0;
     }
     match handle.session().next_packet(out) {
@@ -42,16 +46,20 @@ pub extern "C" fn c8_say(
     length: &mut u32,
 ) -> u32
     ensures closed { handle.old.value ≡ None → (result ≡ closed_code) × (handle.new ≡ handle.old) }
-    ensures said { IfSession handle.old.value handle.new.value (λ e f.
+    ensures replayed { replays handle.old.value ≡ true → (result ≡ replay_code) × (handle.new ≡ handle.old) }
+    ensures said { IfPlaying handle.old.value handle.new.value (λ e f.
         result ≡ 0 → HasSaidKind e to kind leaver length.new out.new f) }
-    ensures refused { IfSession handle.old.value handle.new.value (λ e f.
+    ensures refused { IfPlaying handle.old.value handle.new.value (λ e f.
         nobody_code < result → HasRefusedToSay e to kind leaver result f) }
-    ensures nobody { (1 ≤ to → to ≤ 4 → ⊥) → (handle.old.value ≡ None → ⊥) → result ≡ nobody_code }
-    ensures kept { IfSession handle.old.value handle.new.value (λ e f. result ≢ 0 → IsAsBefore e f) }
+    ensures nobody { (1 ≤ to → to ≤ 4 → ⊥) → (handle.old.value ≡ None → ⊥) → replays handle.old.value ≡ false → result ≡ nobody_code }
+    ensures kept { IfPlaying handle.old.value handle.new.value (λ e f. result ≢ 0 → IsAsBefore e f) }
     ensures fits { result ≡ 0 → length.new ≤ 198 }
 {
     if !handle.is_open() {
         return closed_code();
+    }
+    if handle.is_replay() {
+        return replay_code();
     }
     let Some(to) = Player::new(to) else {
         return nobody_code();

@@ -1,9 +1,9 @@
 //! A session with a secret.
-ghost use Rattle.std.specs.Prelude.{◌≡◌, None, MatchOption};
-ghost use Rattle.c8_engine.specs.Codes.{closed_code, bad_secret_code, sealed_already_code};
-ghost use Rattle.c8_engine.specs.Calls.{IfSession, AreSecrets, HasSecrets, TellsSender};
+ghost use Rattle.std.specs.Prelude.{◌≡◌, None, MatchOption, true, false};
+ghost use Rattle.c8_engine.specs.Codes.{closed_code, bad_secret_code, sealed_already_code, replay_code};
+ghost use Rattle.c8_engine.specs.Calls.{IfSession, IfPlaying, replays, AreSecrets, HasSecrets, TellsSender};
 
-use crate::codes::{bad_secret_code, closed_code, sealed_already_code};
+use crate::codes::{bad_secret_code, closed_code, replay_code, sealed_already_code};
 use crate::handle::Handle;
 use c8_embed::Endpoint;
 use c8_transport::{Secret, Secrets};
@@ -13,11 +13,15 @@ use c8_transport::{Secret, Secrets};
 #[unsafe(no_mangle)]
 pub extern "C" fn c8_secrets(handle: &mut Handle, secret: &[u8; 32], watchers: &[u8]) -> u32
     ensures closed { handle.old.value ≡ None → (result ≡ closed_code) × (handle.new ≡ handle.old) }
-    ensures sealed { IfSession handle.old.value handle.new.value
+    ensures replayed { replays handle.old.value ≡ true → (result ≡ replay_code) × (handle.new ≡ handle.old) }
+    ensures sealed { IfPlaying handle.old.value handle.new.value
         (λ e f. HasSecrets e secret.now watchers.now result f) }
 {
     if !handle.is_open() {
         return closed_code();
+    }
+    if handle.is_replay() {
+        return replay_code();
     }
     seal_with(handle.session(), secret, watchers)
 }

@@ -16,7 +16,7 @@ const WORDS: usize = 4;
 pub extern "C" fn c8_step(handle: &mut Handle, from: &mut u32, rows: &mut [u16]) -> u32
     ensures closed { handle.old.value ≡ None → (result ≡ 0) × (handle.new ≡ handle.old) }
     ensures kept { IfOpen handle.old.value handle.new.value (λ e f. (f.peer ≡ e.peer)
-        × (f.depth ≡ e.depth) × (f.news ≡ e.news) × (f.lead ≡ e.lead)) }
+        × (f.depth ≡ e.depth) × (f.news ≡ e.news) × (f.lead ≡ e.lead) × (f.left ≡ e.left)) }
     ensures stepped { IfOpen handle.old.value handle.new.value (λ e f. (f.peer ≡ e.peer)
         × (e.depth ≡ 0 → IsStepped (known_by e.peer) (rows_in (length rows.old))
         e.steps.given f.steps.given from.new result)) }

@@ -1,6 +1,6 @@
 //! What a session tells of itself: events, and when to leave out a tick.
-ghost use Rattle.std.specs.Prelude.{◌≡◌, None, false};
-ghost use Rattle.c8_engine.specs.Calls.{IfOpen, HasToldEvent, HasWaited};
+ghost use Rattle.std.specs.Prelude.{◌≡◌, None, true, false};
+ghost use Rattle.c8_engine.specs.Calls.{IfOpen, IfPlays, replays, HasToldEvent, HasWaited};
 
 use crate::codes::{event_code, wait_code};
 use crate::handle::Handle;
@@ -43,9 +43,13 @@ pub extern "C" fn c8_event(handle: &mut Handle, event: &mut EventState) -> bool
 #[unsafe(no_mangle)]
 pub extern "C" fn c8_wait(handle: &mut Handle) -> u32
     ensures closed { handle.old.value ≡ None → (result ≡ 0) × (handle.new ≡ handle.old) }
-    ensures waited { IfOpen handle.old.value handle.new.value (λ e f. HasWaited e f result) }
+    ensures replayed { replays handle.old.value ≡ true → (result ≡ 0) × (handle.new ≡ handle.old) }
+    ensures waited { IfPlays handle.old.value handle.new.value (λ e f. HasWaited e f result) }
 {
     if !handle.is_open() {
+        return 0;
+    }
+    if handle.is_replay() {
         return 0;
     }
     wait_code(handle.session().engine.leaves_out())

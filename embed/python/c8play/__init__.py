@@ -20,10 +20,10 @@ The library is found beside this package, or by the variable C8_LIBRARY, which h
 a time; ctypes lets other threads run meanwhile.
 """
 from .calls import DATAGRAM, PACKET, PICTURE, ROW, ROWS, RULES, STATE
-from .refusals import (BadSecret, Closed, Desync, DiskFailed, DiskFull, DiskLocked, Dropped, End, NotSealed, Refusal, SealedAlready,
-                       SeenBefore, Threshold, explain, version)
+from .refusals import (BadSecret, Closed, Desync, DiskFailed, DiskFull, DiskLocked, Dropped, End, NotSealed, ReadOnly, Refusal,
+                       SealedAlready, SeenBefore, Threshold, explain, version)
 from .session import Event, EventKind, Kind, PlayerState, Sender, Session, Status, Step, rules
 
 __all__ = ["BadSecret", "Closed", "DATAGRAM", "Desync", "DiskFailed", "DiskFull", "DiskLocked", "Dropped", "End", "Event", "EventKind", "Kind",
-           "NotSealed", "PACKET", "PICTURE", "PlayerState", "ROW", "ROWS", "RULES", "Refusal", "STATE", "SealedAlready", "SeenBefore", "Sender",
-           "Session", "Status", "Step", "Threshold", "explain", "rules", "version"]
+           "NotSealed", "PACKET", "PICTURE", "PlayerState", "ROW", "ROWS", "RULES", "ReadOnly", "Refusal", "STATE", "SealedAlready", "SeenBefore",
+           "Sender", "Session", "Status", "Step", "Threshold", "explain", "rules", "version"]

@@ -5,7 +5,7 @@ import sys
 from typing import Any
 
 # The version of this package. A library has to have the same first two numbers, and no smaller third.
-VERSION = "0.2.1"
+VERSION = "0.2.2"
 DATAGRAM, PACKET, PICTURE, STATE, RULES, ROW, ROWS = 174, 198, 256, 4419, 256, 4, 16
 
 HERE = os.path.dirname(os.path.realpath(__file__))
@@ -36,6 +36,8 @@ CALLS: dict[str, tuple[Any, ...]] = {
     "c8_open": (U32, BYTES, SIZE, U8, U64, U32, SESSION),
     "c8_open_journal": (U32, BYTES, SIZE, U8, U64, U32, I32, I32, SESSION),
     "c8_journal_open": (c.c_int, BYTES, c.POINTER(I32), c.POINTER(I32)),
+    "c8_replay_open": (U32, BYTES, SIZE, I32, SESSION),
+    "c8_journal_read": (c.c_int, BYTES, c.POINTER(I32)),
     "c8_close": (None, SESSION),
     "c8_deliver": (U32, SESSION, BYTES, SIZE),
     "c8_tick": (U32, SESSION, U16),
@@ -43,6 +45,7 @@ CALLS: dict[str, tuple[Any, ...]] = {
     "c8_next": (U32, SESSION, BYTES, c.POINTER(U8)),
     "c8_watched": (U32, SESSION, U8),
     "c8_patience": (U32, SESSION, U32, U32),
+    "c8_clock": (U32, SESSION, U64),
     "c8_end": (U32, SESSION, U32),
     "c8_event": (FLAG, SESSION, c.POINTER(EventState)),
     "c8_wait": (U32, SESSION),
@@ -70,7 +73,7 @@ CALLS: dict[str, tuple[Any, ...]] = {
     "c8_version": (U32,),
 }
 # On some systems the library does not have it.
-MAY_LACK = {"c8_journal_open"}
+MAY_LACK = {"c8_journal_open", "c8_journal_read"}
 
 
 def library_path() -> str:

@@ -50,6 +50,10 @@ class SealedAlready(Refusal):
     """The session has a secret already."""
 
 
+class ReadOnly(Refusal):
+    """The session is a replay."""
+
+
 class Threshold(Refusal):
     """Too far ahead of what is confirmed: tick again later."""
 
@@ -79,8 +83,8 @@ class DiskLocked(Refusal):
 
 
 NAMED: dict[int, type[Refusal]] = {
-    101: Closed, 103: NotSealed, 104: SeenBefore, 105: BadSecret, 106: SealedAlready, 401: Threshold, 402: End, 403: Dropped, 814: Desync,
-    1301: DiskFailed, 1302: DiskFull, 1303: DiskLocked,
+    101: Closed, 103: NotSealed, 104: SeenBefore, 105: BadSecret, 106: SealedAlready, 107: ReadOnly, 401: Threshold, 402: End, 403: Dropped,
+    814: Desync, 1301: DiskFailed, 1302: DiskFull, 1303: DiskLocked,
 }
 
 

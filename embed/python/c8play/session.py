@@ -91,14 +91,26 @@ class Session:
     Opening raises a Refusal, or OSError for the file. A session is closed at the end of `with`, by `close`, or with its last reference."""
 
     def __init__(self, text: bytes, player: int, room: int, patience: int = 0, journal: str | os.PathLike[str] | None = None) -> None:
-        self._session = Handle()
-        self._out, self._to, self._size = c.create_string_buffer(max(PACKET, STATE)), c.c_uint8(), c.c_uint32()
-        self._rows, self._newest = (c.c_uint16 * (ROW * ROWS))(), c.c_bool()
+        self._make()
         if journal is None:
             done(LIBRARY.c8_open(text, len(text), player, room, patience, self._session))
             return
         file, folder = open_journal(journal)
         done(LIBRARY.c8_open_journal(text, len(text), player, room, patience, file, folder, self._session))
+
+    @classmethod
+    def replay(cls, text: bytes, journal: str | os.PathLike[str]) -> Session:
+        """Opens a replay of a journal: it has the player and the room that the journal names, and only reads. `rows`, `status`, `player` and
+        `event` work as ever; what plays or sends raises ReadOnly, and `packets` gives none. The file is read once, and never changed."""
+        session = cls.__new__(cls)
+        session._make()
+        done(LIBRARY.c8_replay_open(text, len(text), read_journal(journal), session._session))
+        return session
+
+    def _make(self) -> None:
+        self._session = Handle()
+        self._out, self._to, self._size = c.create_string_buffer(max(PACKET, STATE)), c.c_uint8(), c.c_uint32()
+        self._rows, self._newest = (c.c_uint16 * (ROW * ROWS))(), c.c_bool()
 
     def close(self) -> None:
         """Closes the session. Closing it again does nothing."""
@@ -150,8 +162,12 @@ class Session:
 
     def patience(self, first: int, later: int) -> None:
         """From now on player 1 drops a player who was silent for `later` turns, and one that was never heard over an open link for `first`
-        turns since the opening; 0 never."""
+        turns since the opening; 0 never. With a clock they are milliseconds."""
         done(LIBRARY.c8_patience(self._session, first, later))
+
+    def clock(self, milliseconds: int) -> None:
+        """Tells the session the time, since any moment: once a frame, before the deliveries. From then on `patience` is one of milliseconds."""
+        done(LIBRARY.c8_clock(self._session, milliseconds))
 
     def end(self, frames: int) -> None:
         """The match ends after this many frames, as the engine's own machine says. All players name the same."""
@@ -276,9 +292,26 @@ class Session:
 def open_journal(path: str | os.PathLike[str]) -> tuple[int, int]:
     """Opens the file of a journal and its folder. Raises OSError."""
     file, folder = c.c_int32(), c.c_int32()
-    encoded = os.fspath(path).encode() if IS_WINDOWS else os.fsencode(path)
-    if LIBRARY.c8_journal_open(encoded, file, folder):
-        if IS_WINDOWS:
-            raise c.WinError(c.get_last_error())  # type: ignore[attr-defined]
-        raise OSError(c.get_errno(), os.strerror(c.get_errno()), os.fspath(path))
+    if LIBRARY.c8_journal_open(encoded(path), file, folder):
+        raise system_error(path)
     return file.value, folder.value
+
+
+def read_journal(path: str | os.PathLike[str]) -> int:
+    """Opens the file of a journal to read. Raises OSError."""
+    file = c.c_int32()
+    if LIBRARY.c8_journal_read(encoded(path), file):
+        raise system_error(path)
+    return file.value
+
+
+def encoded(path: str | os.PathLike[str]) -> bytes:
+    """A path as the library wants it."""
+    return os.fspath(path).encode() if IS_WINDOWS else os.fsencode(path)
+
+
+def system_error(path: str | os.PathLike[str]) -> OSError:
+    """The system's last error."""
+    if IS_WINDOWS:
+        return c.WinError(c.get_last_error())  # type: ignore[attr-defined,no-any-return]
+    return OSError(c.get_errno(), os.strerror(c.get_errno()), os.fspath(path))

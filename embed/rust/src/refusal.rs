@@ -59,6 +59,8 @@ refusals! {
     BadSecret = 105,
     /// The session has a secret already.
     SealedAlready = 106,
+    /// The session is a replay, which only reads.
+    Replay = 107,
     // the text of a game
     GameLine = 201,
     GameRange = 202,

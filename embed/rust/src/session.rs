@@ -149,7 +149,7 @@ fn open_folder(path: &Path) -> io::Result<File> {
 impl Session {
     /// Opens the session of a player, 1 to 4, in a match: the text of a game ([`crate::Rules::text`]) and a room, a
     /// number that all players of the match share. Use a room once. The journal is in memory. Player 1 drops a player who
-    /// was silent for `patience` turns; 0 never. The rules of the game, some hundred bytes, are never given back.
+    /// was silent for `patience` turns; 0 never.
     ///
     /// # Errors
     ///
@@ -177,6 +177,20 @@ impl Session {
     ) -> Result<Session, Refusal> {
         let files = (journal.file, journal.folder);
         let (answer, handle) = Handle::open_journal(rules.as_ref(), player, room, patience, files);
+        done(answer).map(|()| Session { handle })
+    }
+
+    /// Opens a replay of the journal in a file that is open to read: a session that only reads, of the player and the room
+    /// that the journal names. [`step`](Session::step) gives all its rows, and those below
+    /// [`confirmed`](Session::confirmed) are final. What plays or sends is refused with [`Refusal::Replay`], and
+    /// [`packets`](Session::packets) gives none. The file is read once; it may be in use, and nothing in it changes.
+    ///
+    /// # Errors
+    ///
+    /// `GameLine` to `GameMemory` if the rules spell no game, [`Refusal::WrongGame`] if the journal is of another one,
+    /// [`Refusal::BadRecord`] if a record is wrong or there is none, [`Refusal::DiskFailed`] and [`Refusal::OpenMemory`].
+    pub fn replay(rules: impl AsRef<[u8]>, file: impl Into<Owned>) -> Result<Session, Refusal> {
+        let (answer, handle) = Handle::replay(rules.as_ref(), file.into());
         done(answer).map(|()| Session { handle })
     }
 
@@ -276,9 +290,16 @@ impl Session {
     }
 
     /// From now on player 1 drops a player who was silent for `later` turns, and one that was never heard over an open
-    /// link for `first` turns since the opening; 0 never.
+    /// link for `first` turns since the opening; 0 never. With a [`clock`](Session::clock) they are milliseconds. At a
+    /// replay it does nothing.
     pub fn patience(&mut self, first: u32, later: u32) {
         self.handle.patience(first, later);
+    }
+
+    /// Tells the session the time in milliseconds, since any moment: once a frame, before the deliveries. From the first
+    /// time on, [`patience`](Session::patience) is one of milliseconds. At a replay it does nothing.
+    pub fn clock(&mut self, milliseconds: u64) {
+        self.handle.clock(milliseconds);
     }
 
     /// The match ends after this many frames, as the engine's own machine says in a confirmed state. From then on the

@@ -69,6 +69,12 @@ impl Handle {
         (why, handle)
     }
 
+    pub fn replay(text: &[u8], file: Owned) -> (u32, Handle) {
+        let handle = Handle::closed();
+        let why = unsafe { c8_replay_open(text.as_ptr(), text.len(), number(file), handle.0.get()) };
+        (why, handle)
+    }
+
     pub fn deliver(&mut self, bytes: &[u8]) -> u32 {
         unsafe { c8_deliver(self.0.get(), bytes.as_ptr(), bytes.len()) }
     }
@@ -91,6 +97,10 @@ impl Handle {
 
     pub fn patience(&mut self, first: u32, later: u32) -> u32 {
         unsafe { c8_patience(self.0.get(), first, later) }
+    }
+
+    pub fn clock(&mut self, milliseconds: u64) -> u32 {
+        unsafe { c8_clock(self.0.get(), milliseconds) }
     }
 
     pub fn end(&mut self, frames: u32) -> u32 {

@@ -91,3 +91,27 @@ fn a_journal_is_a_file_to_read_and_write() {
     let journal = Journal::of(file, File::open(&folder.0).unwrap());
     assert_eq!(open(journal).err(), Some(Refusal::DiskFailed));
 }
+
+#[test]
+fn a_replay_reads_and_changes_nothing() {
+    let folder = Folder::new("replay");
+    let path = folder.0.join("journal");
+    let mut one = open(folder.journal()).unwrap();
+    for input in [3, 4, 5] {
+        one.tick(input).unwrap();
+    }
+    let (given, bytes) = (rows(&mut one), fs::read(&path).unwrap());
+    let mut replay = Session::replay(rules(), File::open(&path).unwrap()).unwrap();
+    assert_eq!((replay.ticked(), rows(&mut replay)), (3, given));
+    assert_eq!(replay.tick(6), Err(Refusal::Replay));
+    assert_eq!(replay.turn(), Err(Refusal::Replay));
+    assert_eq!(replay.packets().count(), 0);
+    assert_eq!(fs::read(&path).unwrap(), bytes);
+    one.tick(6).unwrap();
+    assert_eq!((one.ticked(), replay.ticked()), (4, 3));
+
+    let other = Rules { players: 2, frames: 100, delay: 1, window: 8, id: [2; 32] }.text().unwrap();
+    assert_eq!(Session::replay(other, File::open(&path).unwrap()).err(), Some(Refusal::WrongGame));
+    fs::write(&path, "").unwrap();
+    assert_eq!(Session::replay(rules(), File::open(&path).unwrap()).err(), Some(Refusal::BadRecord));
+}

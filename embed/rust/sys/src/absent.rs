@@ -17,6 +17,10 @@ pub unsafe fn c8_open_journal(_: *const u8, _: usize, _: u8, _: u64, _: u32, _: 
     absent()
 }
 
+pub unsafe fn c8_replay_open(_: *const u8, _: usize, _: i32, _: *mut c8_session) -> u32 {
+    absent()
+}
+
 pub unsafe fn c8_deliver(_: *mut c8_session, _: *const u8, _: usize) -> u32 {
     absent()
 }
@@ -38,6 +42,10 @@ pub unsafe fn c8_watched(_: *mut c8_session, _: u8) -> u32 {
 }
 
 pub unsafe fn c8_patience(_: *mut c8_session, _: u32, _: u32) -> u32 {
+    absent()
+}
+
+pub unsafe fn c8_clock(_: *mut c8_session, _: u64) -> u32 {
     absent()
 }
 

@@ -60,6 +60,7 @@ extern "C" {
         folder: i32,
         session: *mut c8_session,
     ) -> u32;
+    pub fn c8_replay_open(text: *const u8, length: usize, file: i32, session: *mut c8_session) -> u32;
     pub fn c8_close(session: *mut c8_session);
     pub fn c8_deliver(session: *mut c8_session, bytes: *const u8, length: usize) -> u32;
     pub fn c8_tick(session: *mut c8_session, input: u16) -> u32;
@@ -67,6 +68,7 @@ extern "C" {
     pub fn c8_next(session: *mut c8_session, out: *mut u8, to: *mut u8) -> u32;
     pub fn c8_watched(session: *mut c8_session, watcher: u8) -> u32;
     pub fn c8_patience(session: *mut c8_session, first: u32, later: u32) -> u32;
+    pub fn c8_clock(session: *mut c8_session, milliseconds: u64) -> u32;
     pub fn c8_end(session: *mut c8_session, frames: u32) -> u32;
     pub fn c8_event(session: *mut c8_session, event: *mut c8_event_state) -> bool;
     pub fn c8_wait(session: *mut c8_session) -> u32;

@@ -6,7 +6,7 @@ use Rattle.c8_embed.specs.Journal.{disk}
 use Rattle.c8_engine.proofs.calls.c8_leave.Goals as goal
 
 pub returns-clause-left : goal.returns-clause-left
-returns-clause-left c = λ from to.
+returns-clause-left c = λ from to plays.
     let here : c.args.handle.now.value ≡ Some c.session.result.now = search in
     let same : c.in-Some.leaver.number ≡ c.args.leaver = c.in-Some.ensures.some in
     rw here (
@@ -22,6 +22,7 @@ returns-clause-left c = λ from to.
         };
         code_is = c.leave_code.ensures;
       }),
+      refl,
       refl,
       refl,
       refl,

@@ -1,5 +1,5 @@
 -- For any text that spells the game the session has the engine that was opened, without rows, test or secret.
-use Rattle.std.proofs.Common.{◌≡◌, ◌∙◌, Some, inl, inr, ap, sym, subst}
+use Rattle.std.proofs.Common.{◌≡◌, ◌∙◌, Some, inl, ap, sym, subst}
 use Rattle.c8_embed.specs.Endpoint.{EngineOf}
 use Rattle.c8_embed.specs.declared.endpoint.Endpoint.{Endpoint}
 use Rattle.c8_embed.specs.Journal.{disk}
@@ -16,7 +16,6 @@ returns-in-Ok-new-clause-opened c = λ done text spells.
     rw session (record {
       rules = c.args.game.now;
       game = spells;
-      kept = c.args.disk;
       opened = subst (λ (e : EngineOf). IsOpened disk c.args.disk c.args.game.now c.args.room c.args.me.number e.peer) (sym engine) opened.0;
       given = ap (λ (e : EngineOf). e.steps.given) engine ∙ opened.1;
       depth = ap (λ (e : EngineOf). e.depth) engine ∙ opened.2;
@@ -25,11 +24,12 @@ returns-in-Ok-new-clause-opened c = λ done text spells.
       number = c.new.ensures.number ∙ c.session-number.ensures;
       sealer = c.new.ensures.sealer;
       sender = c.new.ensures.sender;
+      replay = c.new.ensures.replay;
     })
 
 pub returns-in-Err-clause-why : goal.returns-in-Err-clause-why
 returns-in-Err-clause-why c = λ some text spells.
-    inr (inr (inr (inl (record {
+    inl (record {
       rules = c.args.game.now;
       game = spells;
       kept = c.args.disk;
@@ -37,4 +37,4 @@ returns-in-Err-clause-why c = λ some text spells.
       error = c.in-Err.error;
       refused = c.in-Err.ensures.refused;
       code_is = c.open_code.ensures;
-    }))))
+    })

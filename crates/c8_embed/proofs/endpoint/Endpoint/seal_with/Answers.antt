@@ -35,5 +35,6 @@ returns c =
         refl,
         refl,
         refl,
+        refl,
       );
     }

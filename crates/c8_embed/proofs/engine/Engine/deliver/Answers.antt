@@ -21,4 +21,4 @@ pub returns-clause-news : goal.returns-clause-news
 returns-clause-news g c =
     let told = read c.args.bytes.now in
     subst (λ (e : EngineValue g.row.D.Denot). HasHeardAt c.deliver-answer.new.self.peer told c.deliver-answer.result e.news c.hear.new.self)
-    c.self.view_is (c.look.new.self, (c.is_over.result, c.look.ensures), c.hear.ensures)
+    c.self.view_is (c.look.new.self, (c.is_over.result, c.look.ensures, c.is_over.ensures), c.hear.ensures)
