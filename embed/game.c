@@ -303,7 +303,7 @@ int main(int count, char **words) {
     c8_player_state player = {0};
     bool was_refused = false, quit = false;
     network n;
-    if (!open_udp(o.local, o.host, o.port, !o.secret, &n.udp, &n.there)) return fprintf(stderr, "game: no socket\n"), 1;
+    if (!find_address(o.host, o.port, &n.there) || !open_udp(o.local, o.secret ? NULL : &n.there, &n.udp)) return fprintf(stderr, "game: no socket\n"), 1;
     open_session(&o, &session);
     if (o.is_scripted) end_after(60); /* a test does not hang */
     else open_terminal();

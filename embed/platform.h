@@ -1,4 +1,4 @@
-/* What game.c needs of the system: a UDP socket, a clock, a terminal, and an end for tests; on POSIX systems and on Windows. An engine
+/* What game.c and games/own need of the system: a UDP socket, a clock, a terminal, and an end for tests; on POSIX systems and on Windows. An engine
  * has these already. */
 #ifndef C8_PLATFORM_H
 #define C8_PLATFORM_H
@@ -145,19 +145,22 @@ static void end_after(unsigned seconds) { alarm(seconds); }
 static void die(void) { kill(getpid(), SIGKILL); }
 #endif
 
-/* Opens a socket at a port of this machine, and finds the address of another player. If `is_fixed`, the socket receives from that
- * address alone. */
-static bool open_udp(const char *local, const char *host, const char *port, bool is_fixed, udp_socket *udp, struct sockaddr_in *there) {
-    struct addrinfo wanted = {.ai_family = AF_INET, .ai_socktype = SOCK_DGRAM, .ai_flags = AI_PASSIVE}, *own, *other;
-    if (!start_network() || getaddrinfo(NULL, local, &wanted, &own)) return false;
-    wanted.ai_flags = 0;
-    if (getaddrinfo(host, port, &wanted, &other)) return freeaddrinfo(own), false;
-    memcpy(there, other->ai_addr, sizeof *there);
+/* The address of a port at a host; without a host, of this machine's. */
+static bool find_address(const char *host, const char *port, struct sockaddr_in *out) {
+    struct addrinfo wanted = {.ai_family = AF_INET, .ai_socktype = SOCK_DGRAM, .ai_flags = host ? 0 : AI_PASSIVE}, *found;
+    if (!start_network() || getaddrinfo(host, port, &wanted, &found)) return false;
+    memcpy(out, found->ai_addr, sizeof *out);
+    freeaddrinfo(found);
+    return true;
+}
+
+/* Opens a socket at a port of this machine. With an address it receives from there alone. */
+static bool open_udp(const char *port, const struct sockaddr_in *there, udp_socket *udp) {
+    struct sockaddr_in own;
+    if (!find_address(NULL, port, &own)) return false;
     *udp = socket(AF_INET, SOCK_DGRAM, 0);
-    bool is_open = *udp != INVALID_SOCKET && !bind(*udp, own->ai_addr, (socklen_t)own->ai_addrlen) && set_up_socket(*udp);
-    is_open = is_open && (!is_fixed || !connect(*udp, other->ai_addr, (socklen_t)other->ai_addrlen));
-    freeaddrinfo(own), freeaddrinfo(other);
-    return is_open;
+    bool is_open = *udp != INVALID_SOCKET && !bind(*udp, (struct sockaddr *)&own, sizeof own) && set_up_socket(*udp);
+    return is_open && (!there || !connect(*udp, (const struct sockaddr *)there, sizeof *there));
 }
 
 /* The next packet, and where it came from; -1 if there is none. */
