@@ -223,7 +223,8 @@ uint32_t c8_next(c8_session *, uint8_t out[C8_PACKET], uint8_t *to);
 c8_answer c8_watched(c8_session *, uint8_t watcher);
 
 /* Whether the match is over for this session: it was dropped, or everything was confirmed and acknowledged for more than
- * 120 turns. True for a closed session. */
+ * 120 turns; for more than 1,200 at player 1 once it has dropped a player, if c8_end has named no end: a player that was away
+ * can come back in them. True for a closed session. */
 bool c8_is_over(c8_session *);
 
 /* Writes the oldest event that waits, and returns true; or false if none waits, and at a closed session. Each event comes

@@ -134,8 +134,9 @@ impl<'g, D: Disk> Engine<'g, D> {
         self.session.silent(player)
     }
 
-    /// Returns whether the match is over for this peer: it knows that it was dropped, or it has rested for more than
-    /// 120 turns after everything was confirmed and acknowledged.
+    /// Returns whether the match is over for this peer: it knows that it was dropped, or everything has been
+    /// confirmed and acknowledged for more than 120 turns; for more than 1,200 at player 1 once it has dropped a player, if
+    /// `end_at` has named no end.
     pub fn is_over(&self) -> bool {
         is_over(&self.session, &self.end)
     }

@@ -320,7 +320,7 @@ impl Session {
     }
 
     /// Whether the match is over for this session: it was dropped, or everything was confirmed and acknowledged for more
-    /// than 120 turns.
+    /// than 120 turns; for more than 1,200 at player 1 once it has dropped a player, if `end` has named no end.
     pub fn is_over(&self) -> bool {
         self.handle.is_over()
     }
