@@ -20,15 +20,8 @@ const LEAVER: Player = Player { number: 3 };
 
 const LEAVER_PLACE: usize = 2;
 
-/// The place of player 2, who hears nothing for a while.
-const STAYER_PLACE: usize = 1;
-
 /// The place of nobody.
 const NOBODY: usize = 4;
-
-/// A game of three in which a player may enter all frames before any is confirmed.
-const WIDE: &str =
-    "players 3\nipf 10\nframes 20\ndelay 0\nwindow 20\nseed 0\nmask1 ffff\nmask2 ffff\nmask3 ffff\ncode 6205e2a1710170011202\n";
 
 /// What each player enters, frame by frame. Player 2's list ends before the game does.
 const FIRST: &[u16] = &[
@@ -103,8 +96,6 @@ fn side_of<'g>(alloc: Global, game: &'g Game, number: u8) -> Option<Side<'g>> {
 struct Match<'g> {
     sides: Vec<Side<'g>>,
     lost: u32,
-    /// Who hears nothing: packets to it are lost.
-    deaf: usize,
     /// How many packets were sent, by sender and addressee.
     sent: [[u32; 4]; 4],
     /// Whether the first packet to player 1, a HELLO, comes again in each round.
@@ -125,7 +116,6 @@ impl<'g> Match<'g> {
         Match {
             sides,
             lost,
-            deaf: NOBODY,
             sent: [[0; 4]; 4],
             is_repeated: false,
             first: None,
@@ -192,7 +182,7 @@ impl<'g> Match<'g> {
         };
         let number = count.saturating_add(1);
         *count = number;
-        to == self.deaf || (self.lost > 0 && number % self.lost == 0)
+        self.lost > 0 && number % self.lost == 0
     }
 
     /// Whether everything is confirmed and acknowledged at player 1, and whether its session is over.
@@ -372,56 +362,4 @@ fn drops_the_silent(alloc: Global, lost: u32) -> bool {
 fn who_falls_silent_is_dropped(rt: HostRuntime) {
     assert!(rt; drops_the_silent(rt.alloc(), 0));
     assert!(rt; drops_the_silent(rt.alloc(), 3));
-}
-
-/// Whether player 1 has all frames and has cut player 3, which is all that it needs, and whether its session is over.
-fn has_all_without_a_leaver(all: &Match<'_>) -> (bool, bool) {
-    match all.sides.get(0) {
-        Some(one) => {
-            let peer = one.session.peer();
-            let has_cut = peer.cut_of(LEAVER).is_some();
-            (has_cut && peer.confirmed() == 20, one.session.is_over())
-        }
-        None => (false, false),
-    }
-}
-
-/// Player 3 never sends anything, and is dropped in turn 60. Player 2 answers in that round, and then hears nothing for so
-/// many rounds. Returns the round in which player 1 has all frames and the one in which its session is over, and whether player 2
-/// has the same frames then.
-fn round_of_the_end(alloc: Global, is_brief: bool, rounds_deaf: u32) -> Option<(u32, u32, bool)> {
-    let game = Game::read(alloc, WIDE.as_bytes()).ok()?;
-    let mut all = Match::new(alloc, &game, 0);
-    if is_brief && let Some(one) = all.sides.get_mut(0) {
-        one.session.rests_briefly();
-    }
-    all.rounds(alloc, PATIENCE, LEAVER_PLACE);
-    all.deaf = STAYER_PLACE;
-    let (mut done, mut over) = (0, 0);
-    for round in 1..1_400 {
-        if round > rounds_deaf {
-            all.deaf = NOBODY;
-        }
-        all.round(alloc, LEAVER_PLACE);
-        let (is_done, is_over) = has_all_without_a_leaver(&all);
-        if done == 0 && is_done {
-            done = round;
-        }
-        if over == 0 && is_over {
-            over = round;
-        }
-    }
-    let [one, two, _] = all.sides.as_slice() else {
-        return None;
-    };
-    Some((done, over, agree(&one.session, &two.session)))
-}
-
-/// Player 1 has all frames at once, and goes on for 1,200 turns after that: a player that heard nothing for 300 gets the
-/// CUT. By the rule of `peer` it goes on for 120, and the other player never gets it.
-#[test]
-fn who_was_away_gets_all_frames(rt: HostRuntime) {
-    assert!(rt; round_of_the_end(rt.alloc(), false, 300) == Some((1, 1_201, true)));
-    assert!(rt; round_of_the_end(rt.alloc(), true, 300) == Some((1, 121, false)));
-    assert!(rt; round_of_the_end(rt.alloc(), true, 100) == Some((1, 121, true)));
 }
