@@ -14,6 +14,11 @@ abbrev pub AreBits : IpAddr → ℕ → Type 0
 AreBits (Ip.V4 ip) bits = (mapped : Ipv6Addr) × (ipv6_segments mapped ≡ embedded_segments 0xffff ip) × (bits ≡ ipv6_bits mapped)
 AreBits (Ip.V6 ip) bits = bits ≡ ipv6_bits ip
 
+-- the address is a UDP port, and no connection
+abbrev pub IsPort : Address → Type 0
+IsPort (Udp host port) = Unit {0}
+IsPort (Connection host number) = ⊥
+
 -- the address of packets from a UDP port: its host and its number, and no connection
 abbrev pub IsAddressOf : SocketAddr → Address → Type 0
 IsAddressOf socket (Udp host port) = AreBits (socket_ip socket) host × (port ≡ socket_port socket)

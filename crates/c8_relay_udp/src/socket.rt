@@ -1,6 +1,7 @@
 //! A UDP socket as an ether.
-ghost use Rattle.std.specs.Prelude.{◌≡◌, ◌<◌, ◌≤◌, [], IfOk};
-ghost use Rattle.c8_relay_udp.specs.Ports.{AreBits, IsAddressOf, IsTarget};
+ghost use Rattle.std.specs.Prelude.{◌≡◌, ◌<◌, ◌≤◌, [], IfOk, IfSome};
+ghost use Rattle.c8_relay.specs.Ether.{Gives};
+ghost use Rattle.c8_relay_udp.specs.Ports.{AreBits, IsAddressOf, IsPort, IsTarget};
 
 use crate::passed::Passed;
 use c8_relay::{Address, Ether, LONGEST_READ};
@@ -103,7 +104,12 @@ impl Ether for Socket {
         }
     }
 
-    fn receive(&mut self, packet: &mut [u8; LONGEST_READ]) -> Option<(usize, Address)> {
+    fn receive(&mut self, packet: &mut [u8; LONGEST_READ]) -> Option<(usize, Address)>
+        ensures within { IfSome result (λ next. next.0 ≤ LONGEST_READ) }
+        ensures received { Gives self.old.passed.received.items packet.new result self.new.passed.received.items }
+        ensures sent { self.new.passed.sent.items ≡ self.old.passed.sent.items }
+        ensures from { IfSome result (λ next. IsPort next.1) }
+    {
         for _ in 0..MOST_SKIPPED {
             match self.udp.recv_from(packet) {
                 Ok((size, from)) => {

@@ -47,21 +47,22 @@ said_by (Some (Content.ping bytes)) = Sign
 said_by (Some (Content.pong bytes)) = Sign
 said_by (Some (Content.close reason)) = Goodbye
 
--- what the frame says with which an input begins, and how many bytes it has; nothing yet, where it is not whole
+-- what the frame says with which an input begins, and how many bytes are read of it: its own; none yet, if it is not whole; all, if it is
+-- broken
 abbrev pub said_in : Result (FrameStatus (ℕ × Effect)) Error → Said
 said_in (Err error) = Wrong (code_of error)
 said_in (Ok (Partial needed)) = Unknown
 said_in (Ok (Complete step)) = said_by step.1.message
 
-abbrev pub size_in : Result (FrameStatus (ℕ × Effect)) Error → ℕ
-size_in (Err error) = 0
-size_in (Ok (Partial needed)) = 0
-size_in (Ok (Complete step)) = step.0
+abbrev pub size_in : List ℕ → Result (FrameStatus (ℕ × Effect)) Error → ℕ
+size_in input (Err error) = length input
+size_in input (Ok (Partial needed)) = 0
+size_in input (Ok (Complete step)) = step.0
 
 -- what an input says; a fragment may be refused because it would take memory
 abbrev pub IsSaidBy : Connection → List ℕ → Said → ℕ → Type 0
 IsSaidBy context input said size =
-    ((said ≡ said_in (read_step context input)) × (size ≡ size_in (read_step context input)))
+    ((said ≡ said_in (read_step context input)) × (size ≡ size_in input (read_step context input)))
     ⊎ (StartsWithFragment context input × (said ≡ Wrong Code.Protocol))
 
 -- a server's side of a WebSocket at its start: it takes masked frames, and no message longer than a read

@@ -1,11 +1,14 @@
 //! One connection: first the head of an HTTP request, then WebSocket messages, a page, or a refusal.
-ghost use Rattle.std.specs.Prelude.{◌≡◌, ◌≤◌, ◌↔◌, ◌++◌, [], ℕ, List, IsTrue, MatchBool, Some, drop, take};
-ghost use Rattle.std.specs.Vec.{vec_capacity};
-ghost use Rattle.websocket.specs.Connection.{max_reply_len};
+ghost use Rattle.std.specs.Prelude.{◌≡◌, ◌≤◌, ◌+◌, ◌↔◌, ◌⊎◌, ◌||◌, ◌++◌, [], ℕ, List, IsTrue, MatchBool, Some, drop, false, length, take, true};
+ghost use Rattle.std.specs.declared.net.ip_addr.IpAddr.{IpAddr};
 ghost use Rattle.websocket.specs.Handshake.{response_bytes};
+ghost use Rattle.c8_relay_udp.specs.Ports.{AreBits};
+ghost use Rattle.c8_relay_web.specs.Connections.{CountsIn, IsLoopback, IsOwnForm};
 ghost use Rattle.c8_relay_web.specs.Frames.{fresh};
 ghost use Rattle.c8_relay_web.specs.Requests.{IsAsked};
-ghost use Rattle.c8_relay_web.specs.Steps.{HasPacket, IfGives, IsGiven, IsRefused, IsSent, LacksRoom, Follows, is_open, later, unread, waiting};
+ghost use Rattle.c8_relay_web.specs.Steps.{Follows, HasPacket, IfGives, IsGiven, IsRefused, IsSent, KeepsGuest, MayLose, Reads, Speaks, TurnGives};
+ghost use Rattle.c8_relay_web.specs.Steps.{came, is_head, is_open, later, unread, waiting};
+ghost use Rattle.c8_relay_web.specs.declared.outbox.TheConstants.{OUTPUT};
 
 use crate::frames::{Said, opened, write_close, write_packet};
 use crate::inbox::{Filled, Inbox};
@@ -116,8 +119,10 @@ pub(crate) struct Connection {
     until: u64,
 }
 
-/// The network of a host that has a limit of connections: not of this machine, where a proxy speaks for many.
-pub(crate) fn network_of(host: IpAddr) -> Option<u128> {
+/// The network of a host, in which its connections count; `None` for this machine, where a proxy speaks for many.
+pub(crate) fn network_of(host: IpAddr) -> Option<u128>
+    ensures { CountsIn host result }
+{
     if host.to_canonical().is_loopback() {
         return None;
     }
@@ -129,8 +134,11 @@ impl Connection {
     /// Begins with the head of a request.
     pub(crate) fn new(stream: TcpStream, number: u64, host: IpAddr, now: u64) -> Connection
         ensures number { result.guest.number ≡ number }
+        ensures host { AreBits host result.guest.host }
+        ensures local { (own : IpAddr) × IsOwnForm host own × (IsTrue result.is_local ↔ IsLoopback own) }
         ensures stage { result.stage ≡ Stage.Head }
         ensures unread { unread result ≡ [] }
+        ensures came { came result ≡ [] }
         ensures waiting { waiting result ≡ [] }
         ensures hurry { result.until ≡ later now HURRY }
     {
@@ -151,7 +159,9 @@ impl Connection {
     }
 
     /// Lets a poll wait for it.
-    pub(crate) fn register(&mut self, registry: &Registry, token: Token) -> io::Result<()> {
+    pub(crate) fn register(&mut self, registry: &Registry, token: Token) -> io::Result<()>
+        ensures { self.new ≡ record self.old { stream = self.new.stream } }
+    {
         let interests = Interest::READABLE | Interest::WRITABLE;
         registry.register(&mut self.stream, token, interests)
     }
@@ -178,21 +188,27 @@ impl Connection {
     }
 
     /// Whether there is something to read without waiting.
-    pub(crate) fn has_more(&self) -> bool {
+    pub(crate) fn has_more(&self) -> bool
+        ensures { IsTrue result ↔ (IsTrue self.now.is_readable ⊎ (unread self.now ≡ [] → ⊥)) }
+    {
         self.is_readable || !self.inbox.is_empty()
     }
 
     /// Notes that its socket may have something to read; `hangs_up`: and that nothing will follow it.
-    pub(crate) fn wake(&mut self, hangs_up: bool) {
+    pub(crate) fn wake(&mut self, hangs_up: bool)
+        ensures { self.new ≡ record self.old { is_readable = true; hangs_up = self.old.hangs_up || hangs_up } }
+    {
         self.is_readable = true;
         self.hangs_up = self.hangs_up || hangs_up;
     }
 
     /// Takes the next packet, and goes on with all else.
     pub(crate) fn next(&mut self, shared: &mut Shared, packet: &mut [u8; LONGEST_READ]) -> Next
-        ensures number { self.new.guest.number ≡ self.old.guest.number }
+        ensures guest { KeepsGuest self.old self.new }
+        ensures reads { Reads self.old self.new }
+        ensures given { IfGives (Some result) (λ size. TurnGives self.old self.new (take size packet.new)) }
         ensures served { (size : ℕ) → waiting self.old ≡ [] → HasPacket self.old.stage (unread self.old) size
-            → max_reply_len ≤ vec_capacity shared.old.frame → result ≡ Next.Packet size }
+            → (result ≡ Next.Packet size) × IsGiven self.old self.new (take size packet.new) }
     {
         for _step in 0..MOST_STEPS {
             if let Some(next) = self.step(shared, packet) {
@@ -204,10 +220,11 @@ impl Connection {
 
     /// Makes one step; `None` if another may follow at once.
     fn step(&mut self, shared: &mut Shared, packet: &mut [u8; LONGEST_READ]) -> Option<Next>
-        ensures number { self.new.guest.number ≡ self.old.guest.number }
+        ensures guest { KeepsGuest self.old self.new }
+        ensures reads { Reads self.old self.new }
         ensures given { IfGives result (λ size. IsGiven self.old self.new (take size packet.new)) }
         ensures served { (size : ℕ) → waiting self.old ≡ [] → HasPacket self.old.stage (unread self.old) size
-            → max_reply_len ≤ vec_capacity shared.old.frame → result ≡ Some (Next.Packet size) }
+            → result ≡ Some (Next.Packet size) }
     {
         if !self.outbox.flush(&self.stream) {
             return Some(Next::Over);
@@ -228,8 +245,9 @@ impl Connection {
     fn fill(&mut self) -> Option<Next>
         ensures stage { self.new.stage ≡ self.old.stage }
         ensures waiting { waiting self.new ≡ waiting self.old }
-        ensures more { (more : List ℕ) × (unread self.new ≡ unread self.old ++ more) }
-        ensures number { self.new.guest.number ≡ self.old.guest.number }
+        ensures more { (more : List ℕ) × (came self.new ≡ came self.old ++ more) × (unread self.new ≡ unread self.old ++ more) }
+        ensures guest { self.new.guest ≡ self.old.guest }
+        ensures local { self.new.is_local ≡ self.old.is_local }
         ensures quiet { IfGives result (λ _. ⊥) }
     {
         if !self.is_readable {
@@ -252,7 +270,8 @@ impl Connection {
     /// Reads the head of a request.
     fn head(&mut self, shared: &Shared) -> Option<Next>
         requires { self.old.stage ≡ Stage.Head }
-        ensures number { self.new.guest.number ≡ self.old.guest.number }
+        ensures guest { KeepsGuest self.old self.new }
+        ensures reads { Reads self.old self.new }
         ensures follows { (asked : Asked) × IsAsked (unread self.old) shared.entry.now.site asked
             × Follows asked shared.entry.now.now self.old self.new }
         ensures quiet { IfGives result (λ _. ⊥) }
@@ -274,9 +293,11 @@ impl Connection {
 
     /// Says why the request is refused.
     fn refuse(&mut self, refused: Refused, now: u64) -> Option<Next>
-        ensures number { self.new.guest.number ≡ self.old.guest.number }
+        ensures guest { self.new.guest ≡ self.old.guest }
+        ensures local { self.new.is_local ≡ self.old.is_local }
         ensures quiet { IfGives result (λ _. ⊥) }
         ensures refused { IsRefused refused now self.old self.new }
+        ensures reads { Reads self.old self.new }
     {
         self.outbox.say(refused.response());
         self.end(now)
@@ -284,11 +305,8 @@ impl Connection {
 
     /// Ends once all is sent.
     fn end(&mut self, now: u64) -> Option<Next>
-        ensures number { self.new.guest.number ≡ self.old.guest.number }
         ensures quiet { IfGives result (λ _. ⊥) }
-        ensures waiting { waiting self.new ≡ waiting self.old }
-        ensures stage { self.new.stage ≡ Stage.Ending }
-        ensures until { self.new.until ≡ later now HURRY }
+        ensures ends { self.new ≡ record self.old { stage = Stage.Ending; until = later now HURRY } }
     {
         self.stage = Stage::Ending;
         self.until = now.saturating_add(HURRY);
@@ -297,11 +315,15 @@ impl Connection {
 
     /// Becomes a WebSocket.
     fn open(&mut self, upgrade: Upgrade, shared: &Shared) -> Option<Next>
+        ensures guest { Speaks self.old upgrade.host self.new }
         ensures number { self.new.guest.number ≡ self.old.guest.number }
+        ensures local { self.new.is_local ≡ self.old.is_local }
         ensures quiet { IfGives result (λ _. ⊥) }
         ensures open { self.new.stage ≡ Stage.Open fresh }
+        ensures came { came self.new ≡ came self.old }
         ensures rest { unread self.new ≡ drop upgrade.length (unread self.old) }
-        ensures said { waiting self.old ≡ [] → waiting self.new ≡ response_bytes upgrade.accept [] }
+        ensures said { length (waiting self.old) + length (response_bytes upgrade.accept []) ≤ OUTPUT
+            → waiting self.new ≡ waiting self.old ++ response_bytes upgrade.accept [] }
         ensures until { self.new.until ≡ later shared.entry.now.now SILENCE }
     {
         if let Some(host) = upgrade.host
@@ -322,7 +344,8 @@ impl Connection {
 
     /// Sends more of a page.
     fn page(&mut self, shared: &Shared) -> Option<Next>
-        ensures number { self.new.guest.number ≡ self.old.guest.number }
+        ensures same { self.new ≡ record self.old { stage = self.new.stage; until = self.new.until } }
+        ensures begun { is_head self.old.stage ≡ false → is_head self.new.stage ≡ false }
         ensures quiet { IfGives result (λ _. ⊥) }
     {
         let Stage::Page(sending) = self.stage else {
@@ -352,10 +375,12 @@ impl Connection {
 
     /// Reads the next message.
     fn message(&mut self, shared: &mut Shared, packet: &mut [u8; LONGEST_READ]) -> Option<Next>
-        ensures number { self.new.guest.number ≡ self.old.guest.number }
+        ensures guest { self.new.guest ≡ self.old.guest }
+        ensures local { self.new.is_local ≡ self.old.is_local }
+        ensures begun { is_head self.old.stage ≡ false → is_head self.new.stage ≡ false }
+        ensures reads { Reads self.old self.new }
         ensures given { IfGives result (λ size. IsGiven self.old self.new (take size packet.new)) }
-        ensures served { (size : ℕ) → HasPacket self.old.stage (unread self.old) size → max_reply_len ≤ vec_capacity shared.old.frame
-            → result ≡ Some (Next.Packet size) }
+        ensures served { (size : ℕ) → HasPacket self.old.stage (unread self.old) size → result ≡ Some (Next.Packet size) }
     {
         let Stage::Open(context) = &mut self.stage else {
             return Some(Next::Over);
@@ -365,7 +390,7 @@ impl Connection {
             write_close(context, code, &mut shared.frame);
         }
         // Where there is no room, a client that reads nothing gets no answer.
-        self.outbox.say(shared.frame.as_slice());
+        self.outbox.say(shared.frame.bytes());
         match said {
             Said::Packet(size) => Some(Next::Packet(size)),
             Said::Sign => None,
@@ -376,7 +401,11 @@ impl Connection {
 
     /// Reads what has come; `None` if there was something.
     fn listen(&mut self, now: u64) -> Option<Next>
-        ensures number { self.new.guest.number ≡ self.old.guest.number }
+        ensures guest { self.new.guest ≡ self.old.guest }
+        ensures local { self.new.is_local ≡ self.old.is_local }
+        ensures stage { self.new.stage ≡ self.old.stage }
+        ensures waiting { waiting self.new ≡ waiting self.old }
+        ensures more { (more : List ℕ) × (came self.new ≡ came self.old ++ more) × (unread self.new ≡ unread self.old ++ more) }
         ensures quiet { IfGives result (λ _. ⊥) }
     {
         let next = self.fill();
@@ -388,7 +417,8 @@ impl Connection {
 
     /// Once all is sent, says that no more will come.
     fn finish(&mut self) -> Option<Next>
-        ensures number { self.new.guest.number ≡ self.old.guest.number }
+        ensures same { self.new ≡ record self.old { stage = self.new.stage } }
+        ensures begun { is_head self.old.stage ≡ false → is_head self.new.stage ≡ false }
         ensures quiet { IfGives result (λ _. ⊥) }
     {
         if !self.outbox.is_empty() {
@@ -403,9 +433,11 @@ impl Connection {
 
     /// Sends a packet, or loses it where too much waits already. Returns whether it was taken.
     pub(crate) fn say(&mut self, shared: &mut Shared, packet: &[u8]) -> bool
-        ensures number { self.new.guest ≡ self.old.guest }
+        ensures guest { self.new.guest ≡ self.old.guest }
+        ensures inbox { self.new.inbox ≡ self.old.inbox }
+        ensures stage { self.new.stage ≡ self.old.stage }
         ensures said { MatchBool result (IsSent self.old self.new packet.now)
-            ((waiting self.new ≡ waiting self.old) × LacksRoom (vec_capacity shared.old.frame) self.old packet.now) }
+            ((waiting self.new ≡ waiting self.old) × MayLose self.old packet.now) }
     {
         let Stage::Open(context) = &mut self.stage else {
             return false;
@@ -413,7 +445,7 @@ impl Connection {
         if !write_packet(context, packet, &mut shared.frame) {
             return false;
         }
-        if !self.outbox.say(shared.frame.as_slice()) {
+        if !self.outbox.say(shared.frame.bytes()) {
             return false;
         }
         // A stream that fails here fails in its next turn too.

@@ -1,6 +1,7 @@
 //! How many connections each host has.
-ghost use Rattle.std.specs.Prelude.{◌≡◌, ◌≤◌, ◌↔◌, IsTrue, count_by, slice_set};
+ghost use Rattle.std.specs.Prelude.{◌≡◌, ◌≤◌, ◌↔◌, All, IfOk, IsTrue, None, count_by, length, slice_set};
 ghost use Rattle.c8_relay_web.specs.Connections.{is_of};
+ghost use Rattle.c8_relay_web.specs.declared.numbers.TheConstants.{MOST_CONNECTIONS};
 
 use crate::numbers::MOST_CONNECTIONS;
 use std::alloc::{AllocError, Global};
@@ -12,13 +13,16 @@ const MOST_OF_HOST: usize = 128;
 #[derive(Drop)]
 pub(crate) struct Crowd {
     networks: Vec<Option<u128>>,
+    ghost all: { length networks.items ≡ MOST_CONNECTIONS },
 }
 
 impl Crowd {
     /// Takes memory for all places.
-    pub(crate) fn new(alloc: Global) -> Result<Crowd, AllocError> {
+    pub(crate) fn new(alloc: Global) -> Result<Crowd, AllocError>
+        ensures { IfOk result (λ crowd. All (λ network. network ≡ None) crowd.networks.items) }
+    {
         let mut networks = Vec::with_capacity(alloc, MOST_CONNECTIONS)?;
-        for _ in 0..MOST_CONNECTIONS {
+        for _place in 0..MOST_CONNECTIONS {
             networks.push(None)?;
         }
         Ok(Crowd { networks })

@@ -1,10 +1,10 @@
 //! WebSocket frames, in fixed buffers.
-ghost use Rattle.std.specs.Prelude.{◌≡◌, ◌≤◌, ◌<◌, ◌+◌, ◌⊎◌, [], IfSome, IsTrue, MatchBool, Some, drop, false, length, option_map, take};
-ghost use Rattle.std.specs.Vec.{vec_capacity};
-ghost use Rattle.websocket.specs.Connection.{IsDoneSending, can_write, max_header_len, max_reply_len};
+ghost use Rattle.std.specs.Prelude.{◌≡◌, ◌≤◌, ◌<◌, ◌⊎◌, [], IfSome, IsTrue, MatchBool, Some, drop, false, length, option_map, take};
+ghost use Rattle.websocket.specs.Connection.{IsDoneSending, can_write};
 ghost use Rattle.websocket.specs.Content.{IsPayloadInside, IsReceivedInside, binary, payload_bytes, received_content};
 ghost use Rattle.c8_relay_web.specs.Frames.{Gains, IfPacket, IsMessage, IsSaidBy, code_of, fresh, said_by};
 
+use crate::frame_buffer::FrameBuffer;
 use crate::inbox::INPUT;
 use c8_relay::LONGEST_READ;
 use std::alloc::Global;
@@ -13,9 +13,6 @@ use websocket::protocol::{
     CloseCode, CloseFrame, FrameStatus, Message, NoMask, Payload, Received, Role, Step,
     WebSocketConfig, WebSocketContext,
 };
-
-/// More bytes than the longest frame has: a packet, a pong or a close.
-pub(crate) const LONGEST_FRAME: usize = 256;
 
 /// What a connection said.
 #[derive(Clone, Copy)]
@@ -53,10 +50,10 @@ pub(crate) fn opened(alloc: Global) -> WebSocketContext
 pub(crate) fn write_packet(
     context: &mut WebSocketContext,
     packet: &[u8],
-    frame: &mut Vec<u8>,
+    frame: &mut FrameBuffer,
 ) -> bool
-    ensures frame { MatchBool result (Gains context.old packet.now [] frame.new.items)
-        ((can_write context.old.state ≡ false) ⊎ (vec_capacity frame.old < length packet.now + max_header_len)) }
+    ensures frame { MatchBool result (Gains context.old packet.now [] (take frame.new.size frame.new.bytes))
+        ((can_write context.old.state ≡ false) ⊎ (LONGEST_READ < length packet.now)) }
     ensures same { context.new ≡ context.old }
 {
     frame.clear();
@@ -69,7 +66,7 @@ pub(crate) fn write_packet(
 pub(crate) fn write_close(
     context: &mut WebSocketContext,
     code: CloseCode,
-    frame: &mut Vec<u8>,
+    frame: &mut FrameBuffer,
 ) -> bool
     ensures { IsTrue result → IsDoneSending context.new.state }
 {
@@ -78,18 +75,19 @@ pub(crate) fn write_close(
     context.close(Some(reason), frame, &mut NoMask).is_ok()
 }
 
-/// Reads the frame with which the input begins, and writes what it asks for, which replaces what a buffer held.
+/// Reads the frame with which the input begins, and writes what it asks for, which replaces what a buffer held. Nothing
+/// behind a broken frame is read.
 pub(crate) fn read_frame(
     context: &mut WebSocketContext,
     input: &mut [u8; INPUT],
     filled: usize,
-    reply: &mut Vec<u8>,
+    reply: &mut FrameBuffer,
     packet: &mut [u8; LONGEST_READ],
 ) -> Frame
     requires { filled ≤ INPUT }
     ensures said { IfPacket result.said (λ size. IsMessage context.old (take filled input.old) result.consumed (take size packet.new)) }
-    ensures rest { IfPacket result.said (λ _. drop result.consumed (take filled input.new) ≡ drop result.consumed (take filled input.old)) }
-    ensures exact { max_reply_len ≤ vec_capacity reply.old → IsSaidBy context.old (take filled input.old) result.said result.consumed }
+    ensures rest { drop result.consumed (take filled input.new) ≡ drop result.consumed (take filled input.old) }
+    ensures exact { IsSaidBy context.old (take filled input.old) result.said result.consumed }
 {
     reply.clear();
     let input = &mut input[..filled];
@@ -101,7 +99,10 @@ pub(crate) fn read_frame(
         }
         Err(error) => {
             let said = Said::Wrong(code_of(error));
-            return Frame { consumed: 0, said };
+            return Frame {
+                consumed: filled,
+                said,
+            };
         }
     };
     let said = said_by(&step, input, packet);

@@ -1,6 +1,10 @@
 //! A UDP socket and all connections, as one ether.
-ghost use Rattle.std.specs.Prelude.{◌≡◌, [], IfOk, IfSome, ◌≤◌};
-ghost use Rattle.c8_relay_web.specs.Connections.{IsConnection};
+ghost use Rattle.std.specs.Prelude.{◌≡◌, ◌≤◌, ◌↔◌, ◌⊎◌, ◌∷◌, [], ℕ, List, IfNone, IfOk, IfSome, IsSomeAnd, IsTrue, None, false, not, take, true};
+ghost use Rattle.std.specs.Vec.{vec_len};
+ghost use Rattle.c8_relay_udp.specs.Ports.{IsPort};
+ghost use Rattle.c8_relay_web.specs.Connections.{LeftBy};
+ghost use Rattle.c8_relay_web.specs.Steps.{ComesFrom, GivesDue, GoesOn, IsDue};
+ghost use Rattle.c8_relay_web.specs.declared.connection.Connection.{Connection};
 
 use crate::site::Site;
 use crate::web::Web;
@@ -79,12 +83,16 @@ impl Hub {
     }
 
     /// How many files it serves.
-    pub fn files(&self) -> usize {
+    pub fn files(&self) -> usize
+        ensures { result ≡ vec_len self.now.web.shared.site.pages.pages }
+    {
         self.web.files()
     }
 
     /// How many packets were lost because their connection read too slowly.
-    pub fn lost(&self) -> u64 {
+    pub fn lost(&self) -> u64
+        ensures { result ≡ self.now.lost }
+    {
         self.lost
     }
 
@@ -97,13 +105,15 @@ impl Hub {
     }
 
     /// Whether there may be something to receive without waiting.
-    pub fn is_ready(&self) -> bool {
+    pub fn is_ready(&self) -> bool
+        ensures { IsTrue result ↔ (IsTrue self.now.is_socket_ready ⊎ (self.now.web.turns.queue.items ≡ [] → ⊥)) }
+    {
         self.is_socket_ready || self.web.is_ready()
     }
 
     /// Tells the time, in microseconds.
     pub fn set_time(&mut self, now: u64)
-        ensures { self.new.passed ≡ self.old.passed }
+        ensures { self.new ≡ record self.old { web = record self.old.web { shared = record self.old.web.shared { now = now } } } }
     {
         self.web.set_time(now);
     }
@@ -132,15 +142,36 @@ impl Hub {
 
     /// The next of the addresses of connections that have ended.
     pub fn next_left(&mut self) -> Option<Address>
-        ensures connection { IfSome result (λ address. IsConnection address) }
+        ensures left { LeftBy self.old.web.left.items result self.new.web.left.items }
         ensures same { self.new.passed ≡ self.old.passed }
     {
         self.web.next_left()
     }
 
+    /// Takes the next packet of a connection, if connections are asked first this time.
+    fn from_web_first(&mut self, packet: &mut [u8; LONGEST_READ]) -> Option<(usize, Address)>
+        ensures within { IfSome result (λ next. next.0 ≤ LONGEST_READ) }
+        ensures given { IfSome result (λ next. (place : ℕ) × ComesFrom place self.old.web.places.items self.new.web.places.items
+            (take next.0 packet.new) next.1) }
+        ensures goes { IfNone result (GoesOn self.old.web.places.items self.new.web.places.items) }
+        ensures served { self.old.is_web_first ≡ true → (place : ℕ) (others : List ℕ) (it : Connection) (size : ℕ)
+            → self.old.web.turns.queue.items ≡ place ∷ others → IsDue self.old.web.places.items place it size
+            → GivesDue self.new.web.places.items place it size packet.new result }
+        ensures idle { self.old.is_web_first ≡ false → (result ≡ None) × (self.new ≡ self.old) }
+        ensures same { self.new ≡ record self.old { web = self.new.web } }
+    {
+        if !self.is_web_first {
+            return None;
+        }
+        self.web.next(packet)
+    }
+
     /// Takes the next packet of the socket.
     fn from_socket(&mut self, packet: &mut [u8; LONGEST_READ]) -> Option<(usize, Address)>
         ensures within { IfSome result (λ next. next.0 ≤ LONGEST_READ) }
+        ensures from { IfSome result (λ next. IsPort next.1) }
+        ensures none { self.old.is_socket_ready ≡ false → result ≡ None }
+        ensures web { self.new.web ≡ self.old.web }
         ensures same { self.new.passed ≡ self.old.passed }
     {
         if !self.is_socket_ready {
@@ -154,12 +185,17 @@ impl Hub {
     /// Takes the next packet of the socket or of a connection, whichever is first.
     fn next(&mut self, packet: &mut [u8; LONGEST_READ]) -> Option<(usize, Address)>
         ensures within { IfSome result (λ next. next.0 ≤ LONGEST_READ) }
+        ensures from { IfSome result (λ next. IsPort next.1 ⊎ ((place : ℕ) × ComesFrom place self.old.web.places.items self.new.web.places.items
+            (take next.0 packet.new) next.1)) }
+        ensures served { (place : ℕ) (others : List ℕ) (it : Connection) (size : ℕ) → self.old.web.turns.queue.items ≡ place ∷ others
+            → IsDue self.old.web.places.items place it size
+            → GivesDue self.new.web.places.items place it size packet.new result
+            ⊎ ((self.old.is_web_first ≡ true) × IsTrue self.old.is_socket_ready × IsSomeAnd result (λ next. IsPort next.1)) }
+        ensures turn { self.new.is_web_first ≡ not self.old.is_web_first }
         ensures same { self.new.passed ≡ self.old.passed }
     {
         self.is_web_first = !self.is_web_first;
-        if self.is_web_first
-            && let Some(next) = self.web.next(packet)
-        {
+        if let Some(next) = self.from_web_first(packet) {
             return Some(next);
         }
         if let Some(next) = self.from_socket(packet) {

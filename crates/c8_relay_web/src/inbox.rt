@@ -1,11 +1,11 @@
 //! The bytes that came by a connection.
-ghost use Rattle.std.specs.Prelude.{◌≡◌, ◌≤◌, ◌++◌, [], ℕ, List, drop, nat_le, take};
-ghost use Rattle.std.specs.Vec.{vec_capacity};
+ghost use Rattle.std.specs.Prelude.{◌≡◌, ◌≤◌, ◌↔◌, ◌++◌, [], ℕ, IsTrue, List, drop, nat_le, take};
 ghost use Rattle.c8_relay_web.specs.declared.inbox.TheConstants.{INPUT};
-ghost use Rattle.websocket.specs.Connection.{max_reply_len};
 ghost use Rattle.c8_relay_web.specs.Frames.{IfPacket, IsMessage, IsNext};
 
+use crate::frame_buffer::FrameBuffer;
 use crate::frames::{Frame, Said, read_frame};
+use c8_disk::GhostList;
 use c8_relay::LONGEST_READ;
 use mio::net::TcpStream;
 use std::io::{ErrorKind, Read};
@@ -35,20 +35,26 @@ pub(crate) enum Filled {
 pub(crate) struct Inbox {
     bytes: [u8; INPUT],
     filled: usize,
+    /// All bytes that the socket gave, for proofs.
+    came: GhostList<u8>,
     ghost filled_fits: { filled ≤ INPUT },
 }
 
 impl Inbox {
     pub(crate) fn new() -> Inbox
-        ensures { take result.filled result.bytes ≡ [] }
+        ensures unread { take result.filled result.bytes ≡ [] }
+        ensures came { result.came.items ≡ [] }
     {
         Inbox {
             bytes: [0; INPUT],
             filled: 0,
+            came: GhostList::new(),
         }
     }
 
-    pub(crate) fn is_empty(&self) -> bool {
+    pub(crate) fn is_empty(&self) -> bool
+        ensures { IsTrue result ↔ (take self.now.filled self.now.bytes ≡ []) }
+    {
         self.filled == 0
     }
 
@@ -67,7 +73,8 @@ impl Inbox {
 
     /// Drops the first bytes.
     pub(crate) fn consume(&mut self, count: usize)
-        ensures { take self.new.filled self.new.bytes ≡ drop count (take self.old.filled self.old.bytes) }
+        ensures came { self.new.came.items ≡ self.old.came.items }
+        ensures rest { take self.new.filled self.new.bytes ≡ drop count (take self.old.filled self.old.bytes) }
     {
         let filled = self.filled;
         let count = count.min(filled);
@@ -79,14 +86,16 @@ impl Inbox {
 
     /// Drops all bytes.
     pub(crate) fn clear(&mut self)
-        ensures { take self.new.filled self.new.bytes ≡ [] }
+        ensures came { self.new.came.items ≡ self.old.came.items }
+        ensures none { take self.new.filled self.new.bytes ≡ [] }
     {
         self.filled = 0;
     }
 
-    /// Reads what has come.
+    /// Reads what has come. What `came` notes of the system is trusted.
     pub(crate) fn fill(&mut self, stream: &TcpStream) -> Filled
-        ensures { (more : List ℕ) × (take self.new.filled self.new.bytes ≡ take self.old.filled self.old.bytes ++ more) }
+        ensures { (more : List ℕ) × (self.new.came.items ≡ self.old.came.items ++ more)
+            × (take self.new.filled self.new.bytes ≡ take self.old.filled self.old.bytes ++ more) }
     {
         let filled = self.filled;
         if filled >= INPUT {
@@ -96,7 +105,10 @@ impl Inbox {
         match stream.read(&mut self.bytes[filled..]) {
             Ok(0) => Filled::Over,
             Ok(size) => {
-                self.filled = (filled + size).min(INPUT);
+                let last = (filled + size).min(INPUT);
+                let bytes = &self.bytes[..last];
+                note(&mut self.came, &bytes[filled..]);
+                self.filled = last;
                 if self.filled < INPUT {
                     Filled::All
                 } else {
@@ -113,13 +125,15 @@ impl Inbox {
     pub(crate) fn next_frame(
         &mut self,
         context: &mut WebSocketContext,
-        reply: &mut Vec<u8>,
+        reply: &mut FrameBuffer,
         packet: &mut [u8; LONGEST_READ],
     ) -> Said
         ensures packet { IfPacket result (λ size. (consumed : ℕ)
             × IsMessage context.old (take self.old.filled self.old.bytes) consumed (take size packet.new)
             × (take self.new.filled self.new.bytes ≡ drop consumed (take self.old.filled self.old.bytes))) }
-        ensures exact { max_reply_len ≤ vec_capacity reply.old → (size : ℕ) × IsNext context.old (take self.old.filled self.old.bytes) result size }
+        ensures exact { (size : ℕ) × IsNext context.old (take self.old.filled self.old.bytes) result size
+            × (take self.new.filled self.new.bytes ≡ drop size (take self.old.filled self.old.bytes)) }
+        ensures came { self.new.came.items ≡ self.old.came.items }
     {
         reply.clear();
         match self.bytes() {
@@ -133,5 +147,14 @@ impl Inbox {
         let Frame { consumed, said } = read_frame(context, &mut self.bytes, filled, reply, packet);
         self.consume(consumed);
         said
+    }
+}
+
+/// Notes bytes in a list, for proofs.
+fn note(list: &mut GhostList<u8>, bytes: &[u8])
+    ensures { list.new.items ≡ list.old.items ++ bytes.now }
+{
+    for byte in bytes {
+        *list = list.and(byte);
     }
 }

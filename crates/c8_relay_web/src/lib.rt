@@ -11,6 +11,7 @@ mod command;
 mod connection;
 mod crowd;
 mod folder;
+mod frame_buffer;
 mod frames;
 mod hub;
 mod inbox;

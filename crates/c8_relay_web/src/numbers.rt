@@ -1,6 +1,7 @@
 //! The numbers of connections.
 ghost use Rattle.std.specs.Prelude.{◌≡◌, ◌≤◌, ◌<◌, ◌⊎◌, ◌+◌, ◌%◌, ◌^◌, ◌++◌, ◌∷◌, [], IfSome, IfNone, None};
 ghost use Rattle.std.specs.List.{All, Contains};
+ghost use Rattle.c8_relay_web.specs.declared.numbers.TheConstants.{MOST_CONNECTIONS};
 
 use c8_disk::GhostList;
 
@@ -8,7 +9,7 @@ use c8_disk::GhostList;
 pub const MOST_CONNECTIONS: usize = 1024;
 
 /// The step from the numbers of one turn to those of the next: in each turn there is one for each place.
-const STEP: u64 = 1024;
+const STEP: u64 = MOST_CONNECTIONS as u64;
 
 /// Gives each connection a number that no other has or had, by which its place is found.
 #[derive(Drop)]
@@ -17,7 +18,7 @@ pub(crate) struct Numbers {
     /// The numbers that were given, for proofs.
     pub(crate) given: GhostList<u64>,
     ghost below: { All (λ number. number < next) given.items },
-    ghost whole_turns: { next % 1024 ≡ 0 },
+    ghost whole_turns: { next % MOST_CONNECTIONS ≡ 0 },
 }
 
 impl Numbers {
@@ -34,8 +35,8 @@ impl Numbers {
     pub(crate) fn give(&mut self, place: usize) -> Option<u64>
         ensures fresh { IfSome result (λ number. Contains self.old.given.items number → ⊥) }
         ensures noted { IfSome result (λ number. self.new.given.items ≡ self.old.given.items ++ number ∷ []) }
-        ensures at { IfSome result (λ number. number % 1024 ≡ place) }
-        ensures last { result ≡ None → (1024 ≤ place) ⊎ (2 ^ 64 ≤ self.old.next + 1024) }
+        ensures at { IfSome result (λ number. number % MOST_CONNECTIONS ≡ place) }
+        ensures last { result ≡ None → (MOST_CONNECTIONS ≤ place) ⊎ (2 ^ 64 ≤ self.old.next + MOST_CONNECTIONS) }
         ensures kept { IfNone result (self.new.given.items ≡ self.old.given.items) }
     {
         let next = self.next.checked_add(STEP)?;
@@ -51,7 +52,7 @@ impl Numbers {
 
 /// The place of the connection with a number.
 pub(crate) fn place_of(number: u64) -> usize
-    ensures { result ≡ number % 1024 }
+    ensures { result ≡ number % MOST_CONNECTIONS }
 {
     (number % STEP) as usize
 }

@@ -1,8 +1,10 @@
 //! What all connections share.
 
-use crate::frames::LONGEST_FRAME;
+ghost use Rattle.std.specs.Prelude.{◌≡◌};
+
+use crate::frame_buffer::FrameBuffer;
 use crate::site::Site;
-use std::alloc::{AllocError, Global};
+use std::alloc::Global;
 
 /// What all connections share.
 #[derive(Drop)]
@@ -11,18 +13,20 @@ pub(crate) struct Shared {
     pub site: Site,
     /// The time, in microseconds.
     pub now: u64,
-    /// A buffer with room for the longest frame.
-    pub frame: Vec<u8>,
+    /// The frame that is written now.
+    pub frame: FrameBuffer,
 }
 
 impl Shared {
-    /// Takes memory for a frame.
-    pub(crate) fn new(alloc: Global, site: Site) -> Result<Shared, AllocError> {
-        Ok(Shared {
+    /// At time 0.
+    pub(crate) fn new(alloc: Global, site: Site) -> Shared
+        ensures { result.site ≡ site }
+    {
+        Shared {
             alloc,
             site,
             now: 0,
-            frame: Vec::with_capacity(alloc, LONGEST_FRAME)?,
-        })
+            frame: FrameBuffer::new(),
+        }
     }
 }

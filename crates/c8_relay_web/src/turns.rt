@@ -1,6 +1,7 @@
 //! Which connection is asked next.
-ghost use Rattle.std.specs.Prelude.{◌≡◌, ◌⊎◌, ◌++◌, ◌∷◌, ◌≤◌, [], IfOk, IfSome, cond, option_to_list, slice_get};
+ghost use Rattle.std.specs.Prelude.{◌≡◌, ◌⊎◌, ◌++◌, ◌∷◌, ◌≤◌, ◌<◌, ◌↔◌, [], ℕ, IfOk, IfSome, IsTrue, None, Some, cond, length, option_to_list, slice_get, slice_set, false};
 ghost use Rattle.std.specs.VecDeque.{deque_capacity, deque_len};
+ghost use Rattle.c8_relay_web.specs.declared.numbers.TheConstants.{MOST_CONNECTIONS};
 
 use crate::numbers::MOST_CONNECTIONS;
 use std::alloc::{AllocError, Global};
@@ -12,6 +13,8 @@ pub(crate) struct Turns {
     pub(crate) queue: VecDeque<usize>,
     /// Whether a place stands in the queue.
     stands: Vec<bool>,
+    ghost all: { length stands.items ≡ MOST_CONNECTIONS },
+    ghost room: { MOST_CONNECTIONS ≤ deque_capacity queue },
 }
 
 impl Turns {
@@ -19,24 +22,22 @@ impl Turns {
     pub(crate) fn new(alloc: Global) -> Result<Turns, AllocError>
         ensures { IfOk result (λ turns. turns.queue.items ≡ []) }
     {
-        let mut stands = Vec::with_capacity(alloc, MOST_CONNECTIONS)?;
-        for _ in 0..MOST_CONNECTIONS {
-            stands.push(false)?;
-        }
         Ok(Turns {
             queue: VecDeque::with_capacity(alloc, MOST_CONNECTIONS)?,
-            stands,
+            stands: Vec::from_elem(alloc, false, MOST_CONNECTIONS)?,
         })
     }
 
-    pub(crate) fn is_empty(&self) -> bool {
+    pub(crate) fn is_empty(&self) -> bool
+        ensures { IsTrue result ↔ (self.now.queue.items ≡ []) }
+    {
         self.queue.is_empty()
     }
 
     /// Adds a place behind the others, unless it stands there.
     pub(crate) fn add(&mut self, place: usize)
         ensures stands { IfSome (slice_get self.old.stands.items place) (λ stood. (self.new.queue.items ≡ cond stood self.old.queue.items (self.old.queue.items ++ place ∷ []))
-            ⊎ (deque_capacity self.old.queue ≤ deque_len self.old.queue)) }
+            ⊎ (MOST_CONNECTIONS ≤ deque_len self.old.queue)) }
         ensures behind { (self.new.queue.items ≡ self.old.queue.items) ⊎ (self.new.queue.items ≡ self.old.queue.items ++ place ∷ []) }
     {
         if place < self.stands.len() && !self.stands[place] {
@@ -46,7 +47,9 @@ impl Turns {
 
     /// Takes the first place.
     pub(crate) fn next(&mut self) -> Option<usize>
-        ensures { self.old.queue.items ≡ option_to_list result ++ self.new.queue.items }
+        ensures first { self.old.queue.items ≡ option_to_list result ++ self.new.queue.items }
+        ensures none { result ≡ None → self.old.queue.items ≡ [] }
+        ensures unmarked { IfSome result (λ place. self.new.stands.items ≡ slice_set self.old.stands.items place false) }
     {
         let place = self.queue.pop_front()?;
         if place < self.stands.len() {

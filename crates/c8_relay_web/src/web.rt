@@ -1,11 +1,11 @@
 //! All connections.
-ghost use Rattle.std.specs.Prelude.{◌≡◌, ◌≤◌, ◌<◌, ◌⊎◌, ◌++◌, ◌∷◌, ◌%◌, [], ℕ, IfSome, IsSomeAnd, IsTrue, None, Some, false, length, slice_get, slice_set};
+ghost use Rattle.std.specs.Prelude.{◌≡◌, ◌≤◌, ◌<◌, ◌↔◌, ◌⊎◌, ◌++◌, ◌∷◌, ◌%◌, [], ℕ, List, IfNone, IfSome, IsTrue, MatchOption, None, Some, false, length, slice_get, slice_set, take};
 ghost use Rattle.std.specs.VecDeque.{deque_capacity, deque_len};
-ghost use Rattle.std.specs.Vec.{vec_capacity};
-ghost use Rattle.websocket.specs.Connection.{max_reply_len};
-ghost use Rattle.c8_relay_web.specs.Connections.{IsConnection};
-ghost use Rattle.c8_relay_web.specs.Steps.{HasPacket, IsFrom, IsSent, KeepsOthers, LacksRoom, unread, waiting};
+ghost use Rattle.std.specs.Vec.{vec_len};
+ghost use Rattle.c8_relay_web.specs.Connections.{LeftBy};
+ghost use Rattle.c8_relay_web.specs.Steps.{ComesFrom, GivesDue, GoesOn, IsDue, IsSent, KeepsOthers, MayLose};
 ghost use Rattle.c8_relay_web.specs.declared.connection.Connection.{Connection};
+ghost use Rattle.c8_relay_web.specs.declared.numbers.TheConstants.{MOST_CONNECTIONS};
 
 use crate::connection::{Connection, Guest, Next, network_of};
 use crate::crowd::Crowd;
@@ -48,6 +48,7 @@ pub(crate) struct Web {
     /// Whose WebSockets have ended.
     left: VecDeque<Guest>,
     numbers: Numbers,
+    ghost room: { MOST_CONNECTIONS ≤ deque_capacity left },
 }
 
 impl Web {
@@ -61,7 +62,7 @@ impl Web {
         }
         Ok(Web {
             listener,
-            shared: Shared::new(alloc, site)?,
+            shared: Shared::new(alloc, site),
             places,
             free,
             crowd: Crowd::new(alloc)?,
@@ -82,22 +83,28 @@ impl Web {
     }
 
     /// How many files are served.
-    pub(crate) fn files(&self) -> usize {
+    pub(crate) fn files(&self) -> usize
+        ensures { result ≡ vec_len self.now.shared.site.pages.pages }
+    {
         self.shared.site.pages.len()
     }
 
     /// Whether a connection may have something to do.
-    pub(crate) fn is_ready(&self) -> bool {
+    pub(crate) fn is_ready(&self) -> bool
+        ensures { IsTrue result ↔ (self.now.turns.queue.items ≡ [] → ⊥) }
+    {
         !self.turns.is_empty()
     }
 
-    pub(crate) fn set_time(&mut self, now: u64) {
+    pub(crate) fn set_time(&mut self, now: u64)
+        ensures { self.new ≡ record self.old { shared = record self.old.shared { now = now } } }
+    {
         self.shared.now = now;
     }
 
     /// The next of the addresses of WebSockets that have ended.
     pub(crate) fn next_left(&mut self) -> Option<Address>
-        ensures { IfSome result (λ address. IsConnection address) }
+        ensures { LeftBy self.old.left.items result self.new.left.items }
     {
         match self.left.pop_front() {
             Some(guest) => Some(guest.address()),
@@ -190,7 +197,8 @@ impl Web {
         ensures freed { place < length self.old.places.items → slice_get self.new.places.items place ≡ Some None }
         ensures others { KeepsOthers place self.old.places.items self.new.places.items }
         ensures left { IsTrue was_open → (self.new.left.items ≡ self.old.left.items ++ guest ∷ [])
-            ⊎ (deque_capacity self.old.left ≤ deque_len self.old.left) }
+            ⊎ (MOST_CONNECTIONS ≤ deque_len self.old.left) }
+        ensures stays { was_open ≡ false → self.new.left ≡ self.old.left }
     {
         if place < self.places.len() {
             self.places[place] = None;
@@ -205,9 +213,13 @@ impl Web {
     /// Takes the next packet of a connection. The buffer may be changed where there is none.
     pub(crate) fn next(&mut self, packet: &mut [u8; LONGEST_READ]) -> Option<(usize, Address)>
         ensures within { IfSome result (λ next. next.0 ≤ LONGEST_READ) }
-        ensures from { IfSome result (λ next. IsConnection next.1) }
+        ensures given { IfSome result (λ next. (place : ℕ) × ComesFrom place self.old.places.items self.new.places.items
+            (take next.0 packet.new) next.1) }
+        ensures goes { IfNone result (GoesOn self.old.places.items self.new.places.items) }
+        ensures served { (place : ℕ) (others : List ℕ) (it : Connection) (size : ℕ) → self.old.turns.queue.items ≡ place ∷ others
+            → IsDue self.old.places.items place it size → GivesDue self.new.places.items place it size packet.new result }
     {
-        for _ in 0..MOST_VISITS {
+        for _visit in 0..MOST_VISITS {
             let place = self.turns.next()?;
             if let Some(next) = self.visit(place, packet) {
                 return Some(next);
@@ -219,10 +231,10 @@ impl Web {
     /// Gives a connection its turn.
     fn visit(&mut self, place: usize, packet: &mut [u8; LONGEST_READ]) -> Option<(usize, Address)>
         ensures within { IfSome result (λ next. next.0 ≤ LONGEST_READ) }
-        ensures from { IfSome result (λ next. IsFrom self.old.places.items place next.1) }
-        ensures served { (connection : Connection) (size : ℕ) → slice_get self.old.places.items place ≡ Some (Some connection) → waiting connection ≡ []
-            → HasPacket connection.stage (unread connection) size → max_reply_len ≤ vec_capacity self.old.shared.frame
-            → IsSomeAnd result (λ next. next.0 ≡ size) }
+        ensures given { IfSome result (λ next. ComesFrom place self.old.places.items self.new.places.items (take next.0 packet.new) next.1) }
+        ensures goes { IfNone result (GoesOn self.old.places.items self.new.places.items) }
+        ensures served { (it : Connection) (size : ℕ) → IsDue self.old.places.items place it size
+            → GivesDue self.new.places.items place it size packet.new result }
         ensures others { KeepsOthers place self.old.places.items self.new.places.items }
     {
         if place >= self.places.len() {
@@ -249,7 +261,10 @@ impl Web {
 
     /// Notes whose WebSocket has ended.
     fn note_left(&mut self, has_left: bool, guest: Guest)
-        ensures { self.new ≡ record self.old { left = self.new.left } }
+        ensures same { self.new ≡ record self.old { left = self.new.left; room = self.new.room } }
+        ensures left { IsTrue has_left → (self.new.left.items ≡ self.old.left.items ++ guest ∷ [])
+            ⊎ (MOST_CONNECTIONS ≤ deque_len self.old.left) }
+        ensures stays { has_left ≡ false → self.new.left ≡ self.old.left }
     {
         if has_left {
             let _ = self.left.push_back(guest);
@@ -271,9 +286,8 @@ impl Web {
             × (slice_get self.old.places.items place ≡ Some (Some connection)) × (to ≡ Address.Connection connection.guest.host connection.guest.number)
             × (self.new.places.items ≡ slice_set self.old.places.items place (Some after)) × IsSent connection after packet.now }
         ensures lost { result ≡ false → (connection : Connection)
-            → slice_get self.old.places.items (connection.guest.number % 1024) ≡ Some (Some connection)
-            → to ≡ Address.Connection connection.guest.host connection.guest.number
-            → LacksRoom (vec_capacity self.old.shared.frame) connection packet.now }
+            → slice_get self.old.places.items (connection.guest.number % MOST_CONNECTIONS) ≡ Some (Some connection)
+            → to ≡ Address.Connection connection.guest.host connection.guest.number → MayLose connection packet.now }
     {
         let Address::Connection { number, .. } = to else {
             return false;

@@ -1,12 +1,12 @@
 -- The connection in that place has the address, and takes the packet.
 use Rattle.std.proofs.Common.{◌≡◌, ◌<◌, ◌∙◌, ◌%◌, ℕ, Option, Some, length, ap, subst, refl, arith}
 use Rattle.std.specs.List.{slice_get}
-use Rattle.std.specs.Vec.{vec_capacity}
 use Rattle.std.proofs.lemmas.Option.{slice_get_read}
 use Rattle.c8_relay.specs.declared.address.Address.TheVariants as address
-use Rattle.c8_relay_web.specs.Steps.{LacksRoom}
+use Rattle.c8_relay_web.specs.Steps.{MayLose}
 use Rattle.c8_relay_web.specs.declared.connection.Connection.{Connection}
 use Rattle.c8_relay_web.specs.declared.connection.Guest.{Guest}
+use Rattle.c8_relay_web.specs.declared.numbers.TheConstants.{MOST_CONNECTIONS}
 use Rattle.c8_relay_web.proofs.BoxLemmas.{is_said, not_said}
 use Rattle.c8_relay_web.proofs.web.Web.say.Goals as goal
 
@@ -33,8 +33,8 @@ returns-in-Some-clause-lost c = λ unsaid connection here at.
     ∙ ap (λ (o : Option Connection). Some o) c.in-Some.is in
     let own = c.in-Connection.is in
     let number : c.in-Connection.number ≡ connection.guest.number = cc in
-    let placed : place ≡ connection.guest.number % 1024 = c.place_of-place.ensures ∙ ap (λ (n : ℕ). n % 1024) number in
+    let placed : place ≡ connection.guest.number % MOST_CONNECTIONS = c.place_of-place.ensures ∙ ap (λ (n : ℕ). n % MOST_CONNECTIONS) number in
     let also : slice_get places place ≡ Some (Some connection) = ap (λ (n : ℕ). slice_get places n) placed ∙ here in
     let same : c.in-Some.connection ≡ connection = cc in
-    subst (λ (x : Connection). LacksRoom (vec_capacity c.args.self.now.shared.frame) x c.args.packet.now) same
+    subst (λ (x : Connection). MayLose x c.args.packet.now) same
     (not_said c.say.result _ _ unsaid c.say.ensures.said).1
