@@ -11,11 +11,12 @@ link_value link = record { known = link.known; is_open = link.is_open }
 abbrev pub link_at : List Link → ℕ → LinkValue
 link_at links place = link_value (slice_index_or links place (record { known = 0; is_open = false }))
 
-abbrev pub seen : ℕ → ℕ → WireVersion → ℕ → ℕ → List Link → LinksValue
-seen me players version session epoch links = record {
+abbrev pub seen : ℕ → ℕ → WireVersion → ℕ → ℕ → ℕ → List Link → LinksValue
+seen me players version width session epoch links = record {
   me = me;
   players = players;
   version = version;
+  width = width;
   session = session;
   epoch = epoch;
   one = link_at links 0;

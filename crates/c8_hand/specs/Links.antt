@@ -22,12 +22,13 @@ pub record LinkValue : Type 0 where
 abbrev pub no_link : LinkValue
 no_link = record { known = 0; is_open = false }
 
--- the links of a player: its number and epoch, the match and the version of its datagrams, and the link to each of four
--- players
+-- the links of a player: its number and epoch, the match, the version of its datagrams and the width of their inputs, and the
+-- link to each of four players
 pub record LinksValue : Type 0 where
   pub me : ℕ
   pub players : ℕ
   pub version : WireVersion
+  pub width : ℕ
   pub session : ℕ
   pub epoch : ℕ
   pub one : LinkValue
@@ -59,6 +60,7 @@ no_links rules me room epoch = record {
   me = me;
   players = rules.players;
   version = rules.wire;
+  width = rules.width;
   session = session_of rules room;
   epoch = epoch;
   one = no_link;
@@ -171,6 +173,7 @@ abbrev pub head_to : LinksValue → ℕ → DatagramKind → HeadValue
 head_to l player kind = record {
   kind = kind;
   version = l.version;
+  width = l.width;
   session = l.session;
   from = l.me;
   to = player;

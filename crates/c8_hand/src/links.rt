@@ -1,5 +1,6 @@
 //! The links of one player to the others.
-ghost use Rattle.std.specs.Prelude.{◌≡◌, ◌≢◌, ℕ, ◌≤◌, true, false, Some, None, MatchOption, MatchResult, OnOk};
+ghost use Rattle.std.specs.Prelude.{◌≡◌, ◌≢◌, ℕ, ◌≤◌, ◌<◌, true, false, Some, None, MatchOption, MatchResult, OnOk};
+ghost use Rattle.c8_game.specs.Wire.{version_number};
 ghost use Rattle.c8_wire.specs.declared.kinds.DatagramKind.TheVariants as kinds;
 ghost use Rattle.c8_wire.specs.Lent.{packet_of};
 ghost use Rattle.c8_wire.specs.Seats.{are_seats};
@@ -8,7 +9,7 @@ ghost use Rattle.c8_hand.specs.Links.{no_links, link_to, open_epoch, with_link, 
 
 use crate::error::HandError;
 use crate::link::Link;
-use c8_game::{Game, MOST_PLAYERS, Player, WireVersion};
+use c8_game::{Game, MOST_PLAYERS, Player, Width, WireVersion};
 use c8_wire::{Datagram, DatagramKind, Head, Parties, Seat, Wanted};
 use std::marker::Model;
 
@@ -19,18 +20,24 @@ pub struct Links {
     /// The last player of the game.
     last: Player,
     version: WireVersion,
+    /// How many bytes an input has.
+    width: Width,
     session: u64,
     epoch: u32,
     links: [Link; MOST_PLAYERS],
 }
 
 impl Model for Links {
+    ghost use Rattle.std.specs.Prelude.{◌≡◌, ◌<◌};
+    ghost use Rattle.c8_game.specs.Wire.{version_number};
     ghost use Rattle.c8_hand.specs.Links.{LinksValue};
     ghost use Rattle.c8_hand.specs.Held.{seen};
 
     ghost Value = { LinksValue };
 
-    ghost view = { λ l. seen l.me.number l.last.number l.version l.session l.epoch l.links };
+    ghost view = { λ l. seen l.me.number l.last.number l.version l.width.bytes l.session l.epoch l.links };
+
+    ghost invariant = { λ l. version_number l.version < 3 → l.width.bytes ≡ 2 };
 }
 
 impl Links {
@@ -45,6 +52,7 @@ impl Links {
                 number: game.players(),
             },
             version: game.wire(),
+            width: game.width(),
             session: game.session(room),
             epoch,
             links: [Link::closed(0); MOST_PLAYERS],
@@ -63,6 +71,14 @@ impl Links {
         ensures { result ≡ self.now.version }
     {
         self.version
+    }
+
+    /// Returns how many bytes an input of the match has: 2 unless the version is 3.
+    pub fn width(&self) -> Width
+        ensures value { result.bytes ≡ self.now.width }
+        ensures early { version_number self.now.version < 3 → result.bytes ≡ 2 }
+    {
+        self.width
     }
 
     /// Returns the own epoch.
@@ -89,7 +105,7 @@ impl Links {
 
     /// Judges a datagram of any kind, and changes nothing. The errors come in this order: `Session`,
     /// `NotMine`, then the epochs. A SEEN gets only the first two checks, since a watcher has no epoch
-    /// and no link. The caller checks the version before.
+    /// and no link. The caller checks the version and the width before.
     pub fn admit(&self, datagram: &Datagram<'_>) -> Result<(), HandError>
         ensures judged { MatchResult result
             (λ _. admission self.now (packet_of datagram.now).head ≡ None)
@@ -195,7 +211,7 @@ impl Links {
         *link = link.after(kind.shape().link, epoch);
     }
 
-    /// Returns the header of a datagram of this kind to a player or a watcher, in the version of the
+    /// Returns the header of a datagram of this kind to a player or a watcher, in the version and the width of the
     /// match. It has the own epoch and the known one of the addressee, or 0 for a watcher.
     pub fn head(&self, to: Seat, kind: DatagramKind) -> Head
         requires { are_seats kind self.now.me to.number ≡ true }
@@ -204,6 +220,7 @@ impl Links {
         Head {
             kind,
             version: self.version,
+            width: self.width,
             session: self.session,
             from: Seat::from(self.me),
             to,

@@ -20,8 +20,8 @@ pub length-hello : (bytes : List ℕ) → length bytes ≡ 24 + size_at bytes �
 unfolding applies
 length-hello bytes sized a = let fixed = a.length in grind (arith, nat_tests)
 
-pub spelled_hello : (version : WireVersion) (bytes : List ℕ) → length bytes ≡ 24 → drop 24 bytes ≡ body_bytes version Hello
-spelled_hello version bytes long = drop_all 24 bytes (omega arith)
+pub spelled_hello : (version : WireVersion) (width : ℕ) (bytes : List ℕ) → length bytes ≡ 24 → drop 24 bytes ≡ body_bytes version width Hello
+spelled_hello version width bytes long = drop_all 24 bytes (omega arith)
 
 pub record IsWelcomeShaped (bytes : List ℕ) : Type 0 where
   pub size : length bytes ≡ 28
@@ -34,13 +34,13 @@ welcome_shaped bytes sized a =
     let beyond = a.beyond in
     record { size = grind (arith, nat_tests); ack = grind (arith, nat_tests) }
 
-pub spelled_welcome : (version : WireVersion) (bytes : List ℕ) → AreBytes bytes → IsWelcomeShaped bytes
-    → drop 24 bytes ≡ body_bytes version (Welcome (number_at 24 4 bytes))
-spelled_welcome version bytes fits is = then (big_bytes 4 (number_at 24 4 bytes))
+pub spelled_welcome : (version : WireVersion) (width : ℕ) (bytes : List ℕ) → AreBytes bytes → IsWelcomeShaped bytes
+    → drop 24 bytes ≡ body_bytes version width (Welcome (number_at 24 4 bytes))
+spelled_welcome version width bytes fits is = then (big_bytes 4 (number_at 24 4 bytes))
     (spelled_at 24 4 28 bytes refl (omega (arith, is.size)) fits) (drop_all 28 bytes (omega (arith, is.size)))
 
 pub ack_again : (head : HeadValue) (size ack : ℕ) → ack ≤ most_inputs
-    → number_at 24 4 (header_bytes head size ++ body_bytes head.version (Welcome ack)) ≡ ack
+    → number_at 24 4 (header_bytes head size ++ body_bytes head.version head.width (Welcome ack)) ≡ ack
 unfolding number_at
 ack_again head size ack few = big_number-reads_back 4 ack [] (omega arith)
 

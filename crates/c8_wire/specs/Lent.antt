@@ -1,9 +1,7 @@
 -- What a caller sees of a datagram that borrows from its bytes.
-use Rattle.std.specs.Prelude.{ℕ, ◌≡◌, ◌*◌, ◌/◌, ◌==◌, Bool, List, length, drop}
+use Rattle.std.specs.Prelude.{ℕ, ◌≡◌, ◌+◌, ◌*◌, ◌==◌, Bool, true, false, List, drop}
 use Rattle.c8_game.specs.declared.row.Row.{Row}
-use Rattle.c8_game.specs.declared.wire.WireVersion.{WireVersion}
-use Rattle.c8_game.specs.declared.wire.WireVersion.TheVariants as versions
-use Rattle.c8_pairs.specs.Pairs.{pairs_of}
+use Rattle.c8_pairs.specs.Pairs.{pairs_of, spelling}
 use Rattle.c8_pairs.specs.Reading.{is_begun}
 use Rattle.c8_pairs.specs.Lent as pairs
 use Rattle.c8_wire.specs.declared.kinds.DatagramKind.{DatagramKind}
@@ -26,6 +24,7 @@ use Rattle.c8_wire.specs.declared.showing.ShownRows.{ShownRows}
 use Rattle.c8_wire.specs.declared.datagram.Datagram.{Datagram}
 use Rattle.c8_wire.specs.declared.datagram.Datagram.TheVariants as datagrams
 use Rattle.c8_wire.specs.Kinds.{run_place}
+use Rattle.c8_wire.specs.Spelling.{words_bytes}
 use Rattle.c8_wire.specs.Packet.{HeadValue, DataMessage, FreezeMessage, LeaverMessage, ShowMessage, Packet}
 use Rattle.c8_wire.specs.Reading.{number_at, head_at, data_at, freeze_at, leaver_at, show_at, packet_at, rows_at, words_of}
 
@@ -77,36 +76,46 @@ seen_of lent = number_at 24 4 lent.bytes.now
 
 -- the rows of a SHOW, decoded from byte 30 on
 abbrev pub shown : ShownRows → List Row
-shown rows = rows_at rows.count 30 rows.bytes.now
+shown rows = rows_at rows.width.bytes rows.count 30 rows.bytes.now
 
--- the inputs of a run in version 1, and those that its iterator has left
-abbrev pub key_sets : Words → List ℕ
-key_sets run = words_of run.bytes.now
+-- inputs one after the other, and those that their iterator has left
+abbrev pub plain_inputs : Words → List ℕ
+plain_inputs run = words_of run.width.bytes run.bytes.now
 
-abbrev pub key_sets_left : WordsIter → List ℕ
-key_sets_left iterator = words_of iterator.rest.now
+abbrev pub plain_inputs_left : WordsIter → List ℕ
+plain_inputs_left iterator = words_of iterator.width.bytes iterator.rest.now
 
--- the version in which a run is encoded
-abbrev pub version_of : Run → WireVersion
-version_of (runs.Words run) = versions.One
-version_of (runs.Pairs run) = versions.Two
+-- the width of a run's inputs
+abbrev pub width_of : Run → ℕ
+width_of (runs.Words run) = run.width.bytes
+width_of (runs.Pairs run) = run.width.bytes
+
+-- the bytes that spell inputs, encoded as those of a run are
+abbrev pub spelled_as : Run → List ℕ → List ℕ
+spelled_as (runs.Words run) words = words_bytes run.width.bytes words
+spelled_as (runs.Pairs run) words = spelling run.width.bytes words
+
+-- its inputs are one after the other, as in version 1 and in records
+abbrev pub is_plain : Run → Bool
+is_plain (runs.Words run) = true
+is_plain (runs.Pairs run) = false
 
 -- the inputs of a run
 abbrev pub words : Run → List ℕ
-words (runs.Words run) = key_sets run
+words (runs.Words run) = plain_inputs run
 words (runs.Pairs run) = pairs.words run
 
--- its bytes; in version 2 those of all pairs that it touches
+-- its bytes; of pairs those of all that it touches
 abbrev pub spelled : Run → List ℕ
 spelled (runs.Words run) = run.bytes.now
 spelled (runs.Pairs run) = pairs.spelled run
 
--- all inputs in these bytes; in version 2 the run can begin inside their first pair
+-- all inputs in these bytes; a run of pairs can begin inside the first
 abbrev pub touched : Run → List ℕ
-touched (runs.Words run) = key_sets run
+touched (runs.Words run) = plain_inputs run
 touched (runs.Pairs run) = pairs.touched run
 
--- this many inputs of the first pair come before the run; in version 1 there are none
+-- this many inputs of the first pair come before the run; none if there are no pairs
 abbrev pub is_begun_at : ℕ → Run → Bool
 is_begun_at skip (runs.Words run) = skip == 0
 is_begun_at skip (runs.Pairs run) = is_begun skip (pairs_of (pairs.touched run))
@@ -115,15 +124,14 @@ is_begun_at skip (runs.Pairs run) = is_begun skip (pairs_of (pairs.touched run))
 abbrev pub run_slice : DatagramKind → List ℕ → List ℕ
 run_slice kind bytes = drop (run_place kind) bytes
 
--- A run from an input on has the same version and the last bytes of the whole run: all from that input
--- on in version 1, whole pairs in version 2.
+-- A run from an input on is encoded as the whole run and has its last bytes: all from that input on, or whole pairs.
 abbrev pub IsSliceFrom : Run → ℕ → Run → Type 0
-IsSliceFrom (runs.Words run) place (runs.Words part) = part.bytes.now ≡ drop (2 * place) run.bytes.now
+IsSliceFrom (runs.Words run) place (runs.Words part) = part.bytes.now ≡ drop (run.width.bytes * place) run.bytes.now
 IsSliceFrom (runs.Words run) place (runs.Pairs part) = ⊥
 IsSliceFrom (runs.Pairs run) place (runs.Words part) = ⊥
-IsSliceFrom (runs.Pairs run) place (runs.Pairs part) = (before : ℕ) × (pairs.spelled part ≡ drop (3 * before) (pairs.spelled run))
+IsSliceFrom (runs.Pairs run) place (runs.Pairs part) = (before : ℕ) × (pairs.spelled part ≡ drop ((run.width.bytes + 1) * before) (pairs.spelled run))
 
 -- the inputs that an iterator has left
 abbrev pub words_left : Inputs → List ℕ
-words_left (iterators.Words iterator) = key_sets_left iterator
+words_left (iterators.Words iterator) = plain_inputs_left iterator
 words_left (iterators.Pairs iterator) = pairs.words_left iterator

@@ -1,5 +1,5 @@
 -- What the bytes of a datagram mean.
-use Rattle.std.specs.Prelude.{ℕ, zero, suc, ◌+◌, ◌*◌, ◌==◌, List, [], ◌∷◌, take, drop, slice_index, Option, if◌then◌else◌}
+use Rattle.std.specs.Prelude.{ℕ, zero, suc, ◌+◌, ◌*◌, ◌/◌, List, [], ◌∷◌, length, take, drop, slice_index, Option}
 use Rattle.byteorder.specs.Endian.{big_number}
 use Rattle.c8_wire.specs.declared.kinds.DatagramKind.{DatagramKind}
 use Rattle.c8_wire.specs.declared.kinds.DatagramKind.TheVariants as kinds
@@ -9,6 +9,7 @@ use Rattle.c8_game.specs.declared.wire.WireVersion.TheVariants as versions
 use Rattle.c8_pairs.specs.Pairs.{words_in}
 use Rattle.c8_pairs.specs.Reading.{pairs_at}
 use Rattle.c8_wire.specs.Sizes.{row_length}
+use Rattle.c8_wire.specs.Format.{version_named, width_named}
 use Rattle.c8_wire.specs.Kinds.{kind_of_code}
 use Rattle.c8_wire.specs.Packet.{HeadValue, DataMessage, FreezeMessage, LeaverMessage, ShowMessage, Message, Hello, Welcome, Data, Freeze}
 use Rattle.c8_wire.specs.Packet.{Frozen, Cut, Show, Seen, Packet}
@@ -21,13 +22,12 @@ number_at place width bytes = big_number width (drop place bytes)
 abbrev pub kind_at : List ℕ → Option DatagramKind
 kind_at bytes = kind_of_code (slice_index bytes 3)
 
--- the version with this number, which is 1 or 2
-abbrev pub version_named : ℕ → WireVersion
-version_named number = if number == 2 then versions.Two else versions.One
-
--- the version that byte 2 names
+-- the version and the width that byte 2 names
 abbrev pub version_at : List ℕ → WireVersion
 version_at bytes = version_named (slice_index bytes 2)
+
+abbrev pub width_at : List ℕ → ℕ
+width_at bytes = width_named (slice_index bytes 2)
 
 -- the length of the body, as the header gives it
 abbrev pub size_at : List ℕ → ℕ
@@ -37,6 +37,7 @@ abbrev pub head_at : DatagramKind → List ℕ → HeadValue
 head_at kind bytes = record {
   kind = kind;
   version = version_at bytes;
+  width = width_at bytes;
   session = number_at 4 8 bytes;
   from = slice_index bytes 12;
   to = slice_index bytes 13;
@@ -44,20 +45,24 @@ head_at kind bytes = record {
   addressee_epoch = number_at 20 4 bytes;
 }
 
--- the key sets in bytes, two bytes each
-unfoldable pub words_of : List ℕ → List ℕ
-words_of [] = []
-words_of (high ∷ []) = []
-words_of (high ∷ low ∷ rest) = (high * 256 + low) ∷ words_of rest
+-- the first `count` inputs in bytes, one after the other
+unfoldable pub words_up : ℕ → ℕ → List ℕ → List ℕ
+words_up width zero bytes = []
+words_up width (suc count) bytes = big_number width bytes ∷ words_up width count (drop width bytes)
+
+-- the inputs in bytes; bytes after the last whole input are none
+abbrev pub words_of : ℕ → List ℕ → List ℕ
+words_of width bytes = words_up width (length bytes / width) bytes
 
 -- the inputs of a run, decoded from its bytes
-abbrev pub inputs_of : WireVersion → List ℕ → List ℕ
-inputs_of versions.One bytes = words_of bytes
-inputs_of versions.Two bytes = words_in (pairs_at bytes)
+abbrev pub inputs_of : WireVersion → ℕ → List ℕ → List ℕ
+inputs_of versions.One width bytes = words_of width bytes
+inputs_of versions.Two width bytes = words_in (pairs_at width bytes)
+inputs_of versions.Three width bytes = words_in (pairs_at width bytes)
 
 -- the run of a datagram, from a place to the end of the bytes
 abbrev pub run_at : ℕ → List ℕ → List ℕ
-run_at place bytes = inputs_of (version_at bytes) (drop place bytes)
+run_at place bytes = inputs_of (version_at bytes) (width_at bytes) (drop place bytes)
 
 abbrev pub data_at : List ℕ → DataMessage
 data_at bytes = record {
@@ -79,20 +84,20 @@ leaver_at bytes = record {
   words = run_at 36 bytes;
 }
 
--- the row at a place: the key sets of four players, two bytes each
-abbrev pub row_at : ℕ → List ℕ → Row
-row_at place bytes = record {
-  sets = record { 0 = number_at place 2 bytes } ∷ record { 0 = number_at (2 + place) 2 bytes }
-      ∷ record { 0 = number_at (4 + place) 2 bytes } ∷ record { 0 = number_at (6 + place) 2 bytes } ∷ [];
+-- the row at a place: the inputs of four players
+abbrev pub row_at : ℕ → ℕ → List ℕ → Row
+row_at width place bytes = record {
+  inputs = number_at place width bytes ∷ number_at (width + place) width bytes ∷ number_at (2 * width + place) width bytes
+      ∷ number_at (3 * width + place) width bytes ∷ [];
 }
 
 -- this many rows from a place on
-unfoldable pub rows_at : ℕ → ℕ → List ℕ → List Row
-rows_at zero place bytes = []
-rows_at (suc count) place bytes = row_at place bytes ∷ rows_at count (row_length + place) bytes
+unfoldable pub rows_at : ℕ → ℕ → ℕ → List ℕ → List Row
+rows_at width zero place bytes = []
+rows_at width (suc count) place bytes = row_at width place bytes ∷ rows_at width count (row_length width + place) bytes
 
 abbrev pub show_at : List ℕ → ShowMessage
-show_at bytes = record { start = number_at 24 4 bytes; rows = rows_at (number_at 28 2 bytes) 30 bytes }
+show_at bytes = record { start = number_at 24 4 bytes; rows = rows_at (width_at bytes) (number_at 28 2 bytes) 30 bytes }
 
 abbrev pub message_at : DatagramKind → List ℕ → Message
 message_at kinds.Hello bytes = Hello

@@ -1,5 +1,5 @@
 -- The table of refusals: when each applies, and which one is the answer.
-use Rattle.std.specs.Prelude.{ℕ, ◌+◌, ◌*◌, ◌==◌, ◌||◌, ◌&&◌, Bool, false, not, ◌-◌, ◌%◌, drop, nat_lt, nat_le, List, [], ◌∷◌, ◌++◌, length}
+use Rattle.std.specs.Prelude.{ℕ, ◌+◌, ◌*◌, ◌==◌, ◌||◌, ◌&&◌, Bool, false, not, ◌-◌, ◌%◌, drop, nat_lt, List, [], ◌∷◌, ◌++◌, length}
 use Rattle.std.specs.Prelude.{slice_index, Option, Some, None, is_none, find, if◌then◌else◌}
 use Rattle.c8_game.specs.Rules.{most_frames, most_inputs}
 use Rattle.c8_game.specs.declared.wire.WireVersion.{WireVersion}
@@ -9,12 +9,13 @@ use Rattle.c8_wire.specs.declared.error.WireError.{WireError}
 use Rattle.c8_wire.specs.declared.error.WireError.TheVariants as errors
 use Rattle.c8_wire.specs.declared.kinds.DatagramKind.{DatagramKind}
 use Rattle.c8_wire.specs.declared.kinds.DatagramKind.TheVariants as kinds
-use Rattle.c8_wire.specs.Sizes.{header_length, longest_run, most_pairs, most_rows, row_length}
+use Rattle.c8_wire.specs.Sizes.{header_length, most_rows, row_length}
+use Rattle.c8_pairs.specs.Sizes.{run_bytes, longest_run}
 use Rattle.c8_wire.specs.declared.kinds.Tail.{Tail}
 use Rattle.c8_wire.specs.declared.kinds.Tail.TheVariants as tails
 use Rattle.c8_wire.specs.Kinds.{shape_of, is_run, has_tail, run_place}
 use Rattle.c8_wire.specs.Seats.{is_within, are_seats}
-use Rattle.c8_wire.specs.Reading.{number_at, version_at, kind_at, size_at}
+use Rattle.c8_wire.specs.Reading.{number_at, version_at, width_at, kind_at, size_at}
 
 -- the length of the body differs from what the header says or from what the kind needs
 abbrev pub is_misfit : DatagramKind → List ℕ → Bool
@@ -40,21 +41,24 @@ count_at kind bytes = number_at (22 + (shape_of kind).fixed) 2 bytes
 abbrev pub run_end : DatagramKind → List ℕ → ℕ
 run_end kind bytes = start_at kind bytes + count_at kind bytes
 
--- A run of this many inputs cannot have this many bytes: two for each in version 1; at most 42 whole
--- pairs in version 2.
-abbrev pub has_wrong_size : WireVersion → ℕ → ℕ → Bool
-has_wrong_size versions.One count size = not (size == 2 * count)
-has_wrong_size versions.Two count size = not (size % 3 == 0) || nat_lt (3 * most_pairs) size
+-- A run of this many inputs cannot have this many bytes: an input for each in version 1; whole pairs in the others, at most
+-- 128 bytes.
+abbrev pub has_wrong_size : WireVersion → ℕ → ℕ → ℕ → Bool
+has_wrong_size versions.One width count size = not (size == width * count)
+has_wrong_size versions.Two width count size = not (size % (width + 1) == 0) || nat_lt run_bytes size
+has_wrong_size versions.Three width count size = not (size % (width + 1) == 0) || nat_lt run_bytes size
 
 -- the run is too long, or has a wrong number of bytes; it ends the body
 abbrev pub miscounts_run : DatagramKind → List ℕ → Bool
 miscounts_run kind bytes =
-    nat_lt longest_run (count_at kind bytes) || has_wrong_size (version_at bytes) (count_at kind bytes) (size_at bytes - (shape_of kind).fixed)
+    nat_lt (longest_run (width_at bytes)) (count_at kind bytes)
+    || has_wrong_size (version_at bytes) (width_at bytes) (count_at kind bytes) (size_at bytes - (shape_of kind).fixed)
 
--- there are too many rows, or not eight bytes for each
+-- there are too many rows, or not four inputs for each
 abbrev pub miscounts_rows : DatagramKind → List ℕ → Bool
 miscounts_rows kind bytes =
-    nat_lt most_rows (count_at kind bytes) || not (size_at bytes == (shape_of kind).fixed + row_length * count_at kind bytes)
+    nat_lt (most_rows (width_at bytes)) (count_at kind bytes)
+    || not (size_at bytes == (shape_of kind).fixed + row_length (width_at bytes) * count_at kind bytes)
 
 abbrev pub miscounts_tail : Tail → DatagramKind → List ℕ → Bool
 miscounts_tail tails.Nothing kind bytes = false
@@ -64,14 +68,15 @@ miscounts_tail tails.Rows kind bytes = miscounts_rows kind bytes
 abbrev pub miscounts : DatagramKind → List ℕ → Bool
 miscounts kind bytes = miscounts_tail (shape_of kind).tail kind bytes
 
--- in version 2: a pair has no inputs, two neighbours have the same key set, or the total is not the
--- count
-abbrev pub are_no_run : WireVersion → ℕ → List ℕ → Bool
-are_no_run versions.One count bytes = false
-are_no_run versions.Two count bytes = not (are_run (pairs_at bytes) count)
+-- from version 2 on: a pair has no inputs, two neighbours have the same input, or the total is not the count
+abbrev pub are_no_run : WireVersion → ℕ → ℕ → List ℕ → Bool
+are_no_run versions.One width count bytes = false
+are_no_run versions.Two width count bytes = not (are_run (pairs_at width bytes) count)
+are_no_run versions.Three width count bytes = not (are_run (pairs_at width bytes) count)
 
 abbrev pub mispairs : DatagramKind → List ℕ → Bool
-mispairs kind bytes = is_run (shape_of kind).tail && are_no_run (version_at bytes) (count_at kind bytes) (drop (run_place kind) bytes)
+mispairs kind bytes = is_run (shape_of kind).tail && are_no_run (version_at bytes) (width_at bytes) (count_at kind bytes) (drop (run_place
+    kind) bytes)
 
 -- A number of inputs is above the most that a list can have, or one of rows above the most that a game
 -- can have, or a run or rows end too late.
@@ -95,7 +100,7 @@ is_kind_and (Some kind) test = test kind
 unfoldable pub applies : WireError → Option DatagramKind → List ℕ → Bool
 applies errors.Short kind bytes = nat_lt (length bytes) header_length
 applies errors.Magic kind bytes = not (number_at 0 2 bytes == 0x4338)
-applies errors.Version kind bytes = not (slice_index bytes 2 == 1) && not (slice_index bytes 2 == 2)
+applies errors.Version kind bytes = not (is_within 1 10 (slice_index bytes 2))
 applies errors.Kind kind bytes = is_none kind
 applies errors.Length kind bytes = is_kind_and kind (λ k. is_misfit k bytes)
 applies errors.Player kind bytes = is_kind_and kind (λ k. misnames_players k bytes)

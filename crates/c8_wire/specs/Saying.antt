@@ -4,13 +4,15 @@ use Rattle.c8_wire.specs.declared.header.Head.{Head}
 use Rattle.c8_wire.specs.declared.said.Body.{Body}
 use Rattle.c8_wire.specs.declared.said.Body.TheVariants as bodies
 use Rattle.c8_wire.specs.declared.said.Said.{Said}
-use Rattle.c8_wire.specs.Packet.{HeadValue, Message, Hello, Welcome, Data, Freeze, Frozen, Cut, Show, Seen, Packet, IsMessage, has_room, kind_of}
+use Rattle.c8_wire.specs.Packet.{HeadValue, Message, Hello, Welcome, Data, Freeze, Frozen, Cut, Show, Seen, Packet, IsMessage, Fits}
+use Rattle.c8_wire.specs.Packet.{has_room, kind_of}
 
 -- the values of a head
 abbrev pub head_value : Head → HeadValue
 head_value head = record {
   kind = head.kind;
   version = head.version;
+  width = head.width.bytes;
   session = head.session;
   from = head.from.number;
   to = head.to.number;
@@ -33,8 +35,10 @@ abbrev pub packet_said : Said → Packet
 packet_said said = record { head = head_value said.head; message = message_of said.body }
 
 -- The caller may ask for this: the header names the kind of the body, the numbers of the body are in
--- range, and its run fits in the header's version. The types ensure the rest of a packet.
+-- range, and its run and its inputs fit in the header's version and width. The types ensure the rest of a
+-- packet.
 pub record MaySay (said : Said) : Type 0 where
   pub kind : said.head.kind ≡ kind_of (message_of said.body)
-  pub message : IsMessage (message_of said.body)
-  pub room : has_room said.head.version (message_of said.body) ≡ true
+  pub fits : Fits said.head.width.bytes (message_of said.body)
+  pub message : IsMessage said.head.width.bytes (message_of said.body)
+  pub room : has_room said.head.version said.head.width.bytes (message_of said.body) ≡ true

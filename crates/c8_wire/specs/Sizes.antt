@@ -1,11 +1,11 @@
--- The greatest lengths of datagrams and their contents.
-use Rattle.std.specs.Prelude.{ℕ}
+-- The greatest lengths of datagrams and their contents. Runs are as long as c8_pairs says.
+use Rattle.std.specs.Prelude.{ℕ, ◌*◌, ◌/◌, nat_lt, if◌then◌else◌}
 
 -- the length of a header in bytes
 abbrev pub header_length : ℕ
 header_length = 24
 
--- the greatest length of a datagram in bytes: a DATA of 64 inputs in version 1
+-- the greatest length of a datagram in bytes: a DATA whose run has 128 bytes
 abbrev pub longest_datagram : ℕ
 longest_datagram = 174
 
@@ -13,18 +13,14 @@ longest_datagram = 174
 abbrev pub longest_datagram_in_pairs : ℕ
 longest_datagram_in_pairs = 172
 
--- the most inputs in a run
-abbrev pub longest_run : ℕ
-longest_run = 64
+-- the most bytes of rows
+abbrev pub rows_bytes : ℕ
+rows_bytes = 128
 
--- the most rows in a SHOW
-abbrev pub most_rows : ℕ
-most_rows = 16
+-- the length of a row in bytes: an input for each of four players
+abbrev pub row_length : ℕ → ℕ
+row_length width = 4 * width
 
--- the length of a row in bytes: two for each of four key sets
-abbrev pub row_length : ℕ
-row_length = 8
-
--- the most pairs in a run in version 2
-abbrev pub most_pairs : ℕ
-most_pairs = 42
+-- the most rows in a SHOW: 16, or what has `rows_bytes` if that is fewer
+abbrev pub most_rows : ℕ → ℕ
+most_rows width = if nat_lt (rows_bytes / row_length width) 16 then rows_bytes / row_length width else 16

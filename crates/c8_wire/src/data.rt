@@ -1,15 +1,17 @@
 //! DATA, borrowed from its bytes.
-ghost use Rattle.std.specs.Prelude.{◌≡◌, ◌≤◌, ◌+◌, length, drop, false};
+ghost use Rattle.std.specs.Prelude.{◌≡◌, ◌≤◌, ◌+◌, length, drop, slice_index, true, false};
 ghost use Rattle.std.proofs.Props.{props};
 ghost use Rattle.c8_wire.specs.declared.kinds.DatagramKind.TheVariants as kinds;
-ghost use Rattle.c8_wire.specs.Reading.{number_at, version_at, packet_at};
+ghost use Rattle.c8_wire.specs.Reading.{number_at, version_at, width_at, packet_at};
+ghost use Rattle.c8_pairs.specs.Sizes.{longest_run};
+ghost use Rattle.c8_wire.specs.Format.{is_plain_in};
 ghost use Rattle.c8_wire.specs.Refusal.{has_wrong_size, are_no_run};
 ghost use Rattle.c8_wire.specs.Spelling.{Spells};
 
 use crate::layout::{ACK_AT, DATA_COUNT_AT, DATA_RUN_AT, DATA_START_AT, MARK_AT, MARK_FRAME_AT};
 use crate::numbers::{u16_at, u32_at};
 use crate::run::Run;
-use crate::version::version_in;
+use crate::version::{version_in, width_in};
 use c8_game::MOST_INPUTS;
 
 /// A DATA datagram: the sender's inputs, an acknowledgement and a mark.
@@ -17,14 +19,16 @@ use c8_game::MOST_INPUTS;
 pub struct Data<'a> {
     pub(crate) bytes: &'a [u8],
     pub(crate) ghost long: { 46 ≤ length bytes.now },
-    pub(crate) ghost few: { number_at 44 2 bytes.now ≤ 64 },
-    pub(crate) ghost sized: { has_wrong_size (version_at bytes.now) (number_at 44 2 bytes.now) (length (drop 46 bytes.now)) ≡ false },
-    pub(crate) ghost paired: { are_no_run (version_at bytes.now) (number_at 44 2 bytes.now) (drop 46 bytes.now) ≡ false },
+    pub(crate) ghost some: { 1 ≤ width_at bytes.now },
+    pub(crate) ghost wide: { width_at bytes.now ≤ 8 },
+    pub(crate) ghost few: { number_at 44 2 bytes.now ≤ longest_run (width_at bytes.now) },
+    pub(crate) ghost sized: { has_wrong_size (version_at bytes.now) (width_at bytes.now) (number_at 44 2 bytes.now) (length (drop 46 bytes.now)) ≡ false },
+    pub(crate) ghost paired: { are_no_run (version_at bytes.now) (width_at bytes.now) (number_at 44 2 bytes.now) (drop 46 bytes.now) ≡ false },
     pub(crate) ghost spelled: { Spells bytes.now (packet_at kinds.Data bytes.now) } by { Prim.hlevel props },
 }
 
 impl<'a> Data<'a> {
-    ghost use Rattle.c8_wire.specs.Lent.{bytes_of, data_of, version_of, words, spelled, touched, run_slice};
+    ghost use Rattle.c8_wire.specs.Lent.{bytes_of, data_of, is_plain, width_of, words, spelled, touched, run_slice};
     ghost use Rattle.c8_wire.specs.declared.datagram.Datagram.TheVariants as datagrams;
 
     /// Returns how many of the addressee's inputs the sender holds.
@@ -64,13 +68,15 @@ impl<'a> Data<'a> {
 
     /// Returns the inputs, borrowed from the received bytes from byte 46 on.
     pub fn run(&self) -> Run<'a>
-        ensures version { version_of result ≡ version_at (bytes_of (datagrams.Data self.now)) }
+        ensures plain { is_plain result
+            ≡ is_plain_in (version_at (bytes_of (datagrams.Data self.now))) }
+        ensures width { width_of result ≡ width_at (bytes_of (datagrams.Data self.now)) }
         ensures words { words result ≡ (data_of self.now).words }
         ensures whole { touched result ≡ words result }
         ensures slice { spelled result ≡ run_slice kinds.Data (bytes_of (datagrams.Data self.now)) }
     {
         let count = usize::from(u16_at(self.bytes, DATA_COUNT_AT));
         let (_, bytes) = self.bytes.split_at(DATA_RUN_AT);
-        Run::of(version_in(self.bytes), count, bytes)
+        Run::of(version_in(self.bytes), width_in(self.bytes), count, bytes)
     }
 }

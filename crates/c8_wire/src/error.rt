@@ -13,7 +13,7 @@ pub enum WireError {
     /// The first two bytes are not `43 38` (hexadecimal).
     #[error("the first two bytes are those of no datagram")]
     Magic,
-    /// Byte 2 is neither 1 nor 2.
+    /// Byte 2 is not 1 to 10: versions 1 and 2, and version 3 with inputs of 1 to 8 bytes.
     #[error("another version of the format")]
     Version,
     /// No kind has the number in byte 3.
@@ -29,12 +29,11 @@ pub enum WireError {
     /// The byte after the leaver is not 0.
     #[error("a byte that must be 0 is not")]
     Reserved,
-    /// More than 64 inputs, or a wrong number of bytes for them: two for each input in version 1, three
-    /// for each of at most 42 pairs in version 2. In SHOW, more than 16 rows, or not eight bytes for
-    /// each.
+    /// More inputs than a run may have, or a wrong number of bytes for them: two for each input in version 1, whole pairs
+    /// in the others, at most 128 bytes. In SHOW, more rows than it may have, or not four inputs for each.
     #[error("more inputs or rows than allowed, or not as many bytes as they may have")]
     Count,
-    /// In version 2: a pair has no inputs, two neighbours have the same key set, or the total of the
+    /// From version 2 on: a pair has no inputs, two neighbours have the same input, or the total of the
     /// pairs is not the count.
     #[error("pairs that are not those of a run")]
     Pairs,

@@ -1,5 +1,6 @@
 //! The header of a datagram: sender, addressee, match, epochs, and version of the format.
-ghost use Rattle.std.specs.Prelude.{◌≡◌, ◌≤◌, true, false, length, MatchOption};
+ghost use Rattle.std.specs.Prelude.{◌≡◌, ◌≤◌, ◌<◌, true, false, length, MatchOption};
+ghost use Rattle.c8_game.specs.Wire.{version_number};
 ghost use Rattle.c8_wire.specs.Reading.{kind_at, head_at};
 ghost use Rattle.c8_wire.specs.Packet.{IsHead};
 ghost use Rattle.c8_wire.specs.Seats.{are_seats};
@@ -7,9 +8,9 @@ ghost use Rattle.c8_wire.specs.Seats.{are_seats};
 use crate::kinds::DatagramKind;
 use crate::layout::{ADDRESSEE_EPOCH_AT, FROM_AT, SENDER_EPOCH_AT, SESSION_AT, TO_AT};
 use crate::numbers::{u32_at, u64_at};
-use crate::version::version_in;
+use crate::version::{version_in, width_in};
 use crate::watcher::Watcher;
-use c8_game::{Player, WireVersion};
+use c8_game::{Player, Width, WireVersion};
 
 /// The sender or the addressee of a datagram: a player, 1 to 4, or a watcher, 5 or 6.
 #[derive(Clone, Copy, Debug, PartialEq, Eq, Hash)]
@@ -70,6 +71,8 @@ impl From<Watcher> for Seat {
 pub struct Head {
     pub kind: DatagramKind,
     pub version: WireVersion,
+    /// How many bytes an input has: 2 in versions 1 and 2.
+    pub width: Width,
     /// The match that the datagram belongs to.
     pub session: u64,
     pub from: Seat,
@@ -77,6 +80,7 @@ pub struct Head {
     pub sender_epoch: u32,
     /// 0 if the sender does not know it.
     pub addressee_epoch: u32,
+    pub ghost early: { version_number version < 3 → width.bytes ≡ 2 },
     pub ghost seats: { are_seats kind from.number to.number ≡ true },
 }
 
@@ -100,11 +104,18 @@ impl<'a> Header<'a> {
         self.kind
     }
 
-    /// Returns the version of the format: 1 or 2, in byte 2.
+    /// Returns the version of the format, which byte 2 names.
     pub fn version(&self) -> WireVersion
         ensures { result ≡ (head_of self.now).version }
     {
         version_in(self.bytes)
+    }
+
+    /// Returns how many bytes an input has, which byte 2 names.
+    pub fn width(&self) -> Width
+        ensures { result.bytes ≡ (head_of self.now).width }
+    {
+        width_in(self.bytes)
     }
 
     /// The match that the datagram belongs to.
@@ -153,6 +164,7 @@ impl<'a> Header<'a> {
         Head {
             kind: self.kind,
             version: self.version(),
+            width: self.width(),
             session: self.session(),
             from: self.from(),
             to: self.to(),

@@ -10,7 +10,7 @@ pub(crate) const RESERVED: u8 = 0;
 // The header.
 pub(crate) const MAGIC_AT: usize = 0;
 
-pub(crate) const VERSION_AT: usize = 2;
+pub(crate) const FORMAT_AT: usize = 2;
 
 pub(crate) const KIND_AT: usize = 3;
 
@@ -58,8 +58,6 @@ pub(crate) const SHOW_START_AT: usize = 24;
 pub(crate) const SHOW_COUNT_AT: usize = 28;
 
 pub(crate) const ROWS_AT: usize = 30;
-
-pub(crate) const ROW_LENGTH: usize = 8;
 
 pub(crate) const SEEN_ACK_AT: usize = 24;
 

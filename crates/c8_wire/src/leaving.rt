@@ -1,15 +1,17 @@
 //! FREEZE, FROZEN and CUT, the datagrams about a dropped player (the leaver), borrowed from their bytes.
-ghost use Rattle.std.specs.Prelude.{◌≡◌, ◌≤◌, ◌+◌, length, drop, slice_index, false};
+ghost use Rattle.std.specs.Prelude.{◌≡◌, ◌≤◌, ◌+◌, length, drop, slice_index, true, false};
 ghost use Rattle.std.proofs.Props.{props};
 ghost use Rattle.c8_wire.specs.declared.kinds.DatagramKind.TheVariants as kinds;
-ghost use Rattle.c8_wire.specs.Reading.{number_at, version_at, packet_at};
+ghost use Rattle.c8_wire.specs.Reading.{number_at, version_at, width_at, packet_at};
+ghost use Rattle.c8_pairs.specs.Sizes.{longest_run};
+ghost use Rattle.c8_wire.specs.Format.{is_plain_in};
 ghost use Rattle.c8_wire.specs.Refusal.{has_wrong_size, are_no_run};
 ghost use Rattle.c8_wire.specs.Spelling.{Spells};
 
 use crate::layout::{INPUTS_AT, LEAVER_AT, LEAVER_COUNT_AT, LEAVER_RUN_AT, LEAVER_START_AT};
 use crate::numbers::{u16_at, u32_at};
 use crate::run::Run;
-use crate::version::version_in;
+use crate::version::{version_in, width_in};
 use c8_game::{MOST_INPUTS, Player};
 
 /// The common part: the leaver, a number of its inputs and, except in FREEZE, a run of them.
@@ -23,7 +25,7 @@ pub(crate) struct Leaving<'a> {
 
 impl<'a> Leaving<'a> {
     ghost use Rattle.c8_wire.specs.Reading.{leaver_at};
-    ghost use Rattle.c8_wire.specs.Lent.{version_of, words, spelled, touched};
+    ghost use Rattle.c8_wire.specs.Lent.{is_plain, width_of, words, spelled, touched};
 
     fn leaver(self) -> Player
         ensures value { result.number ≡ slice_index self.entry.bytes.now 24 }
@@ -49,19 +51,22 @@ impl<'a> Leaving<'a> {
 
     fn run(self) -> Run<'a>
         requires long { 36 ≤ length self.bytes.now }
-        requires few { number_at 34 2 self.bytes.now ≤ 64 }
-        requires sized { has_wrong_size (version_at self.bytes.now) (number_at 34 2 self.bytes.now)
+        requires some { 1 ≤ width_at self.bytes.now }
+        requires wide { width_at self.bytes.now ≤ 8 }
+        requires few { number_at 34 2 self.bytes.now ≤ longest_run (width_at self.bytes.now) }
+        requires sized { has_wrong_size (version_at self.bytes.now) (width_at self.bytes.now) (number_at 34 2 self.bytes.now)
             (length (drop 36 self.bytes.now)) ≡ false }
-        requires paired { are_no_run (version_at self.bytes.now) (number_at 34 2 self.bytes.now)
+        requires paired { are_no_run (version_at self.bytes.now) (width_at self.bytes.now) (number_at 34 2 self.bytes.now)
             (drop 36 self.bytes.now) ≡ false }
-        ensures version { version_of result ≡ version_at self.entry.bytes.now }
+        ensures plain { is_plain result ≡ is_plain_in (version_at self.entry.bytes.now) }
+        ensures width { width_of result ≡ width_at self.entry.bytes.now }
         ensures words { words result ≡ (leaver_at self.entry.bytes.now).words }
         ensures whole { touched result ≡ words result }
         ensures slice { spelled result ≡ drop 36 self.entry.bytes.now }
     {
         let count = usize::from(u16_at(self.bytes, LEAVER_COUNT_AT));
         let (_, bytes) = self.bytes.split_at(LEAVER_RUN_AT);
-        Run::of(version_in(self.bytes), count, bytes)
+        Run::of(version_in(self.bytes), width_in(self.bytes), count, bytes)
     }
 }
 
@@ -98,14 +103,16 @@ impl<'a> Freeze<'a> {
 pub struct Frozen<'a> {
     pub(crate) view: Leaving<'a>,
     pub(crate) ghost long: { 36 ≤ length view.bytes.now },
-    pub(crate) ghost few: { number_at 34 2 view.bytes.now ≤ 64 },
-    pub(crate) ghost sized: { has_wrong_size (version_at view.bytes.now) (number_at 34 2 view.bytes.now) (length (drop 36 view.bytes.now)) ≡ false },
-    pub(crate) ghost paired: { are_no_run (version_at view.bytes.now) (number_at 34 2 view.bytes.now) (drop 36 view.bytes.now) ≡ false },
+    pub(crate) ghost some: { 1 ≤ width_at view.bytes.now },
+    pub(crate) ghost wide: { width_at view.bytes.now ≤ 8 },
+    pub(crate) ghost few: { number_at 34 2 view.bytes.now ≤ longest_run (width_at view.bytes.now) },
+    pub(crate) ghost sized: { has_wrong_size (version_at view.bytes.now) (width_at view.bytes.now) (number_at 34 2 view.bytes.now) (length (drop 36 view.bytes.now)) ≡ false },
+    pub(crate) ghost paired: { are_no_run (version_at view.bytes.now) (width_at view.bytes.now) (number_at 34 2 view.bytes.now) (drop 36 view.bytes.now) ≡ false },
     pub(crate) ghost spelled: { Spells view.bytes.now (packet_at kinds.Frozen view.bytes.now) } by { Prim.hlevel props },
 }
 
 impl<'a> Frozen<'a> {
-    ghost use Rattle.c8_wire.specs.Lent.{bytes_of, frozen_of, version_of, words, spelled, touched, run_slice};
+    ghost use Rattle.c8_wire.specs.Lent.{bytes_of, frozen_of, is_plain, width_of, words, spelled, touched, run_slice};
     ghost use Rattle.c8_wire.specs.declared.datagram.Datagram.TheVariants as datagrams;
 
     /// Returns the dropped player: 2 to 4.
@@ -134,7 +141,9 @@ impl<'a> Frozen<'a> {
 
     /// Returns inputs of the leaver, borrowed from the received bytes from byte 36 on.
     pub fn run(&self) -> Run<'a>
-        ensures version { version_of result ≡ version_at (bytes_of (datagrams.Frozen self.now)) }
+        ensures plain { is_plain result
+            ≡ is_plain_in (version_at (bytes_of (datagrams.Frozen self.now))) }
+        ensures width { width_of result ≡ width_at (bytes_of (datagrams.Frozen self.now)) }
         ensures words { words result ≡ (frozen_of self.now).words }
         ensures whole { touched result ≡ words result }
         ensures slice { spelled result
@@ -149,14 +158,16 @@ impl<'a> Frozen<'a> {
 pub struct Cut<'a> {
     pub(crate) view: Leaving<'a>,
     pub(crate) ghost long: { 36 ≤ length view.bytes.now },
-    pub(crate) ghost few: { number_at 34 2 view.bytes.now ≤ 64 },
-    pub(crate) ghost sized: { has_wrong_size (version_at view.bytes.now) (number_at 34 2 view.bytes.now) (length (drop 36 view.bytes.now)) ≡ false },
-    pub(crate) ghost paired: { are_no_run (version_at view.bytes.now) (number_at 34 2 view.bytes.now) (drop 36 view.bytes.now) ≡ false },
+    pub(crate) ghost some: { 1 ≤ width_at view.bytes.now },
+    pub(crate) ghost wide: { width_at view.bytes.now ≤ 8 },
+    pub(crate) ghost few: { number_at 34 2 view.bytes.now ≤ longest_run (width_at view.bytes.now) },
+    pub(crate) ghost sized: { has_wrong_size (version_at view.bytes.now) (width_at view.bytes.now) (number_at 34 2 view.bytes.now) (length (drop 36 view.bytes.now)) ≡ false },
+    pub(crate) ghost paired: { are_no_run (version_at view.bytes.now) (width_at view.bytes.now) (number_at 34 2 view.bytes.now) (drop 36 view.bytes.now) ≡ false },
     pub(crate) ghost spelled: { Spells view.bytes.now (packet_at kinds.Cut view.bytes.now) } by { Prim.hlevel props },
 }
 
 impl<'a> Cut<'a> {
-    ghost use Rattle.c8_wire.specs.Lent.{bytes_of, cut_of, version_of, words, spelled, touched, run_slice};
+    ghost use Rattle.c8_wire.specs.Lent.{bytes_of, cut_of, is_plain, width_of, words, spelled, touched, run_slice};
     ghost use Rattle.c8_wire.specs.declared.datagram.Datagram.TheVariants as datagrams;
 
     /// Returns the dropped player: 2 to 4.
@@ -185,7 +196,9 @@ impl<'a> Cut<'a> {
 
     /// Returns inputs of the leaver, borrowed from the received bytes from byte 36 on.
     pub fn run(&self) -> Run<'a>
-        ensures version { version_of result ≡ version_at (bytes_of (datagrams.Cut self.now)) }
+        ensures plain { is_plain result
+            ≡ is_plain_in (version_at (bytes_of (datagrams.Cut self.now))) }
+        ensures width { width_of result ≡ width_at (bytes_of (datagrams.Cut self.now)) }
         ensures words { words result ≡ (cut_of self.now).words }
         ensures whole { touched result ≡ words result }
         ensures slice { spelled result ≡ run_slice kinds.Cut (bytes_of (datagrams.Cut self.now)) }

@@ -1,8 +1,8 @@
 //! Reads and writes the datagrams that peers exchange, and those for watchers.
 //!
 //! `view` reads a datagram in place, without copies; `write` writes one; `fits` returns how many inputs
-//! fit into one. The two versions of the format differ in byte 2 and in how they encode a run of inputs.
-//! A [`Run`] has the same methods in both. docs/PROTOCOL.md specifies the format.
+//! fit into one. The versions of the format differ in byte 2, in how they encode a run of inputs, and in the width of
+//! inputs. A [`Run`] has the same methods in all. docs/PROTOCOL.md specifies the format.
 //!
 //! `specs/Packet.antt` defines what a datagram says (a `Packet`), `specs/Spelling.antt` its one spelling
 //! in each version, `specs/Refusal.antt` the first refusal of bytes that are not a datagram, and
@@ -33,6 +33,7 @@ mod watcher;
 mod words;
 mod writing;
 
+pub use c8_pairs::{LONGEST_RUN, longest_run};
 pub use carried::fits;
 pub use data::Data;
 pub use datagram::Datagram;
@@ -46,7 +47,7 @@ pub use reading::view;
 pub use run::{Inputs, Run};
 pub use said::{Body, Said};
 pub use showing::{Seen, Show, ShownRows};
-pub use sizes::{HEADER_LENGTH, LONGEST_DATAGRAM, LONGEST_RUN, MOST_ROWS};
+pub use sizes::{HEADER_LENGTH, LONGEST_DATAGRAM, MOST_ROWS, most_rows};
 pub use watcher::Watcher;
 pub use words::{Words, WordsIter};
 pub use writing::write;

@@ -1,10 +1,10 @@
 //! Reads a datagram from bytes, or refuses it.
-ghost use Rattle.std.specs.Prelude.{◌≡◌, ◌+◌, ◌<◌, ◌≤◌, not, false, length, Option, Some, None, Ok, Err, MatchResult, IfOk, IfErr, OnOk, IsOkAnd};
+ghost use Rattle.std.specs.Prelude.{◌≡◌, ◌+◌, ◌<◌, ◌≤◌, not, true, false, length, slice_index, Option, Some, None, Ok, Err, MatchResult, IfOk, IfErr, OnOk, IsOkAnd};
 ghost use Rattle.c8_wire.specs.Kinds.{shape_of};
 ghost use Rattle.std.specs.Bool.{OnFalse};
 ghost use Rattle.c8_wire.specs.Packet.{Packet};
 ghost use Rattle.c8_wire.specs.Spelling.{Spells};
-ghost use Rattle.c8_wire.specs.Reading.{kind_at, size_at, packet_at};
+ghost use Rattle.c8_wire.specs.Reading.{kind_at, width_at, size_at, packet_at};
 ghost use Rattle.c8_wire.specs.Refusal.{first_of, body_refusals, refusal, is_misfit, misnames_players, fills_reserved, miscounts, miscounts_run, miscounts_rows, has_wrong_size, mispairs, goes_beyond, run_end};
 ghost use Rattle.c8_wire.specs.checked.Read.{read};
 ghost use Rattle.c8_wire.specs.Lent.{bytes_of, packet_of};
@@ -15,17 +15,16 @@ use crate::error::WireError;
 use crate::handshake::{Hello, Welcome};
 use crate::kinds::{DatagramKind, Tail};
 use crate::layout::{
-    ACK_AT, COUNT_PAST_FIXED, FROM_AT, INPUTS_AT, KIND_AT, LEAVER_AT, MAGIC, MAGIC_AT,
-    MARK_FRAME_AT, RESERVED, RESERVED_AT, ROW_LENGTH, SEEN_ACK_AT, SIZE_AT, START_PAST_FIXED,
-    TO_AT, VERSION_AT,
+    ACK_AT, COUNT_PAST_FIXED, FORMAT_AT, FROM_AT, INPUTS_AT, KIND_AT, LEAVER_AT, MAGIC, MAGIC_AT,
+    MARK_FRAME_AT, RESERVED, RESERVED_AT, SEEN_ACK_AT, SIZE_AT, START_PAST_FIXED, TO_AT,
 };
 use crate::leaving::{Cut, Freeze, Frozen, Leaving};
 use crate::numbers::{u16_at, u32_at};
 use crate::showing::{Seen, Show};
-use crate::sizes::{HEADER_LENGTH, LONGEST_RUN, MOST_ROWS};
-use crate::version::version_in;
-use c8_game::{MOST_FRAMES, MOST_INPUTS, WireVersion};
-use c8_pairs::{MOST_PAIRS, Pairs};
+use crate::sizes::{HEADER_LENGTH, most_rows, row_length};
+use crate::version::{LAST_FORMAT, version_in, width_in};
+use c8_game::{MOST_FRAMES, MOST_INPUTS, Width, WireVersion};
+use c8_pairs::{Pairs, RUN_BYTES, longest_run};
 
 /// Reads a datagram in place. The bytes may have any length and content; the result borrows from them.
 /// On failure, returns the first `WireError` that applies, in the order of its variants.
@@ -92,6 +91,8 @@ fn checked_kind(bytes: &[u8]) -> Result<DatagramKind, WireError>
 #[tactic(auto, unfolding(crate::specs::Refusal::refusal, crate::specs::Refusal::applies))]
 fn named_kind(bytes: &[u8]) -> Result<DatagramKind, WireError>
     ensures long { OnOk result (HEADER_LENGTH ≤ length bytes.now) }
+    ensures some { OnOk result (1 ≤ width_at bytes.now) }
+    ensures wide { OnOk result (width_at bytes.now ≤ 8) }
     ensures kind { IfOk result (λ kind. kind_at bytes.now ≡ Some kind) }
     ensures rest { IfOk result (λ kind.
         refusal bytes.now ≡ first_of body_refusals (Some kind) bytes.now) }
@@ -103,8 +104,8 @@ fn named_kind(bytes: &[u8]) -> Result<DatagramKind, WireError>
     if u16_at(bytes, MAGIC_AT) != u16::from_be_bytes(MAGIC) {
         return Err(WireError::Magic);
     }
-    let version = bytes[VERSION_AT];
-    if version != WireVersion::One.number() && version != WireVersion::Two.number() {
+    let format = bytes[FORMAT_AT];
+    if format < 1 || format > LAST_FORMAT {
         return Err(WireError::Version);
     }
     DatagramKind::try_from(bytes[KIND_AT])
@@ -113,7 +114,9 @@ fn named_kind(bytes: &[u8]) -> Result<DatagramKind, WireError>
 /// Returns the first of the other six refusals that applies to a datagram of this kind.
 #[tactic(auto, unfolding(crate::specs::Refusal::applies))]
 fn body_refusal(kind: DatagramKind, bytes: &[u8]) -> Option<WireError>
-    requires { HEADER_LENGTH ≤ length bytes.now }
+    requires long { HEADER_LENGTH ≤ length bytes.now }
+    requires some { 1 ≤ width_at bytes.now }
+    requires wide { width_at bytes.now ≤ 8 }
     ensures { result ≡ first_of body_refusals (Some kind) bytes.now }
 {
     if is_misfit(kind, bytes) {
@@ -172,6 +175,8 @@ fn fills_reserved(kind: DatagramKind, bytes: &[u8]) -> bool
 /// Returns whether there are too many inputs or rows, or a wrong number of bytes for them.
 fn miscounts(kind: DatagramKind, bytes: &[u8]) -> bool
     requires long { HEADER_LENGTH + (shape_of kind).fixed ≤ length bytes.now }
+    requires some { 1 ≤ width_at bytes.now }
+    requires wide { width_at bytes.now ≤ 8 }
     requires size { (shape_of kind).fixed ≤ size_at bytes.now }
     ensures { result ≡ miscounts kind bytes.now }
 {
@@ -182,42 +187,52 @@ fn miscounts(kind: DatagramKind, bytes: &[u8]) -> bool
     }
 }
 
-/// Returns whether the run has more than 64 inputs, or a wrong number of bytes.
+/// Returns whether the run has more inputs than it may have, or a wrong number of bytes.
 fn miscounts_run(kind: DatagramKind, bytes: &[u8]) -> bool
     requires long { HEADER_LENGTH + (shape_of kind).fixed ≤ length bytes.now }
+    requires some { 1 ≤ width_at bytes.now }
+    requires wide { width_at bytes.now ≤ 8 }
     requires size { (shape_of kind).fixed ≤ size_at bytes.now }
     ensures { result ≡ miscounts_run kind bytes.now }
 {
     let size = usize::from(u16_at(bytes, SIZE_AT)) - kind.shape().fixed;
     let count = usize::from(u16_at(bytes, COUNT_PAST_FIXED + kind.shape().fixed));
-    count > LONGEST_RUN || has_wrong_size(version_in(bytes), count, size)
+    let width = width_in(bytes);
+    count > longest_run(width) || has_wrong_size(version_in(bytes), width, count, size)
 }
 
-/// Returns whether there are more than 16 rows, or not eight bytes for each.
+/// Returns whether there are more rows than may be, or not four inputs for each.
 fn miscounts_rows(kind: DatagramKind, bytes: &[u8]) -> bool
-    requires { HEADER_LENGTH + (shape_of kind).fixed ≤ length bytes.now }
+    requires long { HEADER_LENGTH + (shape_of kind).fixed ≤ length bytes.now }
+    requires some { 1 ≤ width_at bytes.now }
+    requires wide { width_at bytes.now ≤ 8 }
     ensures { result ≡ miscounts_rows kind bytes.now }
 {
     let size = usize::from(u16_at(bytes, SIZE_AT));
     let count = usize::from(u16_at(bytes, COUNT_PAST_FIXED + kind.shape().fixed));
-    count > MOST_ROWS || size != kind.shape().fixed + ROW_LENGTH * count
+    let width = width_in(bytes);
+    count > most_rows(width) || size != kind.shape().fixed + row_length(width) * count
 }
 
-/// Returns whether a run of `count` inputs cannot have `size` bytes in this version.
-fn has_wrong_size(version: WireVersion, count: usize, size: usize) -> bool
+/// Returns whether a run of `count` inputs cannot have `size` bytes in this version and width.
+fn has_wrong_size(version: WireVersion, width: Width, count: usize, size: usize) -> bool
     requires { count < 65536 }
-    ensures { result ≡ has_wrong_size version count size }
+    ensures { result ≡ has_wrong_size version width.bytes count size }
 {
     match version {
-        WireVersion::One => size != 2 * count,
-        WireVersion::Two => size % 3 != 0 || size > 3 * MOST_PAIRS,
+        WireVersion::One => size != usize::from(width.bytes) * count,
+        WireVersion::Two | WireVersion::Three => {
+            size % (usize::from(width.bytes) + 1) != 0 || size > RUN_BYTES
+        }
     }
 }
 
-/// Returns whether, in version 2, the end of the body is not the pairs of a run. There are at most 42
-/// pairs here: `miscounts` has refused more.
+/// Returns whether, from version 2 on, the end of the body is not the pairs of a run. There are at most 64 pairs here:
+/// `miscounts` has refused more.
 fn mispairs(kind: DatagramKind, bytes: &[u8]) -> bool
     requires long { HEADER_LENGTH + (shape_of kind).fixed ≤ length bytes.now }
+    requires some { 1 ≤ width_at bytes.now }
+    requires wide { width_at bytes.now ≤ 8 }
     requires fits { is_misfit kind bytes.now ≡ false }
     requires counted { miscounts kind bytes.now ≡ false }
     ensures { result ≡ mispairs kind bytes.now }
@@ -225,8 +240,8 @@ fn mispairs(kind: DatagramKind, bytes: &[u8]) -> bool
     let count = usize::from(u16_at(bytes, COUNT_PAST_FIXED + kind.shape().fixed));
     let (_, run) = bytes.split_at(HEADER_LENGTH + kind.shape().fixed);
     kind.shape().tail == Tail::Run
-        && version_in(bytes) == WireVersion::Two
-        && Pairs::read(run, count).is_none()
+        && version_in(bytes) != WireVersion::One
+        && Pairs::read(run, count, width_in(bytes)).is_none()
 }
 
 /// Returns whether a number of inputs or rows is above what a game can have, or a run or rows end too

@@ -1,6 +1,6 @@
 //! What a datagram to be written says.
 use crate::header::Head;
-use c8_game::{Player, Row};
+use c8_game::{Input, Player, Row};
 
 /// The body to be written, by kind. A run or rows are borrowed from the caller.
 #[derive(Clone, Copy, Debug)]
@@ -18,7 +18,7 @@ pub enum Body<'a> {
         mark_frame: u32,
         mark: [u8; 8],
         start: u32,
-        run: &'a [u16],
+        run: &'a [Input],
     },
     /// Player one drops `leaver` and holds `have` of its inputs.
     Freeze {
@@ -30,14 +30,14 @@ pub enum Body<'a> {
         leaver: Player,
         held: u32,
         start: u32,
-        run: &'a [u16],
+        run: &'a [Input],
     },
     /// The leaver's inputs from `start` on. The first `length` of its inputs count for all who stay.
     Cut {
         leaver: Player,
         length: u32,
         start: u32,
-        run: &'a [u16],
+        run: &'a [Input],
     },
     /// Rows of the match from frame `start` on.
     Show {

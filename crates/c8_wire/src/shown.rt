@@ -3,11 +3,11 @@ use crate::datagram::Datagram;
 use crate::header::Header;
 use crate::run::Run;
 use crate::showing::Show;
-use c8_game::{Player, WireVersion};
+use c8_game::{Player, Width, WireVersion};
 use std::fmt;
 
-/// Shows the fields in lines, without a line feed after the last. The version is shown only if it is 2.
-/// A run is shown as its inputs, four hexadecimal digits each, in both versions.
+/// Shows the fields in lines, without a line feed after the last. Version 1 is not shown, and the width of
+/// inputs only in version 3. An input is shown as two hexadecimal digits for each of its bytes, in all versions.
 impl<'a> fmt::Display for Datagram<'a> {
     fn fmt<W: fmt::Write>(&self, f: &mut fmt::Formatter<W>) -> fmt::Result {
         show_header(f, self.header())?;
@@ -19,16 +19,16 @@ impl<'a> fmt::Display for Datagram<'a> {
                 put(f, "\nack ", data.ack())?;
                 put(f, "\nmark ", data.mark_frame())?;
                 put_hex(f, " ", u64::from_be_bytes(data.mark()))?;
-                show_run(f, data.start(), data.run())
+                show_run(f, data.start(), data.run(), self.header().width())
             }
             Datagram::Freeze(freeze) => show_leaver(f, freeze.leaver(), " have ", freeze.have()),
             Datagram::Frozen(frozen) => {
                 show_leaver(f, frozen.leaver(), " held ", frozen.held())?;
-                show_run(f, frozen.start(), frozen.run())
+                show_run(f, frozen.start(), frozen.run(), self.header().width())
             }
             Datagram::Cut(cut) => {
                 show_leaver(f, cut.leaver(), " length ", cut.length())?;
-                show_run(f, cut.start(), cut.run())
+                show_run(f, cut.start(), cut.run(), self.header().width())
             }
             Datagram::Show(show) => show_rows(f, show),
         }
@@ -46,8 +46,13 @@ fn put_hex<W: fmt::Write>(f: &mut fmt::Formatter<W>, name: &str, value: u64) -> 
 fn show_header<W: fmt::Write>(f: &mut fmt::Formatter<W>, header: Header<'_>) -> fmt::Result {
     let kind = header.kind();
     write!(f, "kind {kind}")?;
-    if let WireVersion::Two = header.version() {
-        put(f, "\nversion ", 2)?;
+    match header.version() {
+        WireVersion::One => {}
+        WireVersion::Two => put(f, "\nversion ", 2)?,
+        WireVersion::Three => {
+            put(f, "\nversion ", 3)?;
+            put(f, " input ", header.width().bytes.into())?;
+        }
     }
     put_hex(f, "\nsession ", header.session())?;
     put_all(
@@ -78,11 +83,17 @@ fn show_leaver<W: fmt::Write>(
     put(f, name, inputs)
 }
 
-fn show_run<W: fmt::Write>(f: &mut fmt::Formatter<W>, start: u32, run: Run<'_>) -> fmt::Result {
+fn show_run<W: fmt::Write>(
+    f: &mut fmt::Formatter<W>,
+    start: u32,
+    run: Run<'_>,
+    width: Width,
+) -> fmt::Result {
     show_start(f, start, run.len())?;
     f.write_str("\nrun")?;
-    for word in run.iter() {
-        write!(f, " {word:04x}")?;
+    for input in run.iter() {
+        let digits = input.digits(width);
+        write!(f, " {digits}")?;
     }
     Ok(())
 }
@@ -91,8 +102,11 @@ fn show_rows<W: fmt::Write>(f: &mut fmt::Formatter<W>, show: &Show<'_>) -> fmt::
     let rows = show.rows();
     show_start(f, show.start(), rows.len())?;
     for place in 0..rows.len() {
-        let [one, two, three, four] = rows.get(place).sets;
-        write!(f, "\nrow {one} {two} {three} {four}")?;
+        f.write_str("\nrow")?;
+        for input in &rows.get(place).inputs {
+            let digits = input.digits(rows.width());
+            write!(f, " {digits}")?;
+        }
     }
     Ok(())
 }

@@ -3,7 +3,8 @@ use Rattle.std.proofs.Common.{◌≡◌, Some, ap, ◌∙◌, arith}
 use Rattle.c8_wire.specs.Packet.{AreBytes}
 use Rattle.c8_wire.specs.declared.kinds.DatagramKind.TheVariants as kinds
 use Rattle.c8_wire.specs.Reading.{kind_at}
-use Rattle.c8_wire.proofs.PacketLemmas.{found, hello_size, welcome_size, data_run, freeze_size, frozen_run, cut_run, show_shape, seen_size}
+use Rattle.c8_wire.proofs.PacketLemmas.{found, format_at, hello_size, welcome_size, data_run, freeze_size, frozen_run, cut_run, show_shape}
+use Rattle.c8_wire.proofs.PacketLemmas.{seen_size}
 use Rattle.c8_wire.proofs.reading.datagram_of.Goals as goal
 
 pub invariant_of-result : goal.invariant_of-result
@@ -26,8 +27,11 @@ invariant_of-result-in-Data c =
     let fits : AreBytes bytes = λ i. omega (arith, c.type_inv.bytes i) in
     let named : kind_at bytes ≡ Some kinds.Data = c.requires.kind ∙ ap Some c.in-Data.is in
     let run = data_run bytes fits named c.requires.accepted in
+    let format = format_at kinds.Data bytes named c.requires.accepted in
     record {
       long = run.long;
+      some = format.some_width;
+      wide = format.width;
       few = run.short;
       sized = run.sized;
       paired = run.paired;
@@ -67,8 +71,11 @@ invariant_of-result-in-Frozen-2 c =
     let fits : AreBytes bytes = λ i. omega (arith, c.type_inv.bytes i) in
     let named : kind_at bytes ≡ Some kinds.Frozen = c.requires.kind ∙ ap Some c.in-Frozen.is in
     let run = frozen_run bytes fits named c.requires.accepted in
+    let format = format_at kinds.Frozen bytes named c.requires.accepted in
     record {
       long = run.long;
+      some = format.some_width;
+      wide = format.width;
       few = run.short;
       sized = run.sized;
       paired = run.paired;
@@ -89,8 +96,11 @@ invariant_of-result-in-Cut-2 c =
     let fits : AreBytes bytes = λ i. omega (arith, c.type_inv.bytes i) in
     let named : kind_at bytes ≡ Some kinds.Cut = c.requires.kind ∙ ap Some c.in-Cut.is in
     let run = cut_run bytes fits named c.requires.accepted in
+    let format = format_at kinds.Cut bytes named c.requires.accepted in
     record {
       long = run.long;
+      some = format.some_width;
+      wide = format.width;
       few = run.short;
       sized = run.sized;
       paired = run.paired;
@@ -103,7 +113,14 @@ invariant_of-result-in-Show c =
     let fits : AreBytes bytes = λ i. omega (arith, c.type_inv.bytes i) in
     let named : kind_at bytes ≡ Some kinds.Show = c.requires.kind ∙ ap Some c.in-Show.is in
     let is = show_shape bytes fits named c.requires.accepted in
-    record { few = is.short; size = is.size; spelled = found kinds.Show bytes fits named c.requires.accepted }
+    let format = format_at kinds.Show bytes named c.requires.accepted in
+    record {
+      some = format.some_width;
+      wide = format.width;
+      few = is.short;
+      size = is.size;
+      spelled = found kinds.Show bytes fits named c.requires.accepted;
+    }
 
 pub invariant_of-result-in-Seen : goal.invariant_of-result-in-Seen
 invariant_of-result-in-Seen c =
