@@ -5,8 +5,8 @@ use Rattle.std.specs.Io.KnownBytes.{Appends}
 use Rattle.std.proofs.KnownBytes.{Appends-trans}
 use Rattle.c8_game.specs.declared.row.Player.{Player}
 use Rattle.c8_audit.specs.declared.verdict.Verdicts.{Verdicts}
-use Rattle.c8_keys.specs.Report.{Grows}
-use Rattle.c8_keys.specs.checked.Grows.{grows_then}
+use Rattle.c8_texts.specs.Report.{Grows}
+use Rattle.c8_texts.specs.checked.Grows.{grows_then}
 use Rattle.c8_audit.specs.Printed.{checks_text, verdicts_text, sentence_of, Tells}
 
 pub true_checks : {T E : Type 0} (before after : Option (List ℕ)) (untrue : Option Player) (told : Result T E) → untrue ≡ None

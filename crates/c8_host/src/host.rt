@@ -15,9 +15,8 @@ use crate::friends::{
 use crate::inviting::{invitation, kept, note};
 use crate::journals::journal_for;
 use crate::meeting::{Invitation, Meeting, invitation_over};
-use c8_command::{Refusal, Site, Status};
+use c8_command::{Refusal, Site, Status, System, Terminals, is_explained, word_of};
 use c8_files::{make_secret, random_bytes};
-use c8_front::{System, Terminals, is_explained, word_of};
 use c8_game::{Game, Player};
 use c8_net::number_of;
 use c8_play::{Console, KEY_BYTES, Terminal};

@@ -2,11 +2,11 @@
 
 use crate::help::PEER_ENDING;
 use crate::reached::Named;
-use c8_front::options::{
+use c8_command::options::{
     CHECKPOINT, GAME, LOCAL, PATIENCE, RELAY, REMOTES, ROOM, SECRET, STOP, WATCH_SECRET, WATCH5,
     WATCH6,
 };
-use c8_front::{Argument, Outline, is_explained, word_of};
+use c8_command::{Argument, Outline, is_explained, word_of};
 use c8_game::Player;
 use c8_udp::MOST_WATCHERS;
 use clap::ArgMatches;

@@ -7,8 +7,8 @@ use crate::chime::Chime;
 use crate::console::Console;
 use crate::desk::Desk;
 use c8_game::{Game, Row};
-use c8_keys::Played;
 use c8_machine::Machine;
+use c8_texts::Played;
 
 /// Plays a game at a desk, frame by frame: to its last frame, for `frames` frames, or until the person quits. Returns
 /// how many frames were played, and the machine of the serial run of the keys that were held in them.

@@ -9,17 +9,16 @@ use crate::casting::Casting;
 use crate::laws::turns_take_nothing_back;
 use crate::stage::Stage;
 use crate::worker::Picture;
-use c8_command::Status;
+use c8_command::{Status, Terminals, Threaded};
 use c8_files::warn_of_readers;
-use c8_front::{Terminals, Threaded};
 use c8_game::Game;
-use c8_keys::{Played, write_report};
 use c8_net::{
     Fault, Line, Named, PeerError, Reached, Sealing, game_at, is_same_place, refuse_among,
     watch_sealing_at,
 };
 use c8_peer::OpenError;
 use c8_spectator::Spectator;
+use c8_texts::{Played, write_report};
 use c8_transport::{Counters, Sealed, Sealer, Wire};
 use c8_udp::{Addresses, SocketError, SocketFault};
 use c8_wire::Seat;

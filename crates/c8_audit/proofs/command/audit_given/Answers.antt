@@ -1,6 +1,6 @@
 -- Missing files, a refused game or refused readings are never done, and files whose audit is done tell one story.
 use Rattle.std.proofs.Common.{inl}
-use Rattle.c8_program.specs.Errors.{game_fault}
+use Rattle.c8_files.specs.Errors.{game_fault}
 use Rattle.c8_audit.proofs.OutcomeLemmas.{never_done, told_unjudged, told_judged, told_no_game, told_no_program, unjudged_by}
 use Rattle.c8_audit.specs.declared.error.AuditFault.TheVariants.{Game}
 use Rattle.c8_audit.proofs.command.audit_given.Goals as goal
