@@ -27,7 +27,7 @@ pub fn head_of(disk: &FileDisk<Medium>) -> Option<Head>
     }
 }
 
-/// The same of a disk's bytes.
+/// Returns what the first record of a journal with these bytes names; `None` if there is no record, or if it is no HEAD.
 fn head_in(bytes: &[u8]) -> Option<Head>
     ensures { MatchOption result (NamesNone bytes.now)
         (λ head. NamesHead bytes.now head.player.number head.room) }

@@ -92,7 +92,7 @@ impl Clock {
         }
     }
 
-    /// Returns for how long a player was silent, in milliseconds; without a clock in turns, which it is told.
+    /// Returns how long a player was silent: in milliseconds by the clock, or else the given number of turns.
     fn silence(&self, player: Player, turns: u64) -> u64 {
         match self.now {
             Some(now) => now.saturating_sub(self.heard[player.place()]),
