@@ -108,7 +108,7 @@ typedef struct {
 enum {
     C8_EVENT_LINKED = 1,      /* the link to `player` has opened: for the first time, or after one of both started again */
     C8_EVENT_INTERRUPTED = 2, /* its link is open, and it has been silent for 60 turns */
-    C8_EVENT_RESUMED = 3,     /* it is heard again after that */
+    C8_EVENT_RESUMED = 3,     /* it is heard again after that, also where it starts again: then its link is not open yet */
     C8_EVENT_DROPPED = 4,     /* it was dropped: from `frame` on its inputs are empty. Its own session has no such event */
     C8_EVENT_DESYNC = 5,      /* its CHIP-8 machine differs from the own one after `frame` frames: once for a frame */
     C8_EVENT_ENDED = 6        /* c8_is_over has become true, with `frame` frames confirmed */
@@ -130,7 +130,8 @@ enum {
  *
  * Only player 1 drops players, and nobody drops player 1: a match without it waits, and ends there if it does not come
  * back. Player 1 drops a player who was silent for `patience` turns after its link opened, or milliseconds if c8_clock tells
- * the time; 0 never. It waits for ever for the first link: c8_patience changes both. At the sessions of other players `patience` does nothing.
+ * the time; 0 never. After each opening it waits for ever for a player's first link, also if that player was here before:
+ * c8_patience changes both. At the sessions of other players `patience` does nothing.
  *
  * It reserves 144 bytes for each record of the journal: players times frames, 37 for each 3,600 frames, and 16,384 more: so
  * often a journal can be opened. That is 2.6 MB for two players and 600 frames, 154 MB for four and 262,144; what is not
@@ -228,14 +229,15 @@ c8_answer c8_watched(c8_session *, uint8_t watcher);
 bool c8_is_over(c8_session *);
 
 /* Writes the oldest event that waits, and returns true; or false if none waits, and at a closed session. Each event comes
- * once, in order, none is lost, and none takes memory: one of each kind and player can wait, and a second one takes the place
- * of the first. A session over a journal has an event for each cut of the journal again after each opening. */
+ * once, in order, and none takes memory. Of one kind and player only the newest can wait: a second one takes the place of the
+ * first. A session over a journal has an event for each cut of the journal again after each opening. */
 bool c8_event(c8_session *, c8_event_state *);
 
 /* Returns how many ticks to leave out in this frame: 0 or 1. Call it once a frame, before the tick. It is 1 if the own
  * player is more than half the window ahead of the player who is furthest behind, among those whose inputs have no end, and
- * was in each of the last 60 frames, which were all ticked. Who is ahead has all the rollbacks; so all have about as
- * many. 0 at a closed session. */
+ * was in each of the last 60 frames, this one included; each one before it was ticked. Who is ahead has all the rollbacks, so this
+ * spreads them. It counts known inputs, without the time that they take: over a path of more than delay + window / 2 frames each
+ * player is ahead of the other, and leaves out one tick in 60. 0 at a closed session. */
 uint32_t c8_wait(c8_session *);
 
 /* Whether another player acknowledged inputs of this player that its journal does not have: the journal was lost or
@@ -258,7 +260,8 @@ uint32_t c8_step(c8_session *, uint32_t *from, uint16_t *rows, size_t words);
 
 /* Writes for each of the four players what its input in the best row of a frame is: C8_PREDICTED, C8_HELD or C8_EMPTY. A
  * player that the game has not is C8_PREDICTED. A machine that treats a dropped player otherwise than one with an input of
- * 0 goes back to the frame of C8_EVENT_DROPPED by itself if c8_step gives no earlier one: its states are still there. */
+ * 0 goes back to the frame of C8_EVENT_DROPPED by itself if c8_step gives no earlier one, before its next step: until then its states
+ * are still there. After an opening the cut may be older than they are; then such a machine runs all rows again. */
 c8_answer c8_status(c8_session *, uint32_t frame, uint8_t out[C8_ROW]);
 
 /* For a test of an engine's machine: from now on each step goes back by `depth` frames, as far as they were not

@@ -9,7 +9,7 @@
 -- - `Desynced`, with the number of frames of the mark: a delivery that answers `Desync`, unless one was noted about this player
 --   and the same frame, or a later one.
 -- - `Ended`, with the number of confirmed frames: the look that first finds the session over. A player that was dropped hears this
---   of its own session, and no `Dropped`, since nobody tells it where its inputs are cut.
+--   of its own session, and no `Dropped`, since its peer records no cut of itself.
 --
 -- A second event of one kind and player takes the place of the first, if that waits still.
 use Rattle.std.specs.Prelude.{ℕ, ◌≡◌, ◌+◌, ◌*◌, ◌-◌, ◌<◌, ◌≤◌, ◌&&◌, min, not, Bool, true, false, slice_index_or, slice_set, replicate}
