@@ -1,5 +1,6 @@
 //! Secrets in files.
 
+use crate::card::{CARD_SECRET, first_behind, trimmed};
 use crate::command::random_bytes;
 use c8_command::{TextError, read_file};
 use c8_transport::{Secret, SecretError};
@@ -26,7 +27,8 @@ pub enum SecretFault {
     Refused(SecretError),
 }
 
-/// Reads the secret in a file.
+/// Reads the secret in a file: its digits, or a match card with a line of them. Spaces and ends of lines around the digits do
+/// not count.
 pub fn secret_in<R>(rt: &R, path: &str) -> Result<Secret, SecretFault>
 where
     R: Files<File = File> + AllocGlobal,
@@ -35,7 +37,8 @@ where
         Ok(text) => text,
         Err(error) => return Err(SecretFault::Unread(error)),
     };
-    Secret::read(&text).map_err(SecretFault::Refused)
+    let digits = first_behind(&text, CARD_SECRET).unwrap_or(&text);
+    Secret::read(trimmed(digits)).map_err(SecretFault::Refused)
 }
 
 /// Makes a file with a new secret that only its owner may read. A file that is there already stays as it is, also one that
@@ -60,15 +63,38 @@ pub fn write_secret<R>(rt: &R, path: &str, digits: &[u8]) -> io::Result<()>
 where
     R: Files<File = File> + AllocGlobal,
 {
-    let [one, two, three, four, ..] = random_bytes(rt)?;
-    let drawn = u32::from_be_bytes([one, two, three, four]);
-    let beside = format!(in rt.alloc(); "{path}.{drawn}")?;
+    let beside = beside(rt, path)?;
     let written = match write_new(rt, beside.as_str(), digits) {
         Ok(()) => named(rt, beside.as_str(), path),
         Err(error) => Err(error),
     };
     let _ = fs::remove_file(rt, beside.as_str());
     written
+}
+
+/// Makes the file of a match card, which only its owner may read, or replaces it. It is written beside, and gets its name once
+/// it is whole.
+pub fn write_card<R>(rt: &R, path: &str, text: &[u8]) -> io::Result<()>
+where
+    R: Files<File = File> + AllocGlobal,
+{
+    let beside = beside(rt, path)?;
+    let written = match write_new(rt, beside.as_str(), text) {
+        Ok(()) => fs::rename(rt, beside.as_str(), path),
+        Err(error) => Err(error),
+    };
+    let _ = fs::remove_file(rt, beside.as_str());
+    written
+}
+
+/// A path beside another, by a number that nobody can guess.
+fn beside<R>(rt: &R, path: &str) -> io::Result<String>
+where
+    R: Files<File = File> + AllocGlobal,
+{
+    let [one, two, three, four, ..] = random_bytes(rt)?;
+    let drawn = u32::from_be_bytes([one, two, three, four]);
+    Ok(format!(in rt.alloc(); "{path}.{drawn}")?)
 }
 
 /// Gives a file a name that no other file has. On a file system without links it replaces a file that has the name.
@@ -79,7 +105,7 @@ fn named<R: Files<File = File>>(rt: &R, beside: &str, path: &str) -> io::Result<
     }
 }
 
-/// Writes digits and a LF to a new file that only its owner may read.
+/// Writes digits or a text, and a LF, to a new file that only its owner may read.
 fn write_new<R: Files<File = File>>(rt: &R, path: &str, digits: &[u8]) -> io::Result<()> {
     let mut file = File::options()
         .write(true)

@@ -56,9 +56,23 @@ pub static HOST: Outline = Outline {
             help: "The file of the secret, made if it is missing [default: GAME.secret]",
             ..Argument::FILE
         },
+        Argument {
+            name: "card",
+            help: "Writes a match card there: the one file that a friend needs, for join",
+            ..Argument::FILE
+        },
+        Argument {
+            name: "players",
+            help: "Refuses a game that is not for so many players [default: any]",
+            value: Some(ValueParser::Signed(2, 4)),
+            ..Argument::NUMBER
+        },
         JOURNAL,
         NO_JOURNAL,
-        PATIENCE,
+        Argument {
+            help: "Drops a player who was there after N silent turns of a frame [default: never]",
+            ..PATIENCE
+        },
         HOLD,
         MUTE,
         REPORT,
@@ -72,10 +86,14 @@ pub static JOIN: Outline = Outline {
     about: "Joins the game of a friend who hosts it, and plays it at the keyboard as player 2",
     ending: JOIN_ENDING,
     takes: &[
-        GAME,
+        Argument {
+            help: "The path of the game's text or of a .ch8 program, the same for both; or of the match card",
+            ..GAME
+        },
         Argument {
             name: "ADDRESS",
-            help: "The friend's address or name with its port, as 192.0.2.7:4001; with --relay left out",
+            help: "The friend's address or name with its port, as 192.0.2.7:4001; with --relay or a card left out",
+            form: Form::Optional,
             ..Argument::NEEDED
         },
         Argument {

@@ -16,10 +16,10 @@ use c8_udp::{SocketError, address_at};
 use clap::ArgMatches;
 use std::alloc::{AllocError, Global};
 use std::fs::File;
-use std::io;
 use std::io::Write;
 use std::net::Net;
 use std::rt::Files;
+use std::{fs, io};
 
 /// How many frames a second a match of two friends has.
 const RATE: u8 = 60;
@@ -47,6 +47,10 @@ pub(crate) struct Match {
     pub(crate) secret: String,
     /// The path of the journal, or `-` for none.
     pub(crate) journal: String,
+    /// Whether this command made the file of the secret from digits that a person typed.
+    pub(crate) is_typed: bool,
+    /// The lines that were written before the match.
+    pub(crate) notices: Vec<u8>,
 }
 
 impl Match {
@@ -72,6 +76,7 @@ impl Match {
             says_end: false,
             is_muted: false,
             explain: false,
+            notices: &[],
         }
     }
 }
@@ -118,6 +123,8 @@ pub(crate) fn met_at(
         patience: None,
         secret,
         journal: String::new(alloc),
+        is_typed: false,
+        notices: Vec::new(alloc),
     })
 }
 
@@ -151,12 +158,14 @@ where
     Ok(Some(status))
 }
 
-/// Plays the match. It writes the report only if `--report` is given, or if `out` is no terminal.
+/// Plays the match, with these lines below the picture. It writes the report only if `--report` is given, or if `out` is no
+/// terminal.
 pub(crate) fn play<R, W, E>(
     rt: &R,
     given: &ArgMatches<'_>,
     terminals: Terminals,
     wanted: Match,
+    below: &str,
     console: Terminal<'_, R>,
     out: &mut W,
     refused: &mut E,
@@ -171,10 +180,10 @@ where
         → IfOk result (IsSilent EndsMatch (W.contents out.old) (W.contents out.new)) }
 {
     if wants_report(given, terminals) {
-        return play_match(rt, given, wanted, console, out, refused);
+        return play_match(rt, given, wanted, below, console, out, refused);
     }
     let mut unread = Vec::new(rt.alloc());
-    play_match(rt, given, wanted, console, &mut unread, refused)
+    play_match(rt, given, wanted, below, console, &mut unread, refused)
 }
 
 /// Plays as `play` does, and writes the report to `out`.
@@ -182,6 +191,7 @@ fn play_match<R, W, E>(
     rt: &R,
     given: &ArgMatches<'_>,
     wanted: Match,
+    below: &str,
     console: Terminal<'_, R>,
     out: &mut W,
     refused: &mut E,
@@ -196,43 +206,46 @@ where
     let asked = Asked {
         is_muted: given.get_flag("mute"),
         explain: is_explained(given),
+        notices: &wanted.notices,
         ..wanted.asked(&remotes)
     };
     let room = wanted.is_drawn.then_some(wanted.room);
     let hold = given.get_one::<u8>("hold").unwrap_or(9).max(1);
     let pace = Tempo { rate: RATE, hold };
-    play_asked(rt, given, &asked, room, console, pace, out, refused)
-}
-
-/// Plays as `play` does, and says how the match ended. `room` is the room if it was drawn.
-fn play_asked<R, W, E>(
-    rt: &R,
-    given: &ArgMatches<'_>,
-    asked: &Asked<'_, '_>,
-    room: Option<u64>,
-    console: Terminal<'_, R>,
-    pace: Tempo,
-    out: &mut W,
-    refused: &mut E,
-) -> io::Result<Status>
-where
-    R: System,
-    W: Write,
-    E: Write,
-    ensures { IfOk result (EndsMatch (W.contents out.old) (W.contents out.new)) }
-{
     let mut ending = Ending::NONE;
     let live = Live {
         console,
         pace,
         keys: keys_at(rt, asked.game, asked.player),
+        below,
         ending: &mut ending,
     };
-    let status = perform_given(rt, asked, live, out, refused)?;
+    let status = perform_given(rt, &asked, live, out, refused)?;
     if status == Status::Done {
-        tell_end(rt.alloc(), given, asked, room, ending, refused)?;
+        if ending.is_unbegun() && wanted.is_typed {
+            forget_digits(rt, wanted.secret.as_str(), refused)?;
+        }
+        tell_end(rt.alloc(), given, &asked, room, ending, refused)?;
     }
     Ok(status)
+}
+
+/// Removes the file of digits that a person typed, and that brought nobody.
+fn forget_digits<R, E>(rt: &R, secret: &str, refused: &mut E) -> io::Result<()>
+where
+    R: Files<File = File>,
+    E: Write,
+{
+    match fs::remove_file(rt, secret) {
+        Ok(()) => writeln!(
+            refused,
+            "nobody answered: the digits that you typed are not kept; compare game, room and digits with your friend's"
+        ),
+        Err(_) => writeln!(
+            refused,
+            "nobody answered: if the digits that you typed are wrong, delete {secret}"
+        ),
+    }
 }
 
 /// Writes how a match ended, and the line to go on with: it names the room if it was drawn, and of a list of relays the one
@@ -249,8 +262,8 @@ fn tell_end<E: Write>(
     let one = format!(in alloc; "{}", asked.relay.unwrap_or(""))?;
     let drawn = Drawn {
         room,
-        word: asked
-            .relay
+        word: given
+            .get_str("relay")
             .is_some()
             .then_some((list.as_str(), one.as_str())),
     };
@@ -270,6 +283,7 @@ pub(crate) fn game_for<R, E>(
     rt: &R,
     given: &ArgMatches<'_>,
     command: &str,
+    has_relay: bool,
     refused: &mut E,
 ) -> io::Result<Found>
 where
@@ -278,14 +292,12 @@ where
     ensures { (status : Status) → result ≡ Ok (found.Refused status) → status ≢ statuses.Done }
 {
     match game_at(rt, word_of(given, "GAME")) {
-        Ok(game) if game.players() == 2 || given.get_str("relay").is_some() => {
-            Ok(Found::Game(game))
-        }
+        Ok(game) if game.players() == 2 || has_relay => Ok(Found::Game(game)),
         Ok(game) => {
             let players = game.players();
             writeln!(
                 refused,
-                "error: without --relay {command} is for games of two players; this one has {players}: use play"
+                "error: this game is for {players} players, who meet at a relay: {command} needs --relay HOST:PORT; ./c8play relay starts one"
             )?;
             Ok(Found::Refused(Status::CommandLine))
         }

@@ -1,6 +1,6 @@
 //! Runs `host`.
 
-ghost use Rattle.std.specs.Prelude.{◌≡◌, ◌≢◌, IfOk, Ok};
+ghost use Rattle.std.specs.Prelude.{◌≡◌, ◌≢◌, IfOk, IfSome, Ok};
 ghost use Rattle.c8_command.specs.declared.status.Status.TheVariants as statuses;
 ghost use Rattle.c8_command.specs.declared.status.Status.{Status};
 ghost use Rattle.c8_host.specs.declared.friends.Begun.TheVariants as begun;
@@ -8,19 +8,20 @@ ghost use Rattle.c8_net.specs.Answers.{EndsMatch};
 ghost use Rattle.c8_play.specs.Answers.{IsSilent, WantsReport, WantsNoReport};
 
 use crate::addresses::{LIST, own_addresses};
+use crate::card::make_card;
 use crate::checks::refuse_start;
 use crate::friends::{
     Begun, Found, Match, NONE, game_for, met_at, play, refuse_relay, secret_path,
 };
-use crate::inviting::{invitation, kept, note};
+use crate::inviting::{Invited, invitation, kept};
 use crate::journals::journal_for;
-use crate::meeting::{Invitation, Meeting, invitation_over};
+use crate::meeting::{Meeting, invitation_over};
 use c8_command::{Refusal, Site, Status};
 use c8_files::{make_secret, random_bytes};
 use c8_front::{System, Terminals, is_explained, word_of};
 use c8_game::{Game, Player};
 use c8_net::number_of;
-use c8_play::{Console, KEY_BYTES, Terminal};
+use c8_play::{Console, FIRST_ROW, KEY_BYTES, Terminal, rows_of};
 use clap::ArgMatches;
 use std::alloc::{AllocError, Global};
 use std::fs::File;
@@ -56,10 +57,14 @@ where
     ensures silent { WantsNoReport given.now terminals
         → IfOk result (IsSilent EndsMatch (W.contents out.old) (W.contents out.new)) }
 {
-    let game = match game_for(rt, given, "host", refused)? {
+    let has_relay = given.get_str("relay").is_some();
+    let game = match game_for(rt, given, "host", has_relay, refused)? {
         Found::Game(game) => game,
         Found::Refused(status) => return Ok(status),
     };
+    if let Some(status) = refuse_players(given, game.players(), refused)? {
+        return Ok(status);
+    }
     let Ok(mut console) = Terminal::open(rt) else {
         writeln!(refused, "error: host wants a terminal")?;
         return Ok(Status::CommandLine);
@@ -68,9 +73,71 @@ where
         Begun::Match(wanted) => wanted,
         Begun::Refused(status) => return Ok(status),
     };
-    let note = invite(rt, given, &game, &wanted, &mut console, refused)?;
-    let console = console.with_note(note.as_bytes());
-    play(rt, given, terminals, wanted, console, out, refused)
+    if let Some(status) = write_card_of(rt, given, &wanted, refused)? {
+        return Ok(status);
+    }
+    let below = invite(rt, given, &game, &wanted, &mut console, refused)?;
+    play(
+        rt,
+        given,
+        terminals,
+        wanted,
+        below.as_str(),
+        console,
+        out,
+        refused,
+    )
+}
+
+/// Refuses a number of players that is not the game's; `None` if it is, or if none is given.
+fn refuse_players<E: Write>(
+    given: &ArgMatches<'_>,
+    players: u8,
+    refused: &mut E,
+) -> io::Result<Option<Status>>
+    ensures { IfOk result (λ told. IfSome told (λ status. status ≢ statuses.Done)) }
+{
+    let wanted = given.get_one::<u8>("players").unwrap_or(players);
+    if wanted == players {
+        return Ok(None);
+    }
+    let game = word_of(given, "GAME");
+    writeln!(
+        refused,
+        "error: {game} is for {players} players, not for {wanted}: ./c8play game PROGRAM.ch8 --players {wanted} makes a game for so many"
+    )?;
+    Ok(Some(Status::CommandLine))
+}
+
+/// Writes the match card, if one is asked for. It is refused if its file cannot be written, or is there already and no card of
+/// this match.
+fn write_card_of<R, E>(
+    rt: &R,
+    given: &ArgMatches<'_>,
+    wanted: &Match,
+    refused: &mut E,
+) -> io::Result<Option<Status>>
+where
+    R: Files<File = File> + AllocGlobal,
+    E: Write,
+    ensures { IfOk result (λ told. IfSome told (λ status. status ≢ statuses.Done)) }
+{
+    let Some(path) = given.get_str("card") else {
+        return Ok(None);
+    };
+    let list = routes(rt)?;
+    let addresses = own_addresses(rt.alloc(), list.as_str())?;
+    let first = addresses.first().copied().unwrap_or("127.0.0.1");
+    let host = format!(in rt.alloc(); "{first}:{}", port_in(given))?;
+    let site = is_explained(given).then_some(Site::File(path));
+    match make_card(rt, path, wanted, host.as_str()) {
+        Ok(()) => Ok(None),
+        Err(error) if error.kind() == io::ErrorKind::AlreadyExists => {
+            let why = "there is another file of this name: delete it, or name another";
+            Ok(Some(Refusal::DISK.tell_at(site, &why, refused)?))
+        }
+        Err(error) => Ok(Some(Refusal::DISK.tell_at(site, &error, refused)?)),
+    }
 }
 
 /// Writes the invitation, and returns what stands below the picture. An invitation that does not fit there waits for a key.
@@ -87,15 +154,16 @@ where
     C: Console,
     E: Write,
 {
-    let Invitation { lines, fits } = invitation_to(rt, given, game, wanted)?;
+    let (columns, rows) = (console.columns(), console.rows());
+    let lines = invitation_to(rt, given, game, wanted, columns)?;
     refused.write_all(lines.as_bytes())?;
     if wanted.relay.is_some() {
-        // Below the picture there is no room for it.
-        let kept = kept(rt.alloc(), wanted.journal.as_str())?;
+        let kept = kept(rt.alloc(), wanted.journal.as_str(), columns)?;
         refused.write_all(kept.as_bytes())?;
     }
-    if fits {
-        return Ok(note(rt.alloc(), lines.as_str())?);
+    let needed = rows_of(lines.as_bytes(), columns);
+    if FIRST_ROW.saturating_add(needed) <= rows.saturating_add(1) {
+        return Ok(lines);
     }
     writeln!(refused, "Press a key to begin.")?;
     wait_for_key(console);
@@ -143,33 +211,38 @@ where
     };
     wanted.is_drawn = number_of(given, "room").is_none();
     wanted.patience = number_of(given, "patience");
-    wanted.journal = journal_for(rt, given, &wanted, refused)?;
+    let mut notices = Vec::new(rt.alloc());
+    wanted.journal = journal_for(rt, given, &wanted, &mut notices)?;
+    refused.write_all(&notices)?;
+    wanted.notices = notices;
     match refuse_start(rt, given, &wanted, refused)? {
         Some(status) => Ok(Begun::Refused(status)),
         None => Ok(Begun::Match(wanted)),
     }
 }
 
-/// The invitation to a match. One through a relay fits below the picture only if its links are short.
+/// The invitation to a match, for a terminal of so many columns.
 fn invitation_to<R>(
     rt: &R,
     given: &ArgMatches<'_>,
     game: &Game,
     wanted: &Match,
-) -> io::Result<Invitation>
+    columns: usize,
+) -> io::Result<String>
 where
     R: Files<File = File> + Net + AllocGlobal,
 {
     let Some(relay) = &wanted.relay else {
-        let lines = lines_of(rt, given, wanted)?;
-        return Ok(Invitation { lines, fits: true });
+        return lines_of(rt, given, wanted, columns);
     };
     let meeting = Meeting {
         path: word_of(given, "GAME"),
         game,
         relay: relay.as_str(),
         secret: wanted.secret.as_str(),
+        card: given.get_str("card"),
         room: wanted.room,
+        columns,
     };
     Ok(invitation_over(rt, meeting)?)
 }
@@ -209,6 +282,8 @@ fn hosted(
         patience: None,
         secret,
         journal: String::new(alloc),
+        is_typed: false,
+        notices: Vec::new(alloc),
     })
 }
 
@@ -220,29 +295,32 @@ fn made<R: Files<File = File> + AllocGlobal>(rt: &R, secret: &str) -> io::Result
 }
 
 /// The lines of the invitation, with the addresses of this machine.
-fn lines_of<R>(rt: &R, given: &ArgMatches<'_>, wanted: &Match) -> io::Result<String>
+fn lines_of<R>(rt: &R, given: &ArgMatches<'_>, wanted: &Match, columns: usize) -> io::Result<String>
 where
     R: Files<File = File> + AllocGlobal,
 {
-    let list = match fs::read_to_string(rt, LIST) {
-        Ok(list) => list,
-        Err(error) if error.kind() == io::ErrorKind::OutOfMemory => return Err(error),
-        Err(_) => String::new(rt.alloc()),
-    };
+    let list = routes(rt)?;
     let addresses = own_addresses(rt.alloc(), list.as_str())?;
-    let Match {
-        secret,
-        journal,
-        room,
-        ..
-    } = wanted;
-    Ok(invitation(
-        rt.alloc(),
-        word_of(given, "GAME"),
-        secret.as_str(),
-        journal.as_str(),
-        &addresses,
-        port_in(given),
-        *room,
-    )?)
+    let invited = Invited {
+        game: word_of(given, "GAME"),
+        secret: wanted.secret.as_str(),
+        journal: wanted.journal.as_str(),
+        card: given.get_str("card"),
+        addresses: &addresses,
+        port: port_in(given),
+        room: wanted.room,
+    };
+    Ok(invitation(rt.alloc(), invited, columns)?)
+}
+
+/// The system's list of routes; empty if it cannot be read.
+fn routes<R>(rt: &R) -> io::Result<String>
+where
+    R: Files<File = File> + AllocGlobal,
+{
+    match fs::read_to_string(rt, LIST) {
+        Ok(list) => Ok(list),
+        Err(error) if error.kind() == io::ErrorKind::OutOfMemory => Err(error),
+        Err(_) => Ok(String::new(rt.alloc())),
+    }
 }

@@ -4,50 +4,91 @@ use crate::friends::NONE;
 use c8_play::quoted;
 use std::alloc::{AllocError, Global};
 
-/// The first row of the terminal below the picture and its row of text, with a row between.
-const FIRST_ROW: usize = 19;
+/// How the line of a command begins, and each further line of it.
+const FIRST: &str = "  ./c8play";
 
-/// The columns of the narrowest terminal.
-const COLUMNS: usize = 64;
+const FURTHER: &str = "    ";
 
-/// How a link begins.
-const LINK: &str = "http://";
+/// What stands between two lines of a command: a shell reads both as one.
+const BREAK: &str = " \\\n";
 
-/// The lines for the person who hosts: what a friend has to have and to type. `game`, `secret` and `journal` are paths,
-/// `addresses` those of this machine. Names are in quotes where a shell needs that.
+/// The columns that the backslash takes at the end of a line.
+const END: usize = 2;
+
+/// What a host without a relay shows to a friend.
+#[derive(Clone, Copy)]
+pub struct Invited<'a> {
+    /// The paths of the game, of the secret, and of the own journal or `-`.
+    pub game: &'a str,
+    pub secret: &'a str,
+    pub journal: &'a str,
+    /// The path of the match card, if there is one: the friend needs nothing else.
+    pub card: Option<&'a str>,
+    /// The addresses of this machine, and the open port.
+    pub addresses: &'a [&'a str],
+    pub port: u16,
+    pub room: u64,
+}
+
+/// The lines for the person who hosts: what a friend has to have and to type, none wider than `columns` unless it is one word.
+/// Names are in quotes where a shell needs that.
 pub fn invitation(
     alloc: Global,
-    game: &str,
-    secret: &str,
-    journal: &str,
-    addresses: &[&str],
-    port: u16,
-    room: u64,
+    invited: Invited<'_>,
+    columns: usize,
 ) -> Result<String, AllocError> {
-    let name = quoted(alloc, friends_path(game))?;
-    let file = quoted(alloc, last_part(secret))?;
+    let Invited {
+        game,
+        secret,
+        journal,
+        card,
+        addresses,
+        port,
+        room,
+    } = invited;
+    let mut lines = sent(alloc, card.unwrap_or(secret), columns)?;
     let first = addresses.first().copied().unwrap_or("ADDRESS");
-    let here = shown(alloc, addresses)?;
-    // The line to type is on two rows, so that it fits a terminal of 80 columns.
-    let mut lines = format!(in alloc;
-        "Your friend needs the same game and the file {secret}, and types:\n  ./c8play join {name} {first}:{port} {room} \\\n    --secret {file}\nThis machine:{here}\nFrom another network: your router's address, UDP port {port} forwarded.\n"
+    let address = format!(in alloc; "{first}:{port}")?;
+    let room = format!(in alloc; "{room}")?;
+    let words = match card {
+        Some(card) => [last_part(card), "", "", "", ""],
+        None => [
+            friends_path(game),
+            address.as_str(),
+            room.as_str(),
+            "--secret",
+            last_part(secret),
+        ],
+    };
+    lines.push_str(&typed(alloc, "join", &words, columns)?)?;
+    lines.push_str(&filled(alloc, &shown(alloc, addresses)?, columns)?)?;
+    let elsewhere = format!(in alloc;
+        "Elsewhere: your router's address; it forwards UDP port {port}."
     )?;
-    lines.push_str(&kept(alloc, journal)?)?;
+    lines.push_str(&filled(alloc, &elsewhere, columns)?)?;
+    lines.push_str(&kept(alloc, journal, columns)?)?;
     Ok(lines)
 }
 
+/// The line that says what to send before the friend types.
+pub(crate) fn sent(alloc: Global, file: &str, columns: usize) -> Result<String, AllocError> {
+    let line = format!(in alloc; "Send {file} privately. Your friend types:")?;
+    filled(alloc, &line, columns)
+}
+
 /// The line about the own journal.
-pub(crate) fn kept(alloc: Global, journal: &str) -> Result<String, AllocError> {
+pub(crate) fn kept(alloc: Global, journal: &str, columns: usize) -> Result<String, AllocError> {
     if journal == NONE {
-        format!(in alloc; "You keep no journal: if this program ends, you cannot come back.\n")
-    } else {
-        format!(in alloc; "Your journal, to come back with: {journal}\n")
+        let line = "You keep no journal: if this program ends, you cannot come back.";
+        return filled(alloc, line, columns);
     }
+    let line = format!(in alloc; "Your journal: {journal}")?;
+    filled(alloc, &line, columns)
 }
 
 /// The addresses behind one another, or that there is none.
 fn shown(alloc: Global, addresses: &[&str]) -> Result<String, AllocError> {
-    let mut shown = String::new(alloc);
+    let mut shown = format!(in alloc; "This machine:")?;
     for address in addresses {
         shown.push_str(" ")?;
         shown.push_str(address)?;
@@ -58,30 +99,55 @@ fn shown(alloc: Global, addresses: &[&str]) -> Result<String, AllocError> {
     Ok(shown)
 }
 
-/// The bytes that write lines below the picture of a terminal. The terminal wraps a link where it is narrower, so that the
-/// link can be selected as one; each link gets the rows that it needs on 64 columns.
-pub fn note(alloc: Global, lines: &str) -> Result<String, AllocError> {
-    let mut note = String::new(alloc);
-    let mut row: usize = FIRST_ROW;
-    for line in lines.lines() {
-        let written = if line.starts_with(LINK) {
-            format!(in alloc; "\x1b[{row};1H\x1b[K\x1b[?7h{line}\x1b[?7l")?
-        } else {
-            format!(in alloc; "\x1b[{row};1H\x1b[K{line}")?
-        };
-        note.push_str(written.as_str())?;
-        row = row.saturating_add(rows_of(line));
+/// Returns a command as lines for a person to copy, none wider than `columns` unless it is one word. Between two lines stands a
+/// backslash, behind which a shell goes on with the next line. Words are in quotes where a shell needs that, and empty ones are
+/// left out.
+pub fn typed(
+    alloc: Global,
+    command: &str,
+    words: &[&str],
+    columns: usize,
+) -> Result<String, AllocError> {
+    let mut lines = format!(in alloc; "{FIRST} {command}")?;
+    let mut width = lines.len();
+    for word in words {
+        if !word.is_empty() {
+            let word = quoted(alloc, word)?;
+            let more = word.len().saturating_add(1);
+            if width.saturating_add(more).saturating_add(END) > columns {
+                lines.push_str(BREAK)?;
+                lines.push_str(FURTHER)?;
+                width = FURTHER.len().saturating_add(word.len());
+            } else {
+                lines.push_str(" ")?;
+                width = width.saturating_add(more);
+            }
+            lines.push_str(&word)?;
+        }
     }
-    Ok(note)
+    lines.push_str("\n")?;
+    Ok(lines)
 }
 
-/// How many rows a line gets.
-fn rows_of(line: &str) -> usize {
-    if line.starts_with(LINK) {
-        line.len().div_ceil(COLUMNS).max(1)
-    } else {
-        1
+/// Returns a text as lines, none wider than `columns` unless it is one word.
+pub fn filled(alloc: Global, text: &str, columns: usize) -> Result<String, AllocError> {
+    let mut lines = String::new(alloc);
+    let mut width: usize = 0;
+    for word in text.split(' ') {
+        let more = word.len().saturating_add(1);
+        if width == 0 {
+            width = word.len();
+        } else if width.saturating_add(more) > columns {
+            lines.push_str("\n")?;
+            width = word.len();
+        } else {
+            lines.push_str(" ")?;
+            width = width.saturating_add(more);
+        }
+        lines.push_str(word)?;
     }
+    lines.push_str("\n")?;
+    Ok(lines)
 }
 
 /// The path at which a friend has the game: the same in the folder of the program, if it is in there.

@@ -7,11 +7,12 @@ ghost use Rattle.c8_host.specs.declared.friends.Begun.TheVariants as begun;
 ghost use Rattle.c8_net.specs.Answers.{EndsMatch};
 ghost use Rattle.c8_play.specs.Answers.{IsSilent, WantsReport, WantsNoReport};
 
+use crate::card::{Card, card_in};
 use crate::checks::refuse_start;
 use crate::digits::{digits_in, is_secret};
 use crate::friends::{Begun, Found, Match, game_for, met_at, play, refuse_relay, secret_path};
 use crate::journals::journal_for;
-use c8_command::{Part, Refusal, Site, Status};
+use c8_command::{Part, Refusal, Site, Status, read_file};
 use c8_files::write_secret;
 use c8_front::{System, Terminals, is_explained, word_of};
 use c8_game::Player;
@@ -24,6 +25,9 @@ use std::net::Net;
 use std::rt::Files;
 use std::time::Clock;
 use std::{fs, io};
+
+/// What ROOM is.
+const ROOM: &str = "ROOM is the number that your friend's terminal shows";
 
 /// The refusal of digits that are no secret.
 const BAD: Refusal = Refusal {
@@ -52,18 +56,21 @@ where
     ensures silent { WantsNoReport given.now terminals
         → IfOk result (IsSilent EndsMatch (W.contents out.old) (W.contents out.new)) }
 {
-    if let Found::Refused(status) = game_for(rt, given, "join", refused)? {
+    let way = way_of(rt, given)?;
+    let has_relay = given.get_str("relay").is_some()
+        || way.as_ref().is_some_and(|way| way.is_relay);
+    if let Found::Refused(status) = game_for(rt, given, "join", has_relay, refused)? {
         return Ok(status);
     }
-    if let Some(status) = refuse_words(rt, given, refused)? {
+    if let Some(status) = refuse_words(rt, given, &way, refused)? {
         return Ok(status);
     }
     let Ok(console) = Terminal::open(rt) else {
         writeln!(refused, "error: join wants a terminal")?;
         return Ok(Status::CommandLine);
     };
-    match joined(rt, given, input, terminals, refused)? {
-        Begun::Match(wanted) => play(rt, given, terminals, wanted, console, out, refused),
+    match joined(rt, given, way, input, terminals, refused)? {
+        Begun::Match(wanted) => play(rt, given, terminals, wanted, "", console, out, refused),
         Begun::Refused(status) => Ok(status),
     }
 }
@@ -73,6 +80,7 @@ where
 fn joined<R, I, E>(
     rt: &R,
     given: &ArgMatches<'_>,
+    way: Option<Way>,
     input: I,
     terminals: Terminals,
     refused: &mut E,
@@ -83,81 +91,168 @@ where
     E: Write,
     ensures { (status : Status) → result ≡ Ok (begun.Refused status) → status ≢ statuses.Done }
 {
-    let secret = secret_path(rt.alloc(), given)?;
-    if let Some(status) = ask(rt, given, secret.as_str(), input, terminals, refused)? {
+    let Some(way) = way else {
+        return Ok(Begun::Refused(Status::CommandLine));
+    };
+    let secret = if way.is_card && given.get_str("secret").is_none() {
+        format!(in rt.alloc(); "{}", word_of(given, "GAME"))?
+    } else {
+        secret_path(rt.alloc(), given)?
+    };
+    let is_typed = fs::metadata(rt, secret.as_str()).is_err();
+    if is_typed && let Some(status) = ask(rt, given, secret.as_str(), input, terminals, refused)? {
         return Ok(Begun::Refused(status));
     }
-    let mut wanted = met(rt.alloc(), given, secret)?;
-    wanted.journal = journal_for(rt, given, &wanted, refused)?;
+    let mut wanted = met(rt.alloc(), given, way, secret)?;
+    wanted.is_typed = is_typed;
+    let mut notices = Vec::new(rt.alloc());
+    wanted.journal = journal_for(rt, given, &wanted, &mut notices)?;
+    refused.write_all(&notices)?;
+    wanted.notices = notices;
     match refuse_start(rt, given, &wanted, refused)? {
         Some(status) => Ok(Begun::Refused(status)),
         None => Ok(Begun::Match(wanted)),
     }
 }
 
-/// Refuses a ROOM that is no number or not given, and a friend or a relay that has no address; `None` if all is well.
-fn refuse_words<R, E>(rt: &R, given: &ArgMatches<'_>, refused: &mut E) -> io::Result<Option<Status>>
+/// Refuses words that lead to no match, and a friend or a relay that has no address; `None` if all is well.
+fn refuse_words<R, E>(
+    rt: &R,
+    given: &ArgMatches<'_>,
+    way: &Option<Way>,
+    refused: &mut E,
+) -> io::Result<Option<Status>>
 where
     R: Net + AllocGlobal,
     E: Write,
     ensures { IfOk result (λ told. IfSome told (λ status. status ≢ statuses.Done)) }
 {
-    if room_in(given).is_none() {
+    let Some(way) = way else {
         writeln!(
             refused,
-            "error: join takes GAME, ADDRESS and ROOM, or GAME, ROOM and --relay; ROOM is the number that your friend's terminal shows"
+            "error: join takes a match card, or GAME, ADDRESS and ROOM, or GAME, ROOM and --relay; {ROOM}"
         )?;
         return Ok(Some(Status::CommandLine));
-    }
-    let relay = given.get_str("relay");
-    if relay.is_none() && given.get_one::<u8>("player").unwrap_or(2) != 2 {
+    };
+    if !way.is_relay && given.get_one::<u8>("player").unwrap_or(2) != 2 {
         writeln!(
             refused,
             "error: --player is for a match through a relay; without --relay join is player 2"
         )?;
         return Ok(Some(Status::CommandLine));
     }
-    let there = relay.unwrap_or(word_of(given, "ADDRESS"));
-    refuse_relay(rt, given, Some(there), refused)
+    refuse_relay(rt, given, Some(way.there.as_str()), refused)
 }
 
-/// The number of the match: the word after the address, or with a relay the one after the game.
-fn room_in(given: &ArgMatches<'_>) -> Option<u64> {
-    let word = if given.get_str("relay").is_none() {
-        given.get_str("ROOM")?
-    } else if given.get_str("ROOM").is_none() {
-        word_of(given, "ADDRESS")
-    } else {
-        return None;
+/// Where a friend who joins finds the match.
+#[derive(Drop)]
+struct Way {
+    room: u64,
+    /// The address or name of the relay, or of player 1.
+    there: String,
+    is_relay: bool,
+    /// Whether it stands on a match card.
+    is_card: bool,
+}
+
+/// Where the match is: with --relay at the relay, in the room after the game; else at the address in the room after it; or
+/// where the card says, at another address if one is given. `None` if the words say none of these.
+fn way_of<R>(rt: &R, given: &ArgMatches<'_>) -> io::Result<Option<Way>>
+where
+    R: Files<File = File> + AllocGlobal,
+{
+    let alloc = rt.alloc();
+    let (first, second) = (given.get_str("ADDRESS"), given.get_str("ROOM"));
+    match (given.get_str("relay"), first, second) {
+        (Some(relay), Some(room), None) => Ok(way_to(alloc, room, relay, true)?),
+        (None, Some(address), Some(room)) => Ok(way_to(alloc, room, address, false)?),
+        (None, address, None) => Ok(way_by_card(rt, word_of(given, "GAME"), address)?),
+        _ => Ok(None),
+    }
+}
+
+/// The way to a room, unless the word for it is no number.
+fn way_to(
+    alloc: Global,
+    room: &str,
+    there: &str,
+    is_relay: bool,
+) -> Result<Option<Way>, AllocError> {
+    let Ok(room) = room.parse::<u64>() else {
+        return Ok(None);
     };
-    word.parse::<u64>().ok()
+    Ok(Some(Way {
+        room,
+        there: format!(in alloc; "{there}")?,
+        is_relay,
+        is_card: false,
+    }))
+}
+
+/// The way that a card says, or to another address; `None` if the file is no card.
+fn way_by_card<R>(rt: &R, path: &str, address: Option<&str>) -> Result<Option<Way>, AllocError>
+where
+    R: Files<File = File> + AllocGlobal,
+{
+    let Ok(text) = read_file(rt, path) else {
+        return Ok(None);
+    };
+    let Some(card) = card_in(rt.alloc(), &text)? else {
+        return Ok(None);
+    };
+    let Card {
+        room,
+        there,
+        is_relay,
+    } = card;
+    let there = match address {
+        Some(address) => format!(in rt.alloc(); "{address}")?,
+        None => there,
+    };
+    Ok(Some(Way {
+        room,
+        there,
+        is_relay,
+        is_card: true,
+    }))
 }
 
 /// The match of a friend who joins, whose journal is not known yet.
-fn met(alloc: Global, given: &ArgMatches<'_>, secret: String) -> Result<Match, AllocError> {
-    let room = room_in(given).unwrap_or(0);
-    if let Some(relay) = given.get_str("relay") {
+fn met(
+    alloc: Global,
+    given: &ArgMatches<'_>,
+    way: Way,
+    secret: String,
+) -> Result<Match, AllocError> {
+    let Way {
+        room,
+        there,
+        is_relay,
+        ..
+    } = way;
+    if is_relay {
         let number = given.get_one::<u8>("player").unwrap_or(2);
         let player = Player::new(number).unwrap_or(Player { number: 2 });
-        return met_at(alloc, given, relay, player, room, secret);
+        return met_at(alloc, given, &there, player, room, secret);
     }
-    let address = word_of(given, "ADDRESS");
     let port = given.get_one::<u16>("port").unwrap_or(0);
     Ok(Match {
         game: format!(in alloc; "{}", word_of(given, "GAME"))?,
         player: Player { number: 2 },
-        local: format!(in alloc; "{}:{port}", all_for(address))?,
-        remote: format!(in alloc; "{address}")?,
+        local: format!(in alloc; "{}:{port}", all_for(&there))?,
+        remote: there,
         relay: None,
         room,
         is_drawn: false,
         patience: None,
         secret,
         journal: String::new(alloc),
+        is_typed: false,
+        notices: Vec::new(alloc),
     })
 }
 
-/// Asks for the digits of the secret if its file is missing, and makes the file. Returns the status if that is refused.
+/// Asks for the digits of the secret, and makes its file. Returns the status if that is refused.
 fn ask<R, I, E>(
     rt: &R,
     given: &ArgMatches<'_>,
@@ -172,9 +267,6 @@ where
     E: Write,
     ensures { IfOk result (λ asked. IfSome asked (λ status. status ≢ statuses.Done)) }
 {
-    if fs::metadata(rt, secret).is_ok() {
-        return Ok(None);
-    }
     if terminals.input {
         writeln!(
             refused,

@@ -1,6 +1,7 @@
 //! The journal of a match of two friends.
 
 use crate::friends::{Match, NONE};
+use crate::inviting::last_part;
 use c8_files::slow_record;
 use clap::ArgMatches;
 use std::alloc::{AllocError, Global};
@@ -9,9 +10,6 @@ use std::io::Write;
 use std::rt::Files;
 use std::time::Clock;
 use std::{fs, io};
-
-/// The end of a secret's usual path.
-const SECRET: &str = ".secret";
 
 /// Returns the path of the journal: the one that is given, or the usual one; `-` for none. Where there is none yet at the
 /// usual path, the disk is tried first: if it is too slow, or makes no file there, a line to `refused` says so, and the
@@ -40,12 +38,14 @@ where
     }
 }
 
-/// The usual path of a journal: beside the secret, with the room and the player in its name, so that none is used twice.
+/// The usual path of a journal: beside the secret, with the game, the room and the player in its name, so that none is used
+/// twice, and a match that was begun with a wrong game has another.
 fn usual(alloc: Global, wanted: &Match) -> Result<String, AllocError> {
     let secret = wanted.secret.as_str();
-    let stem = secret.strip_suffix(SECRET).unwrap_or(secret);
+    let folder = secret.strip_suffix(last_part(secret)).unwrap_or("");
+    let game = last_part(wanted.game.as_str());
     let (room, player) = (wanted.room, wanted.player.number);
-    format!(in alloc; "{stem}.{room}.{player}.journal")
+    format!(in alloc; "{folder}{game}.{room}.{player}.journal")
 }
 
 /// Whether the disk takes the records of a journal at this path quickly enough. If not, a line says so.

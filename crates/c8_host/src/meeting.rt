@@ -2,30 +2,18 @@
 
 ghost use Rattle.std.specs.Prelude.{IfErr};
 
-use crate::inviting::{friends_path, last_part};
+use crate::inviting::{filled, friends_path, last_part, sent, typed};
 use crate::link::{Ticket, link_name, long_link, short_link};
 use crate::served::{Served, pages_at};
 use c8_command::read_file;
 use c8_files::secret_in;
 use c8_game::Game;
-use c8_play::quoted;
 use c8_program::{is_program, text_of};
 use c8_transport::Secret;
 use std::alloc::{AllocError, Global};
 use std::fs::File;
 use std::net::Net;
 use std::rt::Files;
-
-/// The most characters of a link that fits below the picture, on two rows of 64 columns.
-const SHORT: usize = 128;
-
-/// What a host shows to the others.
-#[derive(Drop)]
-pub(crate) struct Invitation {
-    pub(crate) lines: String,
-    /// Whether the lines fit below the picture.
-    pub(crate) fits: bool,
-}
 
 /// A match through a relay, as its host asks for it.
 #[derive(Clone, Copy)]
@@ -35,31 +23,33 @@ pub(crate) struct Meeting<'a> {
     pub(crate) game: &'a Game,
     /// The relay's address or name.
     pub(crate) relay: &'a str,
-    /// The path of the secret.
+    /// The path of the secret, and of the match card if there is one.
     pub(crate) secret: &'a str,
+    pub(crate) card: Option<&'a str>,
     pub(crate) room: u64,
+    /// The columns of the terminal.
+    pub(crate) columns: usize,
 }
 
 /// Returns the invitation: for each other player a link, if the relay serves the page, and the line to type.
-pub(crate) fn invitation_over<R>(rt: &R, meeting: Meeting<'_>) -> Result<Invitation, AllocError>
+pub(crate) fn invitation_over<R>(rt: &R, meeting: Meeting<'_>) -> Result<String, AllocError>
 where
     R: Files<File = File> + Net + AllocGlobal,
 {
     let alloc = rt.alloc();
     let players = meeting.game.players();
-    let (mut lines, mut fits) = (String::new(alloc), players == 2);
+    let mut lines = String::new(alloc);
     if let Ok(secret) = secret_in(rt, meeting.secret) {
         let there = pages_at(rt, meeting.relay, link_name(meeting.path), meeting.game);
         for seat in 2..players + 1 {
             if let Some(link) = link_for(rt, meeting, &secret, seat, there)? {
-                fits = fits && link.len() <= SHORT;
                 lines.push_str(&opening(alloc, players, seat, &link)?)?;
             }
         }
     }
-    let typed = typed(alloc, meeting, lines.is_empty())?;
-    lines.push_str(&typed)?;
-    Ok(Invitation { lines, fits })
+    let others = lines_to_type(alloc, meeting, lines.is_empty())?;
+    lines.push_str(&others)?;
+    Ok(lines)
 }
 
 /// The line that says what a player opens.
@@ -71,39 +61,49 @@ fn opening(alloc: Global, players: u8, seat: u8, link: &str) -> Result<String, A
     }
 }
 
-/// The lines that say what the others type, who have the game and the secret.
-fn typed(alloc: Global, meeting: Meeting<'_>, is_alone: bool) -> Result<String, AllocError> {
-    let (secret, players) = (meeting.secret, meeting.game.players());
-    let begin = if is_alone {
-        "Your friend, who needs the same game and the file"
+/// The lines that say what the others type, who have the game and the secret, or the card.
+fn lines_to_type(
+    alloc: Global,
+    meeting: Meeting<'_>,
+    is_alone: bool,
+) -> Result<String, AllocError> {
+    let (players, columns) = (meeting.game.players(), meeting.columns);
+    let file = meeting.card.unwrap_or(meeting.secret);
+    let mut lines = if is_alone {
+        sent(alloc, file, columns)?
     } else {
-        "or, with the same game and the file"
+        let line = format!(in alloc; "Or send {file} privately; your friend types:")?;
+        filled(alloc, &line, columns)?
     };
-    let mut lines = format!(in alloc; "{begin} {secret}, types:\n")?;
     for seat in 2..players + 1 {
         lines.push_str(&line_for(alloc, meeting, seat)?)?;
     }
     Ok(lines)
 }
 
-/// The line that a player types, on two rows. Player 2 need not name its seat.
+/// The line that a player types. Player 2 need not name its seat.
 fn line_for(alloc: Global, meeting: Meeting<'_>, seat: u8) -> Result<String, AllocError> {
-    let Meeting {
-        path,
-        relay,
-        secret,
-        room,
-        ..
-    } = meeting;
-    let name = quoted(alloc, friends_path(path))?;
-    let file = quoted(alloc, last_part(secret))?;
-    if seat == 2 {
-        format!(in alloc; "  ./c8play join {name} {room} --relay {relay} \\\n    --secret {file}\n")
+    let room = format!(in alloc; "{}", meeting.room)?;
+    let number = format!(in alloc; "{seat}")?;
+    let (option, number) = if seat == 2 {
+        ("", "")
     } else {
-        format!(in alloc;
-            "  ./c8play join {name} {room} --relay {relay} \\\n    --player {seat} --secret {file}\n"
-        )
-    }
+        ("--player", number.as_str())
+    };
+    let words = match meeting.card {
+        Some(card) => [last_part(card), "", "", "", option, number, "", ""],
+        None => [
+            friends_path(meeting.path),
+            room.as_str(),
+            "--relay",
+            meeting.relay,
+            option,
+            number,
+            "--secret",
+            last_part(meeting.secret),
+        ],
+    };
+    typed(alloc, "join", &words, meeting.columns)
 }
 
 /// The link for a seat; `None` if the relay serves no page, or if the game is too long for one.

@@ -1,14 +1,13 @@
 //! The options of the command `peer`, and what they ask for.
 
 use crate::help::PEER_ENDING;
-use crate::reached::Named;
 use c8_front::options::{
     CHECKPOINT, GAME, LOCAL, PATIENCE, RELAY, REMOTES, ROOM, SECRET, STOP, WATCH_SECRET, WATCH5,
     WATCH6,
 };
 use c8_front::{Argument, Outline, is_explained, word_of};
 use c8_game::Player;
-use c8_udp::MOST_WATCHERS;
+use c8_udp::{MOST_WATCHERS, Named};
 use clap::ArgMatches;
 use clap::builder::ValueParser;
 
@@ -51,6 +50,8 @@ pub struct Asked<'m, 'a> {
     pub is_muted: bool,
     /// Whether to print a second line that says where a refusal's fault is.
     pub explain: bool,
+    /// The lines that were written before the match, for a performance that hides them.
+    pub notices: &'m [u8],
 }
 
 /// The word for no journal file: the journal is kept in memory.
@@ -156,6 +157,7 @@ pub fn asked_for<'m, 'a>(given: &'m ArgMatches<'a>, player: Player) -> Asked<'m,
         says_end: given.get_flag("progress"),
         is_muted: true,
         explain: is_explained(given),
+        notices: &[],
     }
 }
 

@@ -16,7 +16,6 @@ use crate::fault::{Fault, INPUT, Remotes, Why, game_at};
 use crate::mistake::{Mistake, mistake_in};
 use crate::performance::Performance;
 use crate::play::{Prepared, Unprepared, perform_on, play_on, prepare};
-use crate::reached::{Named, Reached};
 use crate::seals::{sealing_at, warn_of_secrets};
 use c8_command::{Refusal, Status, TextError};
 use c8_disk::FileError;
@@ -25,7 +24,7 @@ use c8_front::{System, Terminals, Threaded};
 use c8_game::Game;
 use c8_keys::{Played, write_report};
 use c8_peer::OpenError;
-use c8_udp::SocketError;
+use c8_udp::{Named, Reached, SocketError};
 use clap::ArgMatches;
 use std::alloc::Global;
 use std::fs::File;
@@ -145,17 +144,35 @@ where
     ensures { IfOk result (HasAnswered asked.now.room asked.now.player.number
         (W.contents out.old) (W.contents out.new)) }
 {
-    warn_of_secrets(rt, asked, refused)?;
+    let mut open = Vec::new(rt.alloc());
+    warn_of_secrets(rt, asked, &mut open)?;
+    refused.write_all(&open)?;
     let trouble = Trouble::none();
     let (it, journal) = match begun(rt, asked, io::empty(), &trouble) {
         Ok(it) => it,
         Err(fault) => return tell_fault(rt, asked, fault, refused),
     };
+    let mut slow = Vec::new(rt.alloc());
     if !asked.has_no_journal() {
-        warn_of_a_slow_disk(rt, asked.journal, refused)?;
+        warn_of_a_slow_disk(rt, asked.journal, &mut slow)?;
+        refused.write_all(&slow)?;
     }
+    let notices = joined(rt.alloc(), &[asked.notices, &open, &slow])?;
+    let asked = &Asked {
+        notices: &notices,
+        ..*asked
+    };
     let played = perform_in(rt, asked, it, journal, performance, refused);
     tell_outcome(rt, asked, played, &trouble, out, refused)
+}
+
+/// Returns texts behind one another.
+fn joined(alloc: Global, texts: &[&[u8]]) -> io::Result<Vec<u8>> {
+    let mut all = Vec::new(alloc);
+    for text in texts {
+        all.extend_from_slice(text)?;
+    }
+    Ok(all)
 }
 
 /// Plays a match in threads, on the disk of a journal.
@@ -216,7 +233,10 @@ fn tell_outcome<R: Net + AllocGlobal, W: Write, E: Write>(
             Ok(Status::Done)
         }
         Err(error) => {
-            let fault = Fault::of_journal(rt.alloc(), error, asked.journal, trouble);
+            let fault = match error {
+                PeerError::Socket(_) => Fault::new(rt.alloc(), error, asked.local),
+                _ => Fault::of_journal(rt.alloc(), error, asked.journal, trouble),
+            };
             tell_fault(rt, asked, fault, refused)
         }
     }

@@ -4,7 +4,6 @@ ghost use Rattle.std.specs.Prelude.{◌≡◌, IfErr};
 ghost use Rattle.c8_net.specs.Answers.{IsUnbegun};
 
 use crate::error::PeerError;
-use crate::reached::Unreached;
 use c8_command::{Site, Text, TextError, read_file};
 use c8_disk::{DiskError, FileError};
 use c8_files::Trouble;
@@ -12,13 +11,13 @@ use c8_game::{Game, GameError};
 use c8_keys::{KeysError, game_site, key_sets_site};
 use c8_peer::OpenError;
 use c8_program::{NO_TEXT, ProgramError, is_binary, is_program, usual_game};
-use c8_udp::{NoAddress, SocketError, Wanted};
+use c8_udp::{NoAddress, SocketError, SocketFault, Unreached, Wanted};
 use std::alloc::Global;
 use std::fmt::Display;
 use std::fs::File;
 use std::net::SocketAddr;
 use std::rt::Files;
-use std::{fmt, io};
+use std::{fmt, fs, io};
 use thiserror::Error;
 
 /// The name of standard input in messages.
@@ -41,6 +40,10 @@ pub(crate) enum Why {
     /// A text was not read.
     #[error("{0}")]
     Unread(TextError),
+    #[error("there is no such file; the games lie in the folder games, as games/rally.game")]
+    NoGame,
+    #[error("a folder; give a game in it, as games/rally.game")]
+    Folder,
     /// The bytes of a program make no game.
     #[error("{0}")]
     Program(ProgramError),
@@ -62,6 +65,8 @@ pub(crate) enum Why {
     /// The journal is in use.
     #[error("another program has this journal open")]
     Locked,
+    #[error("a journal of another game or room; delete it if that match is over or was a mistake, or name another file")]
+    OtherGame,
     /// The system refused a call at the file of the journal.
     #[error("the journal's file: {0}")]
     System(io::Error),
@@ -113,10 +118,13 @@ impl<'a> Fault<'a> {
     {
         let why = match error {
             PeerError::Disk(DiskError::Failed)
-            | PeerError::Open(OpenError::Disk(DiskError::Failed)) => trouble.last(),
+            | PeerError::Open(OpenError::Disk(DiskError::Failed)) => trouble
+                .last()
+                .map(Why::System),
+            PeerError::Open(OpenError::WrongGame) => Some(Why::OtherGame),
             _ => None,
         };
-        Fault::new(alloc, error, journal).because(why.map(Why::System))
+        Fault::new(alloc, error, journal).because(why)
     }
 
     /// A fault of a journal that was not opened.
@@ -209,6 +217,9 @@ impl<'a> Fault<'a> {
             PeerError::Game(error) => game_site(alloc, text, error),
             PeerError::Keys(KeysError::Line) => key_sets_site(text),
             PeerError::Socket(SocketError::Address) => address_site(no_address),
+            PeerError::Socket(SocketError::Failed(fault)) if is_of_address(fault) => {
+                address_site(Some(file))
+            }
             PeerError::Socket(_) | PeerError::Open(OpenError::Memory) => Site::Nowhere,
             PeerError::Keys(_)
             | PeerError::Secret(_)
@@ -216,6 +227,23 @@ impl<'a> Fault<'a> {
             | PeerError::Disk(_)
             | PeerError::Lost => Site::File(file),
         }
+    }
+}
+
+/// Whether the system refuses a socket for its address.
+fn is_of_address(fault: SocketFault) -> bool {
+    matches!(
+        fault,
+        SocketFault::InUse | SocketFault::NotHere | SocketFault::NotPermitted
+    )
+}
+
+/// Why there is no game at a path, if the system knows no file there.
+fn absence<R: Files<File = File>>(rt: &R, path: &str) -> Option<Why> {
+    match fs::metadata(rt, path) {
+        Ok(about) if about.is_dir() => Some(Why::Folder),
+        Err(error) if error.kind() == io::ErrorKind::NotFound => Some(Why::NoGame),
+        _ => None,
     }
 }
 
@@ -228,7 +256,11 @@ where
 {
     let text = match read_file(rt, path) {
         Ok(text) => text,
-        Err(error) => return Err(Fault::unread(rt.alloc(), error, path)),
+        Err(error) => {
+            let fault = Fault::unread(rt.alloc(), error, path);
+            let why = absence(rt, path).or(fault.why);
+            return Err(fault.because(why));
+        }
     };
     if is_program(path) {
         return match usual_game(rt.alloc(), &text) {

@@ -2,10 +2,9 @@
 //!
 //! Shared are the [`options`], the refusals ([`PeerError`], [`Fault`]), and the socket with its seal ([`Line`], `seals`;
 //! c8_udp is the transport, and in a match with a secret `Sealed` lies over it). `mistake` finds words that do not fit
-//! together before any file is touched, `reached` the hosts that words name. `command` opens the files, and `play` the
-//! journal. `peer` plays in threads ([`play_on`]): `stage` has the workers of c8_live, paced by `pace`, and a viewer;
-//! `quiet` says who was never heard. `play`, `host` and `join` play in the caller's thread: [`perform_on`] hands the
-//! session to a [`Performance`].
+//! together before any file is touched. `command` opens the files, and `play` the journal. `peer` plays in threads
+//! ([`play_on`]): `stage` has the workers of c8_live, paced by `pace`, and a viewer; `quiet` says who was never heard.
+//! `play`, `host` and `join` play in the caller's thread: [`perform_on`] hands the session to a [`Performance`].
 #![tactic(auto)]
 
 mod arguments;
@@ -20,7 +19,6 @@ mod pace;
 mod performance;
 mod play;
 mod quiet;
-mod reached;
 mod seals;
 mod stage;
 
@@ -33,6 +31,5 @@ pub use line::{Line, Sealing, sealer_of};
 pub use pace::{Pace, VIEWER_PAUSE};
 pub use performance::{Ended, Performance};
 pub use play::{Prepared, Unprepared, perform_on, play_on, prepare};
-pub use reached::{Named, Reached, is_same_place};
 pub use seals::{secret_at, watch_sealing_at};
 pub use stage::Onlooker;

@@ -1,7 +1,7 @@
 //! Command lines of a match whose words do not fit together, found before any file or socket is touched.
 
 use crate::arguments::Asked;
-use crate::reached::is_same_place;
+use c8_udp::is_same_place;
 use std::net::SocketAddr;
 use thiserror::Error;
 

@@ -147,7 +147,7 @@ where
         Ok(wire) => wire,
         Err(error) => return Err(PeerError::from(error)),
     };
-    let mut session = session_of(peer, &game, asked);
+    let mut session = session_of(peer, &game, asked, asked.patience);
     session.counts(Life::Admitted);
     session.rests_briefly();
     let keys = KeyList::new(keys);
@@ -195,7 +195,8 @@ where
     }
 }
 
-/// Plays a match by a performance, in the caller's thread; otherwise as `play_on`.
+/// Plays a match by a performance, in the caller's thread; otherwise as `play_on`. The performance has the patience: the
+/// session drops nobody by itself.
 pub fn perform_on<R, D, P, E>(
     rt: &R,
     asked: &Asked<'_, '_>,
@@ -220,7 +221,7 @@ where
         Ok(peer) => peer,
         Err((error, _disk)) => return Err(PeerError::Open(error)),
     };
-    let session = session_of(peer, &game, asked);
+    let session = session_of(peer, &game, asked, None);
     match performance.perform(rt, asked, line, &game, session, progress) {
         Ok(ended) if ended.is_lost() => Err(PeerError::Lost),
         Ok(ended) => outcome_of(asked, ended, progress),
@@ -260,11 +261,17 @@ fn outcome_of<D: Disk + Drop, E: Write>(
     })
 }
 
-/// Returns the session of a peer; it shows the match to the watchers in seats 5 and 6 that have an address.
-fn session_of<'g, D: Disk>(peer: Peer<'g, D>, game: &Game, asked: &Asked<'_, '_>) -> Session<'g, D>
+/// Returns the session of a peer, with this patience; it shows the match to the watchers in seats 5 and 6 that have an
+/// address.
+fn session_of<'g, D: Disk>(
+    peer: Peer<'g, D>,
+    game: &Game,
+    asked: &Asked<'_, '_>,
+    patience: Option<u64>,
+) -> Session<'g, D>
     ensures { result.peer ≡ peer.entry }
 {
-    let mut session = Session::new(peer, game, asked.patience, asked.interval());
+    let mut session = Session::new(peer, game, patience, asked.interval());
     let [five, six] = asked.watchers;
     if five.is_some() {
         session.show_to(Watcher { number: 5 });

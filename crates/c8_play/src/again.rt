@@ -27,7 +27,10 @@ impl<'a> Drawn<'a> {
     };
 }
 
-/// Writes the words of the process as a line for a shell, with what was drawn.
+/// The options that end a match after some turns or frames: the line to go on lacks them.
+const ENDS: &[&str] = &["--stop", "--turns"];
+
+/// Writes the words of the process as a line for a shell, with what was drawn, and without what would end the match at once.
 pub(crate) fn write_again<E: Write>(
     alloc: Global,
     out: &mut E,
@@ -35,15 +38,28 @@ pub(crate) fn write_again<E: Write>(
 ) -> io::Result<()> {
     write!(out, "  ./c8play")?;
     let mut bytes = [0; LONGEST_WORD];
+    let mut is_value = false;
     for place in 1..os::arg_count() {
         let size = os::arg(place, &mut bytes);
         let word = str::from_utf8(&bytes[..size]).unwrap_or("?");
-        write_word(alloc, out, word, drawn.word)?;
+        if !is_value && !is_end(word) {
+            write_word(alloc, out, word, drawn.word)?;
+        }
+        is_value = !is_value && ENDS.iter().any(|option| *option == word);
     }
     if let Some(room) = drawn.room {
         write!(out, " --room {room}")?;
     }
     writeln!(out)
+}
+
+/// Whether a word is an option that ends a match, with its value or before it.
+fn is_end(word: &str) -> bool {
+    let option = match word.split_once("=") {
+        Some((option, _)) => option,
+        None => word,
+    };
+    ENDS.iter().any(|end| *end == option)
 }
 
 /// Writes a word behind a space. What was drawn from it, or from what stands behind its `=`, is written in its place.

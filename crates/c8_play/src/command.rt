@@ -11,6 +11,7 @@ use crate::arguments::{Who, pace_of, wants_report, who_of};
 use crate::chime::Chime;
 use crate::desk::{Desk, Tempo};
 use crate::ending::{Ending, tell_ending};
+use crate::key_row::KeyRow;
 use crate::key_words::KeyWords;
 use crate::live::{Live, tell_lateness};
 use crate::terminal::Terminal;
@@ -108,6 +109,7 @@ where
         console,
         pace,
         keys: keys_at(rt, asked.game, player),
+        below: "",
         ending: &mut ending,
     };
     let status = perform_given(rt, &asked, live, out, refused)?;
@@ -145,11 +147,16 @@ where
         Ok(game) => game,
         Err(fault) => return refuse(rt.alloc(), is_explained(given), None, &fault, refused),
     };
+    let text = match read_file(rt, word_of(given, "GAME")) {
+        Ok(text) => text,
+        Err(_) => Vec::new(rt.alloc()),
+    };
     let stop = number_of(given, "stop").unwrap_or(u64::MAX);
     let turns = number_of(given, "turns").unwrap_or(u64::MAX);
     let mut desk = Desk::new(console, pace);
+    let row = KeyRow::new(&game, &text, desk.columns());
     let chime = Chime::new(given.get_flag("mute"));
-    let played = play_alone(&game, &mut desk, chime, stop.min(turns));
+    let played = play_alone(&game, &mut desk, row, chime, stop.min(turns));
     let lateness = desk.end();
     if given.get_flag("progress") {
         tell_lateness(refused, &lateness)?;

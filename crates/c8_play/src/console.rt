@@ -11,6 +11,9 @@ pub const KEY_BYTES: usize = 64;
 /// The columns of the narrowest terminal.
 pub const NARROWEST: usize = 64;
 
+/// The rows of a terminal that does not say how many it has.
+pub const LOWEST: usize = 24;
+
 /// The keyboard or the screen is gone.
 #[derive(Clone, Copy, Debug, PartialEq, Eq)]
 pub struct Gone;
@@ -51,6 +54,11 @@ pub trait Console {
     /// Returns how many columns the screen has.
     fn columns(&self) -> usize {
         NARROWEST
+    }
+
+    /// Returns how many rows the screen has.
+    fn rows(&self) -> usize {
+        LOWEST
     }
 
     /// Registers a source: from now on a packet from it ends a rest.

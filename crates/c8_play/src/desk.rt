@@ -10,6 +10,7 @@ ghost use Rattle.c8_terminal.specs.Strokes.{noted};
 ghost use Rattle.c8_play.specs.Typing.{HasCome, HasRead, HasCounted, AreHeld, read_after, after_signals};
 ghost use Rattle.c8_play.specs.Desk.{typing, seen_at, drawn_at, IsSameDesk, MayForget, HasShown};
 
+use crate::below::{FIRST_ROW, write_lines};
 use crate::console::{Console, KEY_BYTES};
 use c8_game::Keys;
 use c8_screen::Screen;
@@ -272,6 +273,17 @@ impl<C: Console> Desk<C> {
         wants_help
     }
 
+    /// Writes lines below the picture and its row: the first, and then the others, those for which there are rows.
+    pub fn write_below(&mut self, first: &[u8], others: &[u8])
+        ensures { typing C.Console self.new ≡ typing C.Console self.old }
+    {
+        let (row, is_first) = write_lines(&mut self.console, first, FIRST_ROW);
+        let (_, is_other) = write_lines(&mut self.console, others, row);
+        if !is_first || !is_other {
+            self.has_left = true;
+        }
+    }
+
     /// Paints a screen, then writes `row`, which must not change the screen's rows.
     pub fn show(&mut self, screen: &Screen, row: &[u8])
         ensures typing { typing C.Console self.new ≡ typing C.Console self.old }
@@ -309,7 +321,7 @@ impl<C: Console + Drop> Desk<C> {
 }
 
 /// Writes bytes, if there are any, and returns whether that succeeded.
-fn is_written<C: Console>(console: &mut C, text: &[u8]) -> bool
+pub(crate) fn is_written<C: Console>(console: &mut C, text: &[u8]) -> bool
     ensures typed { C.typed console.new ≡ C.typed console.old }
     ensures drawn { result ≡ true → C.drawn console.new ≡ C.drawn console.old ++ text.now }
 {

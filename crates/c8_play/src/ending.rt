@@ -1,9 +1,12 @@
 //! How a match ended, in words.
 
 use crate::again::{Drawn, quoted, write_again};
+use crate::status::delay_of;
 use c8_disk::Disk;
+use c8_game::Player;
 use c8_net::Asked;
 use c8_session::Session;
+use c8_transport::Losses;
 use std::alloc::Global;
 use std::io;
 use std::io::Write;
@@ -19,6 +22,10 @@ pub enum Cause {
     Dropped,
     /// The person left.
     Left,
+    /// The person left before anybody was heard.
+    Alone,
+    /// The same, and packets came that do not open here.
+    Strange,
     /// The turns or the frames that were asked for are done.
     Stopped,
 }
@@ -40,14 +47,14 @@ impl Ending {
     };
 
     /// Of a session after its last turn.
-    pub(crate) fn of<D: Disk>(session: &Session<'_, D>, has_left: bool) -> Ending {
+    pub(crate) fn of<D: Disk>(session: &Session<'_, D>, has_left: bool, losses: Losses) -> Ending {
         let (confirmed, frames) = (session.peer().confirmed(), session.frames());
         let cause = if session.peer().dropped() {
             Cause::Dropped
         } else if confirmed >= frames {
             Cause::Over
         } else if has_left {
-            Cause::Left
+            cause_of_leaving(session, losses)
         } else {
             Cause::Stopped
         };
@@ -61,6 +68,11 @@ impl Ending {
     /// Whether the player cannot go on in this match.
     pub fn is_final(self) -> bool {
         matches!(self.cause, Cause::Over | Cause::Dropped)
+    }
+
+    /// Whether nobody else was there.
+    pub fn is_unbegun(self) -> bool {
+        matches!(self.cause, Cause::Unbegun | Cause::Alone | Cause::Strange)
     }
 
     /// Writes the ending in words, as `you left the match after 665 of 36000 frames`; nothing of a match that did not
@@ -84,8 +96,32 @@ impl Ending {
                 out,
                 "you left the match after {confirmed} of {frames} frames"
             ),
+            Cause::Alone => write!(out, "you left before anybody came"),
+            Cause::Strange => write!(
+                out,
+                "you left: packets came with another secret, game or room"
+            ),
             Cause::Stopped => write!(out, "{confirmed} of {frames} frames are confirmed"),
         }
+    }
+}
+
+/// How a person left: before anybody was heard, or later. The inputs of the delay are there before anybody came.
+fn cause_of_leaving<D: Disk>(session: &Session<'_, D>, losses: Losses) -> Cause {
+    let peer = session.peer();
+    let delay = delay_of(peer);
+    let mut is_alone = peer.confirmed() <= delay;
+    for number in 1..peer.players() + 1 {
+        if let Some(player) = Player::new(number)
+            && player != peer.me()
+        {
+            is_alone = is_alone && peer.count(player) <= delay && !peer.is_linked(player);
+        }
+    }
+    match (is_alone, losses.unsealed) {
+        (false, _) => Cause::Left,
+        (true, 0) => Cause::Alone,
+        (true, _) => Cause::Strange,
     }
 }
 
@@ -99,7 +135,7 @@ pub fn tell_ending<E: Write>(
     drawn: Drawn<'_>,
 ) -> io::Result<()> {
     let has_journal = !asked.has_no_journal();
-    if has_journal {
+    if has_journal && !ending.is_unbegun() {
         let (game, journal) = (quoted(alloc, asked.game)?, quoted(alloc, asked.journal)?);
         writeln!(
             out,

@@ -8,7 +8,8 @@ pub const PLAY_ENDING: &str =
   a s d f      7 8 9 E        7 8 9
   z x c v      A 0 B F
 A player has the keys of its mask in the game; a person who plays alone has those of all players.
-Escape and control-C end the game, control-L repaints the screen, F1 shows the own keys. A terminal that
+Escape and control-C end the game, control-L repaints the screen. The row below the picture names the own
+keys until ten seconds after the match begins, and for ten seconds after F1. A terminal that
 reports releases of keys (one with kitty's keyboard protocol) plays best. On others a stroke counts for
 --hold frames, and a repeat within 45 frames of the key's last stroke for 6 from then on. With --hold 30 a
 key that is held down has no gap if the keyboard begins to repeat it within half a second.
@@ -18,7 +19,8 @@ at once when the game waits for a player:
   423/421  waits for 2  2: 16 ms  back 3, longest 5
 423 frames are ticked and 421 confirmed. The game waits for player 2, whose last datagram came 16 ms
 ago. In the last second the peer rolled back 3 times, over 5 frames at most. Once a player has been silent
-for three seconds, player 1 may drop it: control-D, and control-D again. At the end a line says how the game
+for three seconds, player 1 may drop it: control-D, and control-D again, or --patience N after N silent
+turns; but nobody who never came, unless a third player waits too. At the end a line says how the game
 ended; with --report, and where standard output is no terminal, the machine after the confirmed frames is
 printed before it.
 

@@ -44,6 +44,8 @@ pub struct Live<'e, C> {
     pub pace: Tempo,
     /// The own keys; without words their letters are shown.
     pub keys: KeyWords,
+    /// Lines to show below the picture.
+    pub below: &'e str,
     /// Where to note how the match ended.
     pub ending: &'e mut Ending,
 }
@@ -66,10 +68,12 @@ impl<'e, C: Console + Drop> Performance for Live<'e, C> {
             console,
             pace,
             keys,
+            below,
             ending,
         } = self;
         let keys = keys.or_letters(game, asked.player);
         let mut desk = Desk::new(console, pace);
+        desk.write_below(below.as_bytes(), asked.notices);
         desk.wake_at(&mut udp);
         match line.sealing {
             None => Ok(play_over(
@@ -103,7 +107,7 @@ fn play_over<'g, D: Disk, W: Wire + Drop, C: Console + Drop, E: Write>(
 {
     let (mut session, mut wire, mut desk) = (session, wire, desk);
     let turns = play_frames(&mut session, &mut wire, &mut desk, game, rate, asked, keys);
-    *ending = Ending::of(&session, desk.has_left());
+    *ending = Ending::of(&session, desk.has_left(), wire.losses());
     if ending.is_final() && turns.is_ok() {
         linger(&mut desk, *ending);
     }
@@ -182,6 +186,7 @@ pub fn play_frames<D: Disk, W: Wire, C: Console>(
     status.begin(Chime::new(asked.is_muted));
     status.widen(desk.columns());
     status.name_keys(keys);
+    status.set_patience(asked.patience);
     let mut made: u64 = 0;
     let mut lost: u16 = 0;
     for turn in 0..asked.turns {
@@ -348,7 +353,7 @@ fn sound<D: Disk>(session: &Session<'_, D>, status: &mut StatusRow) {
     status.sound(session.peer().shown().tone());
 }
 
-/// Gives up the player for whom the match waits, once the person has asked for it twice.
+/// Gives up the player for whom the match waits, once the person has asked for it twice; and who was silent for too long.
 fn consider<D: Disk, C: Console>(
     session: &mut Session<'_, D>,
     desk: &mut Desk<C>,
@@ -358,9 +363,23 @@ fn consider<D: Disk, C: Console>(
     ensures desk { IsSameDesk C.Console desk.old desk.new }
     ensures peer { session.new.peer ≡ session.old.peer }
 {
+    lose_patience(session, status);
     if desk.take_gives_up()
         && let Some(player) = status.give_up(waits)
     {
         session.give_up(player);
+    }
+}
+
+/// Gives up the players who were here and have been silent for too long.
+fn lose_patience<D: Disk>(session: &mut Session<'_, D>, status: &StatusRow)
+    ensures { session.new.peer ≡ session.old.peer }
+{
+    for number in 1..session.peer().players() + 1 {
+        if let Some(player) = Player::new(number)
+            && status.is_out_of_patience(player, session.silent(player))
+        {
+            session.give_up(player);
+        }
     }
 }

@@ -5,6 +5,7 @@ mod text;
 use crate::chime::Chime;
 use crate::console::NARROWEST;
 use crate::key_words::KeyWords;
+use crate::reminder::Reminder;
 use arrayvec::ArrayVec;
 use c8_disk::Disk;
 use c8_game::{MOST_PLAYERS, Player};
@@ -15,17 +16,14 @@ use c8_transport::{Losses, Relaying};
 use std::io::Write;
 use std::time::Duration;
 
-/// For how many seconds the row shows the own keys.
-const REMINDER: u64 = 10;
-
 /// The most columns of a terminal that the row uses.
-const WIDEST: usize = 200;
+pub(crate) const WIDEST: usize = 200;
 
 /// The most bytes of the row, with those that move the cursor and clear the row.
 pub const LONGEST_ROW: usize = 210;
 
 /// The most bytes that one frame writes for the row: the row, and a bell.
-const LONGEST_WRITTEN: usize = LONGEST_ROW + 1;
+pub(crate) const LONGEST_WRITTEN: usize = LONGEST_ROW + 1;
 
 /// Moves the cursor to the first column of row 17, below the screen, and clears the row. It comes before the text,
 /// because after a text up to the last column the cursor would still be on that column.
@@ -61,12 +59,14 @@ pub struct StatusRow {
     /// The player that one more control-D drops.
     asked: Option<Player>,
     chime: Chime,
-    /// The own keys; until when they are shown, once the match has begun; and whether they are now.
+    /// After how many silent turns player 1 drops a player that was here; `None` for never.
+    patience: Option<u64>,
     keys: KeyWords,
-    keys_until: Option<Duration>,
-    shows_keys: bool,
-    /// Whether the person has asked for the keys.
-    is_due: bool,
+    reminder: Reminder,
+    /// The delay of the game: so many frames are confirmed before anybody came.
+    delay: u32,
+    /// How many frames were confirmed in the first row, or with nobody there; more are only once the match goes on.
+    first: Option<u32>,
     /// The bell, if it rings in this frame.
     bell: &'static [u8],
     /// What the terminal shows in the row.
@@ -92,10 +92,11 @@ impl StatusRow {
             numbers: Numbers::default(),
             asked: None,
             chime: Chime::new(true),
+            patience: None,
             keys: KeyWords::none(),
-            keys_until: None,
-            shows_keys: true,
-            is_due: false,
+            reminder: Reminder::new(),
+            delay: 0,
+            first: None,
             bell: &[],
             shown: ArrayVec::new(),
             written: ArrayVec::new(),
@@ -107,14 +108,19 @@ impl StatusRow {
         self.chime = chime;
     }
 
-    /// Shows these words of the own keys: until ten seconds after the first frame is confirmed, and after `remind`.
+    /// Shows these words of the own keys: until the match goes on and for ten seconds from then on, and after `remind`.
     pub fn name_keys(&mut self, keys: KeyWords) {
         self.keys = keys;
     }
 
-    /// Shows the own keys for ten seconds from the next row on.
+    /// Shows the own keys for ten seconds from the next row on, before less important parts.
     pub fn remind(&mut self) {
-        self.is_due = true;
+        self.reminder.ask();
+    }
+
+    /// Makes player 1 drop players who were here and have been silent for so many turns.
+    pub fn set_patience(&mut self, turns: Option<u64>) {
+        self.patience = turns;
     }
 
     /// Uses this many columns from now on, at least 64 and at most 200.
@@ -147,14 +153,41 @@ impl StatusRow {
         self.counters.note(session, 0);
     }
 
-    /// Notes for each player whether it is dropped, and whether the journal has its keys.
+    /// Notes for each player whether it is dropped, and whether the journal has its keys. Those of the frames of the delay
+    /// are there before anybody came.
     pub fn follow<D: Disk>(&mut self, peer: &Peer<'_, D>) {
+        self.delay = delay_of(peer);
         for number in 1..peer.players() + 1 {
             if let Some(player) = Player::new(number) {
                 let place = player.place();
                 self.dropped[place] = peer.cut_of(player).is_some();
-                self.known[place] = peer.count(player) > 0;
+                self.known[place] = peer.count(player) > self.delay;
             }
+        }
+    }
+
+    /// Whether another player was here: a datagram of it was heard, or the journal has its keys.
+    pub(crate) fn was_here(&self, player: Player) -> bool {
+        player != self.me && (self.gauge.has_heard(player) || self.known[player.place()])
+    }
+
+    /// Whether player 1 may drop a player: one that was here, or for whom another waits too.
+    pub(crate) fn may_drop(&self, player: Player) -> bool {
+        let mut was_here = self.was_here(player);
+        for number in 1..self.players.saturating_add(1) {
+            if let Some(other) = Player::new(number) {
+                was_here = was_here || self.was_here(other);
+            }
+        }
+        self.me.is_chair() && was_here
+    }
+
+    /// Whether player 1 drops a player by itself: the player was here, and has been silent for as many turns as the
+    /// patience.
+    pub fn is_out_of_patience(&self, player: Player, silent: u64) -> bool {
+        match self.patience {
+            Some(turns) => self.me.is_chair() && self.was_here(player) && silent >= turns,
+            None => false,
         }
     }
 
@@ -163,10 +196,10 @@ impl StatusRow {
         self.shown.clear();
     }
 
-    /// Takes a control-D while the match waits for a player. If this is player 1, the second control-D returns that
-    /// player.
+    /// Takes a control-D while the match waits for a player. If player 1 may drop that player, the second control-D returns
+    /// it.
     pub fn give_up(&mut self, waits: Option<Player>) -> Option<Player> {
-        let player = waits.filter(|_| self.me.is_chair())?;
+        let player = waits.filter(|player| self.may_drop(*player))?;
         if self.asked == Some(player) {
             self.asked = None;
             return Some(player);
@@ -189,12 +222,12 @@ impl StatusRow {
     /// - `your journal lacks inputs that the others hold`, and then nothing else, if that is so;
     /// - `relay: no answer for 4 s`, `seat 2 is taken` or `relay is full`, while that is so;
     /// - `the machines differ`, while the alarm stands;
+    /// - the own keys, as `you are player 2: 4 up, r down, f serve`, for ten seconds after F1 or control-L;
     /// - the player for whom the match waits, with whole seconds of its silence, as `waits for 2: 12 s`; this part
     ///   changes at once. If no datagram of that player ever came, it says after ten seconds what may be wrong, or at once
     ///   that packets come with another secret;
-    /// - how player 1 drops that player, if it was here before;
-    /// - the own keys, as `you are player 2: 4 up, r down, f serve`, at first, and for ten seconds after F1 or
-    ///   control-L;
+    /// - how player 1 drops that player, if it was here before, or if somebody else was;
+    /// - the own keys also before the match goes on, and for ten seconds from then on; where they do not fit, `F1: keys`;
     /// - how long each other player has been silent; or, for three seconds after a first datagram that was waited for,
     ///   `2 is here`; or, for good, `2 dropped`;
     /// - how often the peer rolled back in the last second, and the most frames that one rollback simulated again.
@@ -218,7 +251,9 @@ impl StatusRow {
         if self.asked != waits {
             self.asked = None;
         }
-        self.name_keys_at(now, confirmed);
+        let first = self.first.unwrap_or(confirmed.max(self.delay));
+        self.first = Some(first);
+        self.reminder.note(now, confirmed > first);
         let row = self.composed(waits);
         self.written.clear();
         if row.as_slice() != self.shown.as_slice() {
@@ -229,16 +264,9 @@ impl StatusRow {
         self.bell = &[];
         self.written.as_slice()
     }
+}
 
-    /// Decides whether the own keys are shown now.
-    fn name_keys_at(&mut self, now: Duration, confirmed: u32) {
-        if self.is_due || confirmed > 0 && self.keys_until.is_none() {
-            self.keys_until = Some(now.saturating_add(Duration::from_secs(REMINDER)));
-            self.is_due = false;
-        }
-        self.shows_keys = match self.keys_until {
-            Some(until) => now < until,
-            None => true,
-        };
-    }
+/// The delay of a peer's game: how many inputs of each player are there before its first tick.
+pub(crate) fn delay_of<D: Disk>(peer: &Peer<'_, D>) -> u32 {
+    peer.count(peer.me()).saturating_sub(peer.now())
 }

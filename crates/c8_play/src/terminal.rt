@@ -1,6 +1,6 @@
 //! The terminal of the process: the only file here that calls the system.
 
-use crate::console::{Console, Gone, KEY_BYTES, NARROWEST};
+use crate::console::{Console, Gone, KEY_BYTES, LOWEST, NARROWEST};
 use crate::exchange::Exchange;
 use c8_front::System;
 use c8_terminal::{ENTER, LEAVE};
@@ -26,10 +26,12 @@ const ASK_NO_MORE: &[u8] = b"\x1b[?7h\x1b[?1004l\x1b[<u";
 /// The most events of one poll; there is one socket.
 const MOST_EVENTS: usize = 4;
 
-/// The environment variable with the number of columns. The script `c8play` sets it to those of the terminal.
+/// The environment variables with the numbers of columns and rows. The script `c8play` sets them to those of the terminal.
 const COLUMNS: &[u8] = b"COLUMNS";
 
-/// The most digits of a number of columns.
+const LINES: &[u8] = b"LINES";
+
+/// The most digits of such a number.
 const MOST_DIGITS: usize = 5;
 
 /// The terminal of the process. It does not touch the terminal's settings: the script `c8play` makes the terminal send
@@ -40,8 +42,7 @@ pub struct Terminal<'r, R> {
     keys: File,
     screen: File,
     columns: usize,
-    /// What stands below the picture and its row from the start.
-    note: &'r [u8],
+    rows: usize,
     poll: Poll,
     events: Events,
     /// The last time of the clock.
@@ -67,18 +68,13 @@ where
             rt,
             keys,
             screen,
-            columns: columns(),
-            note: &[],
+            columns: number_in(COLUMNS, NARROWEST),
+            rows: number_in(LINES, LOWEST),
             poll,
             events,
             last: Duration::from_secs(0),
             exchange: Exchange::new(),
         })
-    }
-
-    /// The same terminal, with bytes to write when it is prepared. They must not change the rows of the picture.
-    pub fn with_note(self, note: &'r [u8]) -> Terminal<'r, R> {
-        Terminal { note, ..self }
     }
 }
 
@@ -89,9 +85,7 @@ impl<'r, R: Clock> Console for Terminal<'r, R> {
 
     fn enter(&mut self) -> Result<(), Gone> {
         self.draw(ENTER)?;
-        self.draw(ASK)?;
-        let note = self.note;
-        self.draw(note)
+        self.draw(ASK)
     }
 
     fn leave(&mut self) {
@@ -129,6 +123,10 @@ impl<'r, R: Clock> Console for Terminal<'r, R> {
         self.columns
     }
 
+    fn rows(&self) -> usize {
+        self.rows
+    }
+
     fn wake_at<S: Source>(&mut self, source: &mut S) {
         // If this fails, the game takes packets when the next frame is due.
         let _ = self
@@ -146,12 +144,12 @@ impl<'r, R: Clock> Console for Terminal<'r, R> {
     }
 }
 
-/// Returns how many columns the terminal has, by its environment variable; those of the narrowest without one.
-fn columns() -> usize {
+/// Returns the number in an environment variable; `default` without one.
+fn number_in(name: &[u8], default: usize) -> usize {
     let mut digits = [0; MOST_DIGITS];
-    let size = os::env(COLUMNS, &mut digits);
+    let size = os::env(name, &mut digits);
     match str::from_utf8(&digits[..size]) {
-        Ok(text) => text.parse::<usize>().unwrap_or(NARROWEST),
-        Err(_) => NARROWEST,
+        Ok(text) => text.parse::<usize>().unwrap_or(default),
+        Err(_) => default,
     }
 }

@@ -5,13 +5,17 @@ ghost use Rattle.std.specs.Prelude.{◌≤◌};
 use crate::console::{Log, Marks, Sent, Still, Written};
 use c8_game::Game;
 use c8_keys::{Played, play};
-use c8_play::{Chime, Desk, Tempo, play_alone};
+use c8_play::{Chime, Desk, KeyRow, Tempo, play_alone};
 use std::alloc::Global;
 use std::io::Write;
+use std::time::Duration;
 
 /// The first frame draws four points in the upper left corner; nothing is drawn after that.
 pub const DRAWS: &[u8] =
     b"players 2\nipf 10\nframes 30\ndelay 0\nwindow 8\nseed 0\nmask1 0020\nmask2 2000\ncode a206d0011204f000\n";
+
+/// The row below the picture: the letters of the masks.
+const KEYS: &[u8] = b"\x1b[17;1H\x1b[K1: keys w  2: keys r  Escape ends";
 
 /// In frame 2 a person repaints the whole screen.
 static REPAINT: [Sent; 1] = [(2, b"\x0c")];
@@ -37,7 +41,8 @@ fn seen_at(alloc: Global, game: &Game, rate: u8) -> Log
     let mut log = Log::new(alloc);
     let console = Written::new(&clock, &REPAINT, &mut log);
     let mut desk = Desk::new(console, Tempo { rate, hold: 9 });
-    let _played = play_alone(game, &mut desk, Chime::new(true), 5);
+    let row = KeyRow::new(game, DRAWS, 64);
+    let _played = play_alone(game, &mut desk, row, Chime::new(true), 5);
     let _lateness = desk.end();
     log
 }
@@ -52,7 +57,9 @@ fn is_painted(alloc: Global, rate: u8, times: [u64; 5]) -> bool
     };
     let log = seen_at(alloc, &game, rate);
     let (mut wanted, again) = (whole(alloc), whole(alloc));
+    let _ = wanted.extend_from_slice(KEYS);
     let _ = wanted.extend_from_slice(again.as_slice());
+    let _ = wanted.extend_from_slice(KEYS);
     log.begun.as_slice() == times.as_slice() && log.drawn.as_slice() == wanted.as_slice()
 }
 
@@ -111,13 +118,14 @@ fn played_by(
         Written::new(&clock, sent, &mut log),
         Tempo { rate, hold: 9 },
     );
-    let played = play_alone(game, &mut desk, Chime::new(true), asked);
+    let row = KeyRow::new(game, COUNTS, 64);
+    let played = play_alone(game, &mut desk, row, Chime::new(true), asked);
     let _lateness = desk.end();
     (played, log.marks)
 }
 
 /// Whether this many frames are played, with the machine that the same number of key lines make. The console must be
-/// prepared once, written on once, because the program draws nothing, and restored once.
+/// prepared once, written on twice, because the program draws nothing but its first picture and the row, and restored once.
 fn is_played(alloc: Global, rate: u8, sent: &'static [Sent], asked: u64, frames: usize) -> bool
     requires { 1 ≤ rate }
 {
@@ -128,7 +136,7 @@ fn is_played(alloc: Global, rate: u8, sent: &'static [Sent], asked: u64, frames:
         return false;
     };
     let (found, marks) = played_by(alloc, &game, rate, sent, asked);
-    found.frames as usize == frames && found.machine == wanted.machine && marks == (1, 1, 1, 0)
+    found.frames as usize == frames && found.machine == wanted.machine && marks == (1, 2, 1, 0)
 }
 
 #[test]
@@ -143,4 +151,43 @@ fn strokes_make_what_key_lines_do(rt: HostRuntime) {
     assert!(rt; is_played(alloc, 60, &ESCAPE, 1_000, 13));
     assert!(rt; is_played(alloc, 120, &ESCAPE, 1_000, 14));
     assert!(rt; is_played(alloc, 20, &ESCAPE, 1_000, 12));
+}
+
+/// A game of two with the keys in words.
+const TEXT: &[u8] =
+    b"# keys 1: 1 up, q down, a serve\n# keys 2: 4 up, r down, f serve\nplayers 2\nipf 10\nframes 30\ndelay 0\nwindow 8\nseed 0\nmask1 0020\nmask2 2000\ncode a206d0011204f000\n";
+
+/// The milliseconds, whether the person asks, and what is then written.
+type Shown = (u64, bool, &'static [u8]);
+
+#[rattlefmt::skip]
+static SHOWN: [Shown; 6] = [
+    (0, false, b"\x1b[17;1H\x1b[K1: 1 up, q down, a serve  2: 4 up, r down, f serve  Escape ends"),
+    (9_999, false, b""),
+    (10_000, false, b"\x1b[17;1H\x1b[K"),
+    (11_000, true, b"\x1b[17;1H\x1b[K1: 1 up, q down, a serve  2: 4 up, r down, f serve  Escape ends"),
+    (20_999, false, b""),
+    (21_000, false, b"\x1b[17;1H\x1b[K"),
+];
+
+/// Whether the keys of all players are shown for ten seconds, and for ten seconds after the person asks.
+fn shows_all_keys(alloc: Global) -> bool {
+    let Ok(game) = Game::read(alloc, TEXT) else {
+        return false;
+    };
+    let mut row = KeyRow::new(&game, TEXT, 64);
+    for (millis, is_asked, wanted) in &SHOWN {
+        if *is_asked {
+            row.remind();
+        }
+        if row.row(Duration::from_millis(*millis), b"") != *wanted {
+            return false;
+        }
+    }
+    row.row(Duration::from_secs(22), b"\x07") == b"\x07".as_slice()
+}
+
+#[test]
+fn who_plays_alone_sees_all_keys(rt: HostRuntime) {
+    assert!(rt; shows_all_keys(rt.alloc()));
 }

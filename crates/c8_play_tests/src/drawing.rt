@@ -4,8 +4,8 @@ ghost use Rattle.std.specs.Prelude.{◌≡◌};
 use c8_front::{Terminals, Threaded, command_of};
 use c8_game::Game;
 use c8_terminal::{ENTER, LEAVE};
-use c8_transport::{Traffic, Wire, WireFailed};
-use c8_watch::{WATCH, WatchAsked, watch_given, watch_on};
+use c8_transport::{Losses, Relaying, Traffic, Wire, WireFailed};
+use c8_watch::{WATCH, WatchAsked, WatchRow, watch_given, watch_on};
 use c8_wire::{Seat, Watcher};
 use std::alloc::Global;
 use std::io::Write;
@@ -176,8 +176,15 @@ fn picture(alloc: Global, frames: u64, is_whole: bool) -> Vec<u8> {
     text
 }
 
+/// The row below the picture after this many frames.
+fn row_after(alloc: Global, frames: u64) -> Vec<u8> {
+    let mut text = Vec::new(alloc);
+    let _ = write!(text, "\x1b[17;1H\x1b[K{frames} of 5000 frames  Escape ends");
+    text
+}
+
 /// The expected text: the bytes that prepare the terminal, the pictures that are due by the clock (every sixtieth one
-/// is whole), and the bytes that restore the terminal.
+/// is whole, and the row follows it), and the bytes that restore the terminal.
 fn wanted(alloc: Global, row: &Row) -> Pages {
     let mut pages = Pages::new(alloc, row.until_failure);
     if row.screen {
@@ -186,6 +193,9 @@ fn wanted(alloc: Global, row: &Row) -> Pages {
             let turn = number.saturating_mul(50).saturating_add(2) / 3;
             let text = picture(alloc, turn.saturating_add(1), number % 60 == 0);
             let _ = pages.write_all(&text);
+            if number % 60 == 0 {
+                let _ = pages.write_all(&row_after(alloc, turn.saturating_add(1)));
+            }
         }
         let _ = pages.write_all(LEAVE);
     }
@@ -210,7 +220,7 @@ static ROWS: [Row; 6] = [
     Row { turns: 100, screen: false, until_failure: u64::MAX, pictures: 0 },
     // the terminal is restored, even if it took nothing
     Row { turns: 100, screen: true, until_failure: 0, pictures: 0 },
-    Row { turns: 100, screen: true, until_failure: 3, pictures: 3 },
+    Row { turns: 100, screen: true, until_failure: 4, pictures: 3 },
 ];
 
 fn rows() -> &'static [Row] {
@@ -297,6 +307,7 @@ fn drawn(alloc: Global) -> Vec<u8> {
     let mut text = Vec::new(alloc);
     let _ = text.write_all(ENTER);
     let _ = text.write_all(&picture(alloc, 0, true));
+    let _ = text.write_all(&row_after(alloc, 0));
     let _ = text.write_all(LEAVE);
     let _ = text.write_all(REPORT);
     for _ in 0..32 {
@@ -313,4 +324,54 @@ fn the_report_follows_the_screen(rt: HostRuntime) -> Result<(), Fail> {
     assert!(rt; printed.as_slice() == drawn.as_slice());
     assert!(rt; fs::remove_file(&rt, GAME_FILE).is_ok());
     Ok(())
+}
+
+/// The milliseconds, how many frames were taken, how many packets did not open, what a relay says, whether the terminal may show
+/// something else, and what is then written.
+type Told = (u64, u32, u64, Relaying, bool, &'static [u8]);
+
+#[rattlefmt::skip]
+static TOLD: [Told; 12] = [
+    (0, 0, 0, Relaying::Direct, false, b"\x1b[17;1H\x1b[K0 of 600 frames  Escape ends"),
+    (1_999, 0, 0, Relaying::Direct, false, b""),
+    (3_000, 0, 0, Relaying::Direct, false, b"\x1b[17;1H\x1b[K0 of 600 frames  nothing new for 3 s  Escape ends"),
+    // the second that began at 3,000
+    (3_500, 9, 0, Relaying::Direct, false, b""),
+    (3_600, 9, 0, Relaying::Direct, true, b"\x1b[17;1H\x1b[K0 of 600 frames  nothing new for 3 s  Escape ends"),
+    (4_000, 9, 0, Relaying::Direct, false, b"\x1b[17;1H\x1b[K9 of 600 frames  Escape ends"),
+    (8_500, 9, 2, Relaying::Direct, false, b"\x1b[17;1H\x1b[K9 of 600 frames  packets come with another secret, game or room"),
+    (9_500, 20, 2, Relaying::Silent(4), false, b"\x1b[17;1H\x1b[K20 of 600 frames  relay: no answer for 4 s  Escape ends"),
+    (10_500, 30, 2, Relaying::Taken, false, b"\x1b[17;1H\x1b[K30 of 600 frames  seat 6 is taken  Escape ends"),
+    (11_500, 30, 2, Relaying::Joined, false, b"\x1b[17;1H\x1b[K30 of 600 frames  Escape ends"),
+    (20_000, 600, 2, Relaying::Joined, false, b"\x1b[17;1H\x1b[K600 of 600 frames  Escape ends"),
+    (30_000, 600, 2, Relaying::Joined, false, b""),
+];
+
+/// Whether the row below a watched match says so.
+fn are_told() -> bool {
+    let mut row = WatchRow::new(Duration::from_secs(0), Watcher { number: 6 }, 600);
+    for (millis, count, unsealed, relaying, is_whole, wanted) in &TOLD {
+        let losses = Losses {
+            unsealed: *unsealed,
+            ..Losses::default()
+        };
+        row.hear(losses, *relaying);
+        row.note(Duration::from_millis(*millis), *count);
+        if row.row(Duration::from_millis(*millis), *is_whole) != *wanted {
+            return false;
+        }
+    }
+    true
+}
+
+/// Whether a watcher to whom nobody answers reads what may be wrong.
+fn is_told_why() -> bool {
+    let mut row = WatchRow::new(Duration::from_secs(0), Watcher { number: 5 }, 600);
+    let wanted = b"\x1b[17;1H\x1b[K0 of 600 frames  no answer for 7 s: game, room, secret?";
+    row.row(Duration::from_secs(7), false) == wanted.as_slice()
+}
+
+#[test]
+fn the_row_says_how_far_a_watched_match_is(rt: HostRuntime) {
+    assert!(rt; are_told() && is_told_why());
 }

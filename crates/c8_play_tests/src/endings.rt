@@ -8,7 +8,7 @@ use std::alloc::Global;
 /// What ended a match after how many of 36,000 frames, and the words.
 type Row = (Cause, u32, &'static str);
 
-static ROWS: [Row; 5] = [
+static ROWS: [Row; 7] = [
     (Cause::Unbegun, 0, ""),
     (
         Cause::Over,
@@ -24,6 +24,12 @@ static ROWS: [Row; 5] = [
         Cause::Left,
         665,
         "you left the match after 665 of 36000 frames",
+    ),
+    (Cause::Alone, 2, "you left before anybody came"),
+    (
+        Cause::Strange,
+        2,
+        "you left: packets came with another secret, game or room",
     ),
     (Cause::Stopped, 5, "5 of 36000 frames are confirmed"),
 ];
@@ -91,6 +97,7 @@ fn asked_with(journal: &'static str) -> Asked<'static, 'static> {
         says_end: false,
         is_muted: true,
         explain: false,
+        notices: &[],
     }
 }
 
@@ -120,6 +127,16 @@ fn who_may_come_back_is_told_how(rt: HostRuntime) {
             "one.journal",
             ending(Cause::Left, 5),
             (left, " --room 77\n")
+        )
+    );
+    // nobody was there: nothing is to be seen
+    let alone = "you left before anybody came; to go on:\n  ./c8play";
+    assert!(rt;
+        tells(
+            alloc,
+            "one.journal",
+            ending(Cause::Alone, 2),
+            (alone, " --room 77\n")
         )
     );
     let over = "the match is over: all 36000 frames are confirmed\n";

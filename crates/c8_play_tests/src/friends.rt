@@ -1,9 +1,15 @@
 //! What `host` shows to a friend, and what `join` reads.
 
+use crate::console::{Log, Still, Written};
+use c8_files::secret_in;
 use c8_host::{
-    Ticket, digits_in, invitation, link_name, long_link, note, own_addresses, short_link,
+    Invited, Ticket, card_text, digits_in, filled, invitation, link_name, long_link, own_addresses,
+    short_link, typed,
 };
+use c8_play::{Desk, Tempo, rows_of};
+use c8_transport::Secret;
 use std::alloc::Global;
+use std::fs;
 
 /// A list of routes: each address of the machine stands in it twice.
 const LIST: &str = "\
@@ -60,62 +66,166 @@ fn one_line_of_digits_is_read(rt: HostRuntime) {
     assert!(rt; reads(alloc, &[b'1'; 90], &[b'1'; 80], &[b'1'; 10]));
 }
 
-fn invites(alloc: Global, game: &str, journal: &str, addresses: &[&str], wanted: &str) -> bool {
-    let secret = "games/rally.game.secret";
-    let Ok(lines) = invitation(alloc, game, secret, journal, addresses, 4002, 77) else {
-        return false;
-    };
-    match note(alloc, lines.as_str()) {
-        Ok(note) => note.as_str() == wanted,
+/// A host without a relay, whose friend gets the card or the secret.
+fn invited<'a>(game: &'a str, card: Option<&'a str>, addresses: &'a [&'a str]) -> Invited<'a> {
+    Invited {
+        game,
+        secret: "games/rally.game.secret",
+        journal: if addresses.is_empty() {
+            "-"
+        } else {
+            "games/rally.game.77.1.journal"
+        },
+        card,
+        addresses,
+        port: 4002,
+        room: 77,
+    }
+}
+
+fn invites(alloc: Global, invited: Invited<'_>, columns: usize, wanted: &str) -> bool {
+    match invitation(alloc, invited, columns) {
+        Ok(lines) => lines.as_str() == wanted,
         Err(_) => false,
     }
 }
 
+/// The addresses of a machine.
+const HERE: [&str; 2] = ["192.168.100.105", "10.0.0.7"];
+
+const ON_64: &str = "\
+Send games/rally.game.secret privately. Your friend types:
+  ./c8play join games/rally.game 192.168.100.105:4002 77 \\
+    --secret rally.game.secret
+This machine: 192.168.100.105 10.0.0.7
+Elsewhere: your router's address; it forwards UDP port 4002.
+Your journal: games/rally.game.77.1.journal
+";
+
+const ON_90: &str = "\
+Send games/rally.game.secret privately. Your friend types:
+  ./c8play join games/rally.game 192.168.100.105:4002 77 --secret rally.game.secret
+This machine: 192.168.100.105 10.0.0.7
+Elsewhere: your router's address; it forwards UDP port 4002.
+Your journal: games/rally.game.77.1.journal
+";
+
+const ALONE: &str = "\
+Send games/rally.game.secret privately. Your friend types:
+  ./c8play join 'my rally.game' ADDRESS:4002 77 --secret \\
+    rally.game.secret
+This machine: no address found; put it in the place of ADDRESS
+Elsewhere: your router's address; it forwards UDP port 4002.
+You keep no journal: if this program ends, you cannot come back.
+";
+
+const BY_CARD: &str = "\
+Send out/rally.card privately. Your friend types:
+  ./c8play join rally.card
+This machine: 192.168.100.105 10.0.0.7
+Elsewhere: your router's address; it forwards UDP port 4002.
+Your journal: games/rally.game.77.1.journal
+";
+
 #[test]
 fn the_invitation_has_the_line_to_type(rt: HostRuntime) {
     let alloc = rt.alloc();
+    let rally = invited("games/rally.game", None, &HERE);
+    assert!(rt; invites(alloc, rally, 64, ON_64));
+    assert!(rt; invites(alloc, rally, 90, ON_90));
     assert!(rt;
         invites(
             alloc,
-            "games/rally.game",
-            "games/rally.game.77.1.journal",
-            &["192.168.1.5", "10.0.0.7"],
-            "\
-\x1b[19;1H\x1b[KYour friend needs the same game and the file games/rally.game.secret, and types:\
-\x1b[20;1H\x1b[K  ./c8play join games/rally.game 192.168.1.5:4002 77 \\\
-\x1b[21;1H\x1b[K    --secret rally.game.secret\
-\x1b[22;1H\x1b[KThis machine: 192.168.1.5 10.0.0.7\
-\x1b[23;1H\x1b[KFrom another network: your router's address, UDP port 4002 forwarded.\
-\x1b[24;1H\x1b[KYour journal, to come back with: games/rally.game.77.1.journal"
+            invited("/home/me/my rally.game", None, &[]),
+            64,
+            ALONE
         )
     );
-    assert!(rt;
-        invites(
-            alloc,
-            "/home/me/my rally.game",
-            "-",
-            &[],
-            "\
-\x1b[19;1H\x1b[KYour friend needs the same game and the file games/rally.game.secret, and types:\
-\x1b[20;1H\x1b[K  ./c8play join 'my rally.game' ADDRESS:4002 77 \\\
-\x1b[21;1H\x1b[K    --secret rally.game.secret\
-\x1b[22;1H\x1b[KThis machine: no address found; put it in the place of ADDRESS\
-\x1b[23;1H\x1b[KFrom another network: your router's address, UDP port 4002 forwarded.\
-\x1b[24;1H\x1b[KYou keep no journal: if this program ends, you cannot come back."
-        )
-    );
+    let card = invited("games/rally.game", Some("out/rally.card"), &HERE);
+    assert!(rt; invites(alloc, card, 64, BY_CARD));
 }
 
-/// A link of 65 characters has two rows, and may be wrapped.
+/// Whether a command is broken so.
+fn is_typed(alloc: Global, words: &[&str], columns: usize, wanted: &str) -> bool {
+    typed(alloc, "join", words, columns).is_ok_and(|text| text.as_str() == wanted)
+}
+
+/// Whether a text is broken so.
+fn is_filled(alloc: Global, text: &str, columns: usize, wanted: &str) -> bool {
+    filled(alloc, text, columns).is_ok_and(|lines| lines.as_str() == wanted)
+}
+
+/// A command is broken between words, with a backslash; a word that is longer than a line has one of its own.
 #[test]
-fn a_link_has_the_rows_that_it_needs(rt: HostRuntime) {
-    let lines = "opens\nhttp://example.org:4001/#1234567890123456789012345678901234567890\nor\n";
-    let wanted = "\
+fn long_lines_are_broken_between_words(rt: HostRuntime) {
+    let alloc = rt.alloc();
+    assert!(rt; is_typed(alloc, &["a", "", "b c"], 64, "  ./c8play join a 'b c'\n"));
+    // 19 columns, and two for the backslash
+    assert!(rt; is_typed(alloc, &["abc"], 21, "  ./c8play join abc\n"));
+    assert!(rt; is_typed(alloc, &["abc"], 20, "  ./c8play join \\\n    abc\n"));
+    let long = "  ./c8play join \\\n    123456789012345678901234567890 \\\n    b\n";
+    assert!(rt; is_typed(alloc, &["123456789012345678901234567890", "b"], 20, long));
+    assert!(rt; is_filled(alloc, "one two three", 13, "one two three\n"));
+    assert!(rt; is_filled(alloc, "one two three", 12, "one two\nthree\n"));
+    assert!(rt; is_filled(alloc, "thirteen four", 4, "thirteen\nfour\n"));
+}
+
+/// Lines of which one is wider than a terminal of 64 columns.
+const WIDE: &[u8] =
+    b"opens\nhttp://example.org:4001/#1234567890123456789012345678901234567890\nor\n";
+
+/// What is written below the picture on 24 rows: a line of 65 characters has two rows, and may be wrapped; then come the other
+/// lines, as long as there are rows.
+const BELOW: &[u8] = b"\
 \x1b[19;1H\x1b[Kopens\
 \x1b[20;1H\x1b[K\x1b[?7hhttp://example.org:4001/#1234567890123456789012345678901234567890\x1b[?7l\
-\x1b[22;1H\x1b[Kor";
-    let written = note(rt.alloc(), lines);
-    assert!(rt; written.is_ok_and(|note| note.as_str() == wanted));
+\x1b[22;1H\x1b[Kor\
+\x1b[23;1H\x1b[Kwarning: one\
+\x1b[24;1H\x1b[Kwarning: two";
+
+/// Whether the lines below the picture are those.
+fn are_below(alloc: Global) -> bool {
+    let clock = Still::new();
+    let mut log = Log::new(alloc);
+    let pace = Tempo { rate: 60, hold: 9 };
+    let mut desk = Desk::new(Written::new(&clock, &[], &mut log), pace);
+    desk.write_below(WIDE, b"warning: one\nwarning: two\nwarning: three\n");
+    let _lateness = desk.end();
+    log.drawn.as_slice() == BELOW
+}
+
+#[test]
+fn lines_below_the_picture_have_the_rows_that_they_need(rt: HostRuntime) {
+    assert!(rt; are_below(rt.alloc()));
+    assert!(rt; rows_of(WIDE, 64) == 4 && rows_of(WIDE, 65) == 3 && rows_of(b"", 64) == 0);
+}
+
+/// The text of a card.
+const CARD: &[u8] =
+    b"# A match card of c8play: whoever has it can play. Type ./c8play join and its name.
+# match room 9
+# match secret 000102030405060708090a0b0c0d0e0f101112131415161718191a1b1c1d1e1f
+# match relay example.org:4001
+players 2
+";
+
+/// Whether a card has this text.
+fn is_card(alloc: Global) -> bool {
+    let secret = Secret::of(&SECRET);
+    card_text(
+        alloc,
+        9,
+        &secret,
+        Some("example.org:4001"),
+        "",
+        b"players 2\n",
+    )
+    .is_ok_and(|text| text.as_slice() == CARD)
+}
+
+#[test]
+fn a_card_has_all_of_a_match(rt: HostRuntime) {
+    assert!(rt; is_card(rt.alloc()));
 }
 
 /// The bytes 00 to 1f.
@@ -171,4 +281,40 @@ fn links_are_those_of_the_format(rt: HostRuntime) {
     assert!(rt; fits(alloc, 6102) && !fits(alloc, 6103));
     assert!(rt; link_name("games/rally.game") == Some("rally"));
     assert!(rt; link_name("pong.ch8").is_none() && link_name("my game.game").is_none());
+}
+
+/// The digits of that secret, as some editors and systems keep them: with the end of a line of another system, between spaces,
+/// behind a mark, and on a card.
+const KEPT: [&[u8]; 4] = [
+    b"000102030405060708090a0b0c0d0e0f101112131415161718191a1b1c1d1e1f\r\n",
+    b" 000102030405060708090A0B0C0D0E0F101112131415161718191A1B1C1D1E1F\t\n\n",
+    b"\xef\xbb\xbf000102030405060708090a0b0c0d0e0f101112131415161718191a1b1c1d1e1f",
+    CARD,
+];
+
+/// Texts of no secret: a digit less, and two parts.
+const BAD: [&[u8]; 2] = [
+    b"000102030405060708090a0b0c0d0e0f101112131415161718191a1b1c1d1e1\n",
+    b"000102030405060708090a0b0c0d0e0f 101112131415161718191a1b1c1d1e1f\n",
+];
+
+/// Whether a file with this text has that secret.
+fn has_secret(rt: &HostRuntime, text: &[u8]) -> bool {
+    let path = "friends_kept.secret";
+    let is_written = fs::write(rt, path, text).is_ok();
+    let found = match secret_in(rt, path) {
+        Ok(secret) => *secret.bytes() == SECRET,
+        Err(_) => false,
+    };
+    is_written && fs::remove_file(rt, path).is_ok() && found
+}
+
+#[test]
+fn a_secret_is_read_as_editors_keep_it(rt: HostRuntime) {
+    for text in KEPT {
+        assert!(rt; has_secret(&rt, text));
+    }
+    for text in BAD {
+        assert!(rt; !has_secret(&rt, text));
+    }
 }

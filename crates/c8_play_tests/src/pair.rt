@@ -66,6 +66,7 @@ where
         says_end: true,
         is_muted: true,
         explain: false,
+        notices: &[],
     };
     let mut log = Log::new(rt.alloc());
     let mut ending = Ending::NONE;
@@ -73,6 +74,7 @@ where
         console: Written::new(rt, sent, &mut log),
         pace: Tempo { rate: 240, hold: 9 },
         keys: KeyWords::none(),
+        below: "",
         ending: &mut ending,
     };
     let (mut report, mut refused) = (Vec::new(rt.alloc()), Vec::new(rt.alloc()));

@@ -106,6 +106,7 @@ where
         says_end: false,
         is_muted: true,
         explain: false,
+        notices: &[],
     };
     let none = [None, None];
     let Ok(it) = prepare(

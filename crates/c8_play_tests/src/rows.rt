@@ -173,14 +173,43 @@ fn is_told(status: &mut StatusRow, millis: u64, heard: u64, wanted: &[u8]) -> bo
     status.row_of(now, 7, &standing_of(heard), Player::new(2)) == wanted
 }
 
-/// Whether no drop is offered of a player that never was here, though control-D asks for one.
-fn offers_no_stranger() -> bool {
+/// Whether a player that never was here is not dropped: no drop is offered, control-D asks for none, and no patience runs
+/// out.
+fn drops_no_stranger() -> bool {
     let two = Player { number: 2 };
     let mut status = StatusRow::new(Duration::from_secs(0), Player::CHAIR, 2);
+    status.set_patience(Some(60));
     is_told(&mut status, 3_500, 0, NEVER_HERE)
         && status.give_up(Some(two)).is_none()
-        && is_told(&mut status, 3_600, 0, AGAIN)
-        && status.give_up(Some(two)) == Some(two)
+        && is_told(&mut status, 3_600, 0, b"")
+        && status.give_up(Some(two)).is_none()
+        && !status.is_out_of_patience(two, 216)
+}
+
+/// Whether a stranger is dropped by control-D where somebody else was here and waits too.
+fn drops_for_another() -> bool {
+    let (two, three) = (Player { number: 2 }, Player { number: 3 });
+    let mut status = StatusRow::new(Duration::from_secs(0), Player::CHAIR, 3);
+    let _greeted = status.row_of(Duration::from_secs(0), 7, &standing_of(1), None);
+    status.give_up(Some(three)).is_none()
+        && status.give_up(Some(three)) == Some(three)
+        && status.give_up(Some(two)).is_none()
+}
+
+/// Whether patience runs out with a player that was here, after so many silent turns, and nobody else drops.
+fn is_patient() -> bool {
+    let two = Player { number: 2 };
+    let mut status = StatusRow::new(Duration::from_secs(0), Player::CHAIR, 2);
+    let _greeted = status.row_of(Duration::from_secs(0), 7, &standing_of(1), None);
+    let is_never = !status.is_out_of_patience(two, u64::MAX);
+    status.set_patience(Some(60));
+    let mut other = StatusRow::new(Duration::from_secs(0), two, 2);
+    other.set_patience(Some(60));
+    is_never
+        && !status.is_out_of_patience(two, 59)
+        && status.is_out_of_patience(two, 60)
+        && !status.is_out_of_patience(Player::CHAIR, 60)
+        && !other.is_out_of_patience(Player::CHAIR, 60)
 }
 
 /// Whether the second control-D in a row drops the player for whom the match waits.
@@ -221,7 +250,8 @@ fn only_player_one_drops() -> bool {
 #[test]
 fn control_d_drops_a_player(rt: HostRuntime) {
     assert!(rt; drops_at_the_second());
-    assert!(rt; offers_no_stranger());
+    assert!(rt; drops_no_stranger() && drops_for_another());
+    assert!(rt; is_patient());
     assert!(rt; only_player_one_drops());
 }
 
@@ -308,16 +338,19 @@ fn a_game_names_the_keys(rt: HostRuntime) {
 /// The time, how many frames are confirmed, whether the person has asked for the keys, and whether they are shown.
 type Shown = (u64, u32, bool, bool);
 
-/// The keys stand there until ten seconds after the first confirmed frame, and for ten seconds after the person asks.
+/// The keys stand there until ten seconds after a frame is confirmed beyond those of the start, also if the person has asked
+/// before, and for ten seconds after the person asks.
 #[rattlefmt::skip]
-static SHOWN: [Shown; 7] = [
-    (0, 0, false, true),
-    (30_000, 0, false, true),
-    (31_000, 1, false, true),
+static SHOWN: [Shown; 9] = [
+    (0, 2, false, true),
+    (1_000, 2, true, true),
+    (30_000, 2, false, true),
+    (31_000, 3, false, true),
     (40_999, 600, false, true),
     (41_000, 600, false, false),
     (50_000, 600, true, true),
-    (60_000, 600, false, false),
+    (59_999, 601, false, true),
+    (60_000, 602, false, false),
 ];
 
 /// Whether the row has the keys when it should.
@@ -343,6 +376,28 @@ fn shows_keys() -> bool {
 #[test]
 fn the_row_names_the_own_keys(rt: HostRuntime) {
     assert!(rt; shows_keys());
+}
+
+/// What a player 1 with keys reads who waits for long: how they are shown, and then the keys first.
+const HINT: &[u8] =
+    b"\x1b[17;1H\x1b[K0/0  no answer for 12 s: same game, room and secret?  F1: keys";
+
+const ASKED: &[u8] =
+    b"\x1b[17;1H\x1b[K0/0  you are player 1: 1 up, q down, a serve  no answer for 12 s";
+
+/// Whether the row names F1 where the keys do not fit, and shows the keys before all else once the person has pressed it.
+fn names_the_key_for_keys() -> bool {
+    let mut status = StatusRow::new(Duration::from_secs(0), Player::CHAIR, 2);
+    status.name_keys(KeyWords::in_text(TEXT, Player::CHAIR));
+    let (now, standing) = (Duration::from_secs(12), standing_of(0));
+    let hint = status.row_of(now, 0, &standing, Player::new(2)) == HINT;
+    status.remind();
+    hint && status.row_of(now, 0, &standing, Player::new(2)) == ASKED
+}
+
+#[test]
+fn the_row_says_how_keys_are_shown(rt: HostRuntime) {
+    assert!(rt; names_the_key_for_keys());
 }
 
 /// Whether the bell rings where a tone begins, behind a row or alone, and not if it is muted.

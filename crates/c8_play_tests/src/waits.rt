@@ -119,6 +119,7 @@ pub fn asked_for(turns: u64, stop: Option<u64>, patience: Option<u64>) -> Asked<
         says_end: false,
         is_muted: true,
         explain: false,
+        notices: &[],
     }
 }
 

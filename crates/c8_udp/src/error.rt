@@ -11,11 +11,11 @@ use thiserror::Error;
 /// Why the system refuses to open a socket.
 #[derive(Clone, Copy, Debug, PartialEq, Eq, Error)]
 pub enum SocketFault {
-    #[error("the own address is in use by another socket")]
+    #[error("another program of this machine uses this port: end it, or take another port")]
     InUse,
-    #[error("no interface of this machine has the own address")]
+    #[error("no interface of this machine has this address: 0.0.0.0 stands for all of them")]
     NotHere,
-    #[error("the system does not permit the own address; ports below 1024 are for the superuser")]
+    #[error("the system does not permit this address; ports below 1024 are for the superuser")]
     NotPermitted,
     #[error("the socket was closed")]
     Closed,

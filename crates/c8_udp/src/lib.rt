@@ -5,7 +5,8 @@
 //! returns all packets, and learns addresses that are not named: that of the packet with the greatest counter (`contacts`,
 //! [`laws`]). A [`PolledUdp`] can also wait for a packet, until a [`Bell`] rings. A [`Socket`] is what a [`Udp`] needs of
 //! the system; a test can supply its own. That of a match is a [`Route`]: straight to the others, or through a relay, as a
-//! [`Membership`] asks. [`address_at`] finds the addresses of hosts by their names, and [`NoAddress`] says why a word is none.
+//! [`Membership`] asks. [`address_at`] finds the addresses of hosts by their names,
+//! [`Reached`] all that a command line names ([`Named`]), and [`NoAddress`] says why a word is none.
 #![tactic(auto)]
 
 mod addresses;
@@ -17,6 +18,7 @@ mod membership;
 mod names;
 mod no_address;
 mod polled;
+mod reached;
 mod route;
 mod socket;
 mod udp;
@@ -28,6 +30,7 @@ pub use membership::Membership;
 pub use names::address_at;
 pub use no_address::{LEARNT, NoAddress, Wanted};
 pub use polled::{Bell, PolledUdp};
+pub use reached::{Named, Reached, Unreached, is_same_place};
 pub use route::Route;
 pub use socket::{Socket, SystemSocket};
 pub use udp::Udp;

@@ -22,8 +22,12 @@ pub enum NoAddress {
     Name,
     #[error("the system finds no host of this name")]
     Unknown,
+    #[error("a link is for a browser; give the address that stands in it, as 127.0.0.1:4001")]
+    Link,
     #[error("no host before the port: write it as 127.0.0.1:4001")]
     NoHost,
+    #[error("a port alone: write the host before it, as 127.0.0.1:4001")]
+    PortAlone,
     #[error("no port: write it as 127.0.0.1:4001")]
     NoPort,
     #[error("a port is a number from 1 to 65535")]
@@ -58,12 +62,16 @@ impl NoAddress {
         if let Ok(address) = word.parse::<SocketAddr>() {
             return NoAddress::out_of_reach(address.port());
         }
+        if word.split_once("://").is_some() {
+            return NoAddress::Link;
+        }
         if word.parse::<Ipv6Addr>().is_ok() {
             return NoAddress::Brackets;
         }
         match word.rsplit_once(':') {
             Some(_) if word.ends_with(']') => NoAddress::NoPort,
             Some((host, port)) => NoAddress::of_parts(host, port, wanted),
+            None if word.parse::<u16>().is_ok() => NoAddress::PortAlone,
             None => NoAddress::NoPort,
         }
     }

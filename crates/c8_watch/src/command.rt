@@ -7,6 +7,7 @@ ghost use Rattle.c8_watch.specs.Watched.{HasWatched, IsWatched, HasWatchedThen};
 use crate::arguments::{WatchAsked, asked_of};
 use crate::casting::Casting;
 use crate::laws::turns_take_nothing_back;
+use crate::person::Person;
 use crate::stage::Stage;
 use crate::worker::Picture;
 use c8_command::Status;
@@ -14,14 +15,11 @@ use c8_files::warn_of_readers;
 use c8_front::{Terminals, Threaded};
 use c8_game::Game;
 use c8_keys::{Played, write_report};
-use c8_net::{
-    Fault, Line, Named, PeerError, Reached, Sealing, game_at, is_same_place, refuse_among,
-    watch_sealing_at,
-};
+use c8_net::{Fault, Line, PeerError, Sealing, game_at, refuse_among, watch_sealing_at};
 use c8_peer::OpenError;
 use c8_spectator::Spectator;
 use c8_transport::{Counters, Sealed, Sealer, Wire};
-use c8_udp::{Addresses, SocketError, SocketFault};
+use c8_udp::{Addresses, Named, Reached, SocketError, SocketFault, is_same_place};
 use c8_wire::Seat;
 use clap::ArgMatches;
 use std::io;
@@ -133,10 +131,17 @@ where
     };
     let (session, seat) = (game.session(asked.room), Seat::from(asked.seat));
     let sealing = watch_sealing_at(rt, asked.secret, seat, session, reached.relay())?;
-    let mut casting = Casting::open(rt, asked, &game, millis(rt), refused);
-    match watched_at(rt, asked, &game, &reached, sealing, out, &mut casting) {
+    let casting = Casting::open(rt, asked, &game, millis(rt), refused);
+    let mut person = Person::at(rt, asked.screen, casting);
+    match watched_at(rt, asked, &game, &reached, sealing, out, &mut person) {
         Ok(played) => Ok(played),
-        Err(error) => Err(Fault::new(rt.alloc(), error, asked.game)),
+        Err(error) => {
+            let file = match error {
+                PeerError::Socket(_) => asked.local,
+                _ => asked.game,
+            };
+            Err(Fault::new(rt.alloc(), error, file))
+        }
     }
 }
 

@@ -1,23 +1,26 @@
 //! The screen of a watched match, drawn on a terminal.
 
+use crate::row::WatchRow;
 use crate::worker::Picture;
-use c8_screen::Screen;
 use c8_spectator::Spectator;
 use c8_terminal::{Beat, ENTER, LEAVE, Painter};
+use c8_transport::{Losses, Relaying};
+use c8_wire::Watcher;
 use std::io::Write;
 use std::time::{Clock, Duration};
 
 /// How many pictures are due a second.
 const RATE: u8 = 60;
 
-/// Draws the screen, if wanted, sixty times a second by the clock. Each picture is one write of the rows of text that
-/// have changed. Every sixtieth picture is drawn whole, because the terminal does not report a new window size. After a
+/// Draws the screen, if wanted, sixty times a second by the clock, and below it how far the match is. Each picture is one
+/// write of the rows of text that have changed, and one of the row below it if that has changed. Every sixtieth picture is drawn whole, because the terminal does not report a new window size. After a
 /// write has failed it draws no more.
 #[derive(Drop)]
 pub(crate) struct Drawing<'r, 'w, 'p, R, W, P> {
     rt: &'r R,
     out: &'w mut W,
     painter: Painter,
+    row: WatchRow,
     beat: Beat,
     /// The last time of the clock.
     last: Duration,
@@ -36,6 +39,8 @@ impl<'r, 'w, 'p, R: Clock, W: Write, P> Drawing<'r, 'w, 'p, R, W, P> {
         rt: &'r R,
         out: &'w mut W,
         is_wanted: bool,
+        seat: Watcher,
+        frames: u32,
         more: &'p mut P,
     ) -> Drawing<'r, 'w, 'p, R, W, P> {
         let is_on = is_wanted && out.write_all(ENTER).is_ok();
@@ -44,6 +49,7 @@ impl<'r, 'w, 'p, R: Clock, W: Write, P> Drawing<'r, 'w, 'p, R, W, P> {
             rt,
             out,
             painter: Painter::new(),
+            row: WatchRow::new(last, seat, frames),
             beat: Beat::new(last, RATE),
             last,
             since_whole: 0,
@@ -67,18 +73,18 @@ impl<'r, 'w, 'p, R: Clock, W: Write, P> Drawing<'r, 'w, 'p, R, W, P> {
         self.last
     }
 
-    /// Draws a picture.
-    fn draw(&mut self, screen: &Screen) {
-        if self.since_whole >= RATE {
+    /// Draws a picture, and the row below it.
+    fn draw(&mut self, now: Duration, spectator: &Spectator<'_>) {
+        let is_whole = self.since_whole >= RATE;
+        if is_whole {
             self.painter.forget();
             self.since_whole = 0;
         }
         self.since_whole = self.since_whole.saturating_add(1);
-        self.painter.paint(screen);
-        let text = self.painter.bytes();
-        if !text.is_empty() {
-            self.is_on = self.out.write_all(text).is_ok() && self.out.flush().is_ok();
-        }
+        self.painter.paint(spectator.shown().screen());
+        let is_drawn = is_written(self.out, self.painter.bytes());
+        self.row.note(now, spectator.count());
+        self.is_on = is_drawn && is_written(self.out, self.row.row(now, is_whole));
     }
 }
 
@@ -91,7 +97,21 @@ impl<'r, 'w, 'p, R: Clock, W: Write, P: Picture> Picture for Drawing<'r, 'w, 'p,
         let now = self.now();
         if self.beat.left(now).is_zero() {
             self.beat.begin(now);
-            self.draw(spectator.shown().screen());
+            self.draw(now, spectator);
         }
     }
+
+    fn hear(&mut self, losses: Losses, relaying: Relaying) {
+        self.row.hear(losses, relaying);
+        self.more.hear(losses, relaying);
+    }
+
+    fn has_left(&mut self) -> bool {
+        self.more.has_left()
+    }
+}
+
+/// Writes a text at once, if there is any, and returns whether that succeeded.
+fn is_written<W: Write>(out: &mut W, text: &[u8]) -> bool {
+    text.is_empty() || out.write_all(text).is_ok() && out.flush().is_ok()
 }

@@ -9,7 +9,8 @@ turns after the players are done.
 The command ends when it has the whole game, once it has as many frames as --stop says, or after the
 last turn. It then prints the machine after the frames that it has. With --screen it draws the screen
 meanwhile, sixty times a second by the clock; standard output must then be a terminal of at least 64
-columns and 16 rows. If player 1 has --watch-secret FILE, a watcher takes the same file as --secret.
+columns and 17 rows. The row below says how many frames there are, and what is wrong; Escape ends. If
+player 1 has --watch-secret FILE, a watcher takes the same file as --secret.
 With --cast it keeps the match in FOLDER as files, which any web server serves: match.json, chunks of
 600 rows, rows/000000.bin and so on, and tail.bin with the newer ones, once a second. A chunk never
 changes. A second start goes on with the folder: it takes the rows again and compares. If the cast

@@ -3,8 +3,8 @@
 //! `command` opens the files and the socket, and [`watch_on`] watches over any wire, in two threads (`stage`). One makes the
 //! turns of a spectator until the match is complete ([`watch_worker`]): in each it hears the packets that wait, and tells
 //! player 1 how many rows it has ([`watch_turn`], `specs/Turns.antt`). It publishes the rows on a board, at which the other
-//! thread looks ([`open_watch_board`]). A [`Picture`] sees the watcher after each turn; `drawing` is that on a terminal, `casting`
-//! that in files.
+//! thread looks ([`open_watch_board`]). A [`Picture`] sees the watcher after each turn; `drawing` is that on a terminal,
+//! with a [`WatchRow`] below it, `casting` that in files. A `person` ends it at the keyboard.
 //! c8_spectator decides which rows a spectator takes.
 #![tactic(auto)]
 
@@ -14,11 +14,14 @@ mod command;
 mod drawing;
 mod help;
 pub mod laws;
+mod person;
+mod row;
 mod stage;
 mod turn;
 mod worker;
 
 pub use arguments::{WATCH, WatchAsked};
 pub use command::{watch, watch_given, watch_on};
+pub use row::WatchRow;
 pub use turn::watch_turn;
 pub use worker::{Picture, open_watch_board, watch_worker};

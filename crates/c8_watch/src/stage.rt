@@ -122,7 +122,8 @@ where
 {
     let Shared { board, pace } = shared;
     let (mut spectator, mut wire, mut pen) = (spectator, wire, pen);
-    let mut drawing = Drawing::new(rt, out, asked.screen, more);
+    let frames = spectator.game().frames();
+    let mut drawing = Drawing::new(rt, out, asked.screen, asked.seat, frames, more);
     let turns = watch_worker(
         &mut spectator,
         &mut wire,

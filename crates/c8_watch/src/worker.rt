@@ -17,7 +17,7 @@ use c8_live::laws::the_first_start_is_serial;
 use c8_live::{Board, Pen, Viewer};
 use c8_machine::Machine;
 use c8_spectator::Spectator;
-use c8_transport::{Gate, Wire, WireFailed, Worker};
+use c8_transport::{Gate, Losses, Relaying, Wire, WireFailed, Worker};
 use std::alloc::{AllocError, Global};
 
 /// Sees a watched match, in the thread that makes the turns.
@@ -25,12 +25,20 @@ pub trait Picture {
     /// Called after each turn.
     fn show(&mut self, spectator: &Spectator<'_>);
 
+    /// Called before that, with what the wire has turned away so far, and hears of a relay.
+    fn hear(&mut self, _losses: Losses, _relaying: Relaying) {}
+
+    /// Whether the watching ends; called before each turn.
+    fn has_left(&mut self) -> bool {
+        false
+    }
+
     /// Called after the last turn.
     fn end(&mut self, _spectator: &Spectator<'_>) {}
 }
 
 /// Makes at most `turns` turns of a spectator, until it has every row of the game, a viewer of the board asks for the
-/// end, or the gate ends it (as `Worker::Game`). Returns how many it made. Before the first turn and after each, the
+/// end, the picture does, or the gate ends it (as `Worker::Game`). Returns how many it made. Before the first turn and after each, the
 /// pen publishes the spectator's rows, if there are new ones; after each, the picture is shown the spectator. The error
 /// is the wire's; the pen then still shows the rows from before that turn.
 pub fn watch_worker<W: Wire, G: Gate, P: Picture>(
@@ -53,12 +61,14 @@ pub fn watch_worker<W: Wire, G: Gate, P: Picture>(
     let mut made: u64 = 0;
     let mut published = publish(spectator, board, pen);
     for turn in 0..turns {
+        let has_left = picture.has_left();
         let is_whole = spectator.count() >= spectator.game().frames();
-        if is_whole || board.stop_asked(pen) || !gate.before(Worker::Game, turn) {
+        if is_whole || has_left || board.stop_asked(pen) || !gate.before(Worker::Game, turn) {
             break;
         }
         watch_turn(spectator, wire)?;
         published = publish_more(spectator, published, board, pen);
+        picture.hear(wire.losses(), wire.relaying());
         picture.show(spectator);
         gate.after(Worker::Game, turn);
         made = turn + 1;

@@ -30,29 +30,35 @@ enum Part {
     Relay,
     /// The machines differ.
     Alarm,
+    /// The own keys, for which the person asked.
+    Asked,
     /// For whom the match waits.
     Wait,
     /// Why that may be in vain.
     Why,
     /// How that player is dropped.
     Offer,
-    /// The own keys.
+    /// The own keys, unasked.
     Keys,
+    /// How the keys are shown, if they do not fit.
+    Hint,
     /// How long the player with this number has been silent.
     Silence(u8),
     Rollbacks,
 }
 
 /// All parts, the most important first. They stand in this order.
-const PARTS: [Part; 13] = [
+const PARTS: [Part; 15] = [
     Part::Count,
     Part::Lost,
     Part::Relay,
     Part::Alarm,
+    Part::Asked,
     Part::Wait,
     Part::Why,
     Part::Offer,
     Part::Keys,
+    Part::Hint,
     Part::Silence(1),
     Part::Silence(2),
     Part::Silence(3),
@@ -66,11 +72,15 @@ impl StatusRow {
         let mut row = ArrayVec::new();
         let _ = row.write_all(CLEAR);
         let most = CLEAR.len().saturating_add(self.columns);
+        let mut names_keys = false;
         for part in PARTS {
             let before = row.len();
-            if self.write_part(&mut row, part, waits).is_err() || row.len() > most {
+            let is_needless = names_keys && matches!(part, Part::Hint);
+            let written = is_needless || self.write_part(&mut row, part, waits).is_ok();
+            if !written || row.len() > most {
                 row.truncate(before);
             }
+            names_keys |= matches!(part, Part::Asked | Part::Keys) && row.len() > before;
         }
         row
     }
@@ -102,7 +112,13 @@ impl StatusRow {
                 write!(out, ": same game, room and secret?")
             }
             (Part::Offer, Some(player)) => self.write_offer(out, player),
-            (Part::Keys, _) if self.shows_keys => self.write_keys(out),
+            (Part::Asked, _) if self.reminder.is_asked() => self.write_keys(out),
+            (Part::Keys, _) if !self.reminder.is_asked() && self.reminder.is_shown() => {
+                self.write_keys(out)
+            }
+            (Part::Hint, _) if self.reminder.is_shown() && !self.keys.bytes().is_empty() => {
+                write!(out, "  F1: keys")
+            }
             (Part::Silence(number), _) => self.write_silence(out, number),
             (Part::Rollbacks, _) => {
                 let Reading {
@@ -151,10 +167,9 @@ impl StatusRow {
     /// Writes how player 1 drops a player that was here before.
     fn write_offer<E: Write>(&self, out: &mut E, player: Player) -> io::Result<()> {
         let number = player.number;
-        let was_here = self.gauge.has_heard(player) || self.known[player.place()];
         if self.asked == Some(player) {
             write!(out, "  control-D again drops {number}")
-        } else if self.me.is_chair() && was_here && self.seconds(player) >= LONG {
+        } else if self.may_drop(player) && self.seconds(player) >= LONG {
             write!(out, "  control-D drops {number}")
         } else {
             Ok(())

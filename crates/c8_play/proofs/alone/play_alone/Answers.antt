@@ -5,7 +5,7 @@ use Rattle.c8_machine.specs.State.{State}
 use Rattle.c8_machine.specs.Serial.{serial}
 use Rattle.c8_screen.specs.Points.{Points, points_of}
 use Rattle.c8_play.specs.Desk.{typing, HasShown}
-use Rattle.c8_play.proofs.DeskLemmas.{forgets_more}
+use Rattle.c8_play.proofs.DeskLemmas.{forgets_more, same_chain}
 use Rattle.c8_play.proofs.FrameLemmas.{alone_more}
 use Rattle.c8_play.proofs.alone.play_alone.Goals as goal
 
@@ -25,7 +25,8 @@ loop-frame-preserved g c =
       few = omega (arith, c.if-from-frames.false, c.from.ensures);
       machine = machine;
       frames_are = alone_more g.C.Console c.args.game.now c.loop-frame.frame before.rows row c.args.desk.now c.loop-frame.desk
-          c.sit_out.new.self c.show.new.self before.frames_are c.sit_out.ensures
+          c.sit_out.new.self c.show.new.self before.frames_are
+          (same_chain g.C.Console c.loop-frame.desk c.heed-now.new.desk c.sit_out.new.self c.heed-now.ensures c.sit_out.ensures)
           (record {
             read = typing g.C.Console begun.new.self;
             keys = begun.result;

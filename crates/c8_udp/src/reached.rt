@@ -1,6 +1,8 @@
 //! The addresses that a command line names, once the system has found the hosts that it names.
 
-use c8_udp::{LEARNT, MOST_WATCHERS, NoAddress, Wanted, address_at, refused_address};
+use crate::addresses::{MOST_WATCHERS, refused_address};
+use crate::names::address_at;
+use crate::no_address::{LEARNT, NoAddress, Wanted};
 use std::alloc::{AllocError, Global};
 use std::net::{Net, SocketAddr};
 
@@ -22,9 +24,9 @@ pub struct Named<'m, 'a> {
 
 /// A word that names no address which can be reached.
 #[derive(Clone, Copy, Debug)]
-pub(crate) struct Unreached<'a> {
-    pub(crate) word: &'a str,
-    pub(crate) why: NoAddress,
+pub struct Unreached<'a> {
+    pub word: &'a str,
+    pub why: NoAddress,
 }
 
 /// The same words with addresses in the place of names. A name that the system does not find stays, and is refused as an
@@ -83,7 +85,7 @@ impl Reached {
     }
 
     /// An address that two of the players have, if there is one. Through a relay all are at the relay's.
-    pub(crate) fn shared(&self) -> Option<SocketAddr> {
+    pub fn shared(&self) -> Option<SocketAddr> {
         if self.relay.is_some() {
             return None;
         }
@@ -121,7 +123,7 @@ impl Reached {
 
 impl<'a> Named<'_, 'a> {
     /// The first of these words that names no address which can be reached, if any, and why.
-    pub(crate) fn refused<R: Net>(&self, rt: &R) -> Option<Unreached<'a>> {
+    pub fn refused<R: Net>(&self, rt: &R) -> Option<Unreached<'a>> {
         let Some(relay) = self.relay else {
             let Ok(own) = self.local.parse::<SocketAddr>() else {
                 return Some(Unreached::number(self.local));

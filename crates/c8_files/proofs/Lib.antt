@@ -1,0 +1,2 @@
+-- The lines of a match card.
+pub mod CardLemmas
