@@ -25,6 +25,5 @@ pub mod AnswerLemmas
 -- What is read of a file is all its bytes, and the journal in them is that of the player and room in its HEAD.
 pub mod JournalLemmas
 pub mod ImageLemmas
--- The status of `audit` is that of its outcome, and it is done only after three lines of yes; begin at `OutcomeLemmas`.
-pub mod OutcomeLemmas
+-- The lines of the verdicts, as they are printed.
 pub mod PrintLemmas

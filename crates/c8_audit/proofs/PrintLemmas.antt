@@ -1,9 +1,15 @@
--- What is printed, line by line.
+-- What is printed, line by line, and of which verdicts.
 use Rattle.std.proofs.Common.{◌≡◌, ℕ, List, ◌++◌, codes, Option, Some, None, Result, Ok, Err, sym, subst}
 use Rattle.std.specs.Prelude.{OnOk, IfSome, option_map}
 use Rattle.std.specs.Io.KnownBytes.{Appends}
 use Rattle.std.proofs.KnownBytes.{Appends-trans}
+use Rattle.c8_game.specs.Rules.{Rules}
 use Rattle.c8_game.specs.declared.row.Player.{Player}
+use Rattle.c8_audit.specs.Audit.{fault_in}
+use Rattle.c8_audit.specs.Judged.{AreVerdicts}
+use Rattle.c8_audit.specs.Read.{all_seen}
+use Rattle.c8_audit.specs.declared.error.AuditFault.{AuditFault}
+use Rattle.c8_audit.specs.declared.journal.Journal.{Journal}
 use Rattle.c8_audit.specs.declared.verdict.Verdicts.{Verdicts}
 use Rattle.c8_keys.specs.Report.{Grows}
 use Rattle.c8_keys.specs.checked.Grows.{grows_then}
@@ -33,3 +39,10 @@ tells_by a b c d e f g verdicts players empty dropped told after sentence =
       Appends-trans a d g before.0 (verdicts_text verdicts told.0 ++ (after.0 ++ sentence_of verdicts)) before.1
           (Appends-trans d e g (verdicts_text verdicts told.0) (after.0 ++ sentence_of verdicts) told.1 last),
     )
+
+-- `Says`: what was printed says of the verdicts
+pub judged_by : (Says : Verdicts → Type 0) (rules : Rules) (given shown : List (Option Journal)) (verdicts : Verdicts)
+    (fault : Option AuditFault) → shown ≡ given → AreVerdicts rules (all_seen shown) verdicts → fault ≡ fault_in verdicts → Says verdicts
+    → (found : Verdicts) × AreVerdicts rules (all_seen given) found × (fault ≡ fault_in found) × Says found
+judged_by Says rules given shown verdicts fault same are is says =
+    (verdicts, subst (λ (journals : List (Option Journal)). AreVerdicts rules (all_seen journals) verdicts) same are, is, says)

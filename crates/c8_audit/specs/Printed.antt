@@ -1,12 +1,16 @@
 -- The lines of the verdicts, as `audit` prints them.
-use Rattle.std.specs.Prelude.{ℕ, List, [], ◌∷◌, ◌++◌, codes, Option, Some, None}
+use Rattle.std.specs.Prelude.{ℕ, ◌-◌, List, [], ◌∷◌, ◌++◌, codes, Option, Some, None}
+use Rattle.std.specs.Borrow.{Bor}
+use Rattle.std.specs.List.{slice_get}
 use Rattle.std.specs.Fmt.{decimal}
 use Rattle.std.specs.Io.KnownBytes.{Appends}
 use Rattle.c8_game.specs.declared.row.Player.{Player}
 use Rattle.c8_audit.specs.declared.fault.Answer.{Answer}
-use Rattle.c8_audit.specs.declared.fault.Fault.{Fault}
+use Rattle.c8_audit.specs.declared.conclusion.Conclusion.{Conclusion}
+use Rattle.c8_audit.specs.declared.conclusion.Conclusion.TheVariants as said
 use Rattle.c8_audit.specs.declared.fault.Short.{Short as ShortJournal}
 use Rattle.c8_audit.specs.declared.fault.Answer.TheVariants.{Yes, Short, No}
+use Rattle.c8_audit.specs.declared.journal.Journal.{Journal}
 use Rattle.c8_audit.specs.declared.verdict.Verdicts.{Verdicts}
 
 -- these parts, one after another, and a line feed
@@ -38,37 +42,58 @@ verdicts_text verdicts check = entered_text verdicts.entered ++ (checks_text ver
 abbrev pub unchecked_text : ℕ → List ℕ
 unchecked_text player = line (codes "unchecked " ∷ decimal player ∷ [])
 
-abbrev pub accused_text : Fault → List ℕ
-accused_text fault = line (codes "player " ∷ decimal fault.one.number ∷ codes "'s own journal has another input in frame "
+-- these parts, one after another
+abbrev pub joined : List (List ℕ) → List ℕ
+joined [] = []
+joined (part ∷ parts) = part ++ joined parts
+
+-- what is said in a sentence
+abbrev pub words_of : Conclusion → List ℕ
+words_of said.Agree = codes "the journals agree"
+words_of (said.Accused fault) = joined (codes "player " ∷ decimal fault.one.number ∷ codes "'s own journal has another input in frame "
     ∷ decimal fault.frame ∷ codes " than player " ∷ decimal fault.other.number ∷ codes "'s" ∷ [])
-
-abbrev pub untrue_text : Player → List ℕ
-untrue_text player = line (codes "player " ∷ decimal player.number ∷ codes "'s last checkpoint is not that of its inputs" ∷ [])
-
-abbrev pub opposed_text : Fault → List ℕ
-opposed_text fault = line (codes "players " ∷ decimal fault.one.number ∷ codes " and " ∷ decimal fault.other.number
+words_of (said.Untrue player) = joined (codes "player " ∷ decimal player.number ∷ codes "'s last checkpoint is not that of its inputs" ∷ [])
+words_of (said.Opposed fault) = joined (codes "players " ∷ decimal fault.one.number ∷ codes " and " ∷ decimal fault.other.number
     ∷ codes " have different inputs in frame " ∷ decimal fault.frame ∷ [])
+words_of (said.Short short) = joined (codes "player " ∷ decimal short.player.number ∷ codes "'s journal ends before what others hold of it" ∷ [])
 
-abbrev pub short_text : ShortJournal → List ℕ
-short_text short = line (codes "player " ∷ decimal short.player.number ∷ codes "'s journal ends before what others hold of it" ∷ [])
+-- what is said if nobody is accused of an input, and which journal is short of inputs
+abbrev pub rest_of : Option ShortJournal → Option Player → Answer → Conclusion
+rest_of short (Some player) agree = said.Untrue player
+rest_of short None (No fault) = said.Opposed fault
+rest_of None None Yes = said.Agree
+rest_of None None (Short other) = said.Short other
+rest_of (Some short) None Yes = said.Short short
+rest_of (Some short) None (Short other) = said.Short short
 
--- what they say if nobody is accused of an input, and which journal is short of inputs
-abbrev pub rest_text : Option ShortJournal → Option Player → Answer → List ℕ
-rest_text short (Some player) agree = untrue_text player
-rest_text short None (No fault) = opposed_text fault
-rest_text None None Yes = codes "the journals agree\n"
-rest_text None None (Short other) = short_text other
-rest_text (Some short) None Yes = short_text short
-rest_text (Some short) None (Short other) = short_text short
+-- what the verdicts say: the first no, else why one is short, else that all are yes
+abbrev pub concluded : Answer → Option Player → Answer → Conclusion
+concluded (No fault) untrue agree = said.Accused fault
+concluded Yes untrue agree = rest_of None untrue agree
+concluded (Short short) untrue agree = rest_of (Some short) untrue agree
 
--- what the verdicts say in a sentence: the first no, else why one is short, else that all are yes
-abbrev pub sentence_text : Answer → Option Player → Answer → List ℕ
-sentence_text (No fault) untrue agree = accused_text fault
-sentence_text Yes untrue agree = rest_text None untrue agree
-sentence_text (Short short) untrue agree = rest_text (Some short) untrue agree
+abbrev pub conclusion_of : Verdicts → Conclusion
+conclusion_of verdicts = concluded verdicts.entered verdicts.untrue verdicts.agree
 
 abbrev pub sentence_of : Verdicts → List ℕ
-sentence_of verdicts = sentence_text verdicts.entered verdicts.untrue verdicts.agree
+sentence_of verdicts = words_of (conclusion_of verdicts) ++ (10 ∷ [])
+
+-- the name of the file with a number; empty if there is no such file
+abbrev pub name_at : Option (Bor (List ℕ)) → List ℕ
+name_at None = []
+name_at (Some name) = name.now
+
+abbrev pub name_in : List (Bor (List ℕ)) → ℕ → List ℕ
+name_in names place = name_at (slice_get names place)
+
+-- the number of the record that ends the last checkpoint of a player's journal, as its records were counted
+abbrev pub check_at : Option (Option Journal) → ℕ
+check_at None = 0
+check_at (Some None) = 0
+check_at (Some (Some j)) = j.tally.last_check
+
+abbrev pub check_in : List (Option Journal) → ℕ → ℕ
+check_in journals player = check_at (slice_get journals (player - 1))
 
 -- The lines of these verdicts are added, others before them, perhaps one after them, and the sentence at the end.
 abbrev pub Tells : Option (List ℕ) → Option (List ℕ) → Verdicts → Type 0

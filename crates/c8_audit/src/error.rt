@@ -2,6 +2,7 @@
 
 ghost use Rattle.std.specs.Prelude.{◌≡◌, IfOk};
 ghost use Rattle.c8_audit.specs.Errors.{journal_error_number, audit_part, audit_error_number};
+ghost use Rattle.c8_audit.specs.Printed.{name_in};
 ghost use Rattle.c8_command.specs.Status.{status_of};
 
 use crate::journal::Named;
@@ -136,8 +137,8 @@ pub enum Unreadable {
 }
 
 impl AuditFault {
-    /// The refusal as it is printed.
-    fn refusal(self) -> Refusal
+    /// Returns the refusal as it is printed.
+    pub fn refusal(self) -> Refusal
         ensures part { result.part ≡ audit_part self }
         ensures number { result.number ≡ audit_error_number self }
     {
@@ -156,14 +157,14 @@ impl AuditFault {
 
     /// Writes the line of the refusal, and a second line with the sentence of the error if there is a site. Returns the
     /// exit status.
-    pub(crate) fn tell_at<W: Write>(self, site: Option<Site<'_>>, out: &mut W) -> io::Result<Status>
+    pub fn tell_at<W: Write>(self, site: Option<Site<'_>>, out: &mut W) -> io::Result<Status>
         ensures { IfOk result (λ status. status ≡ status_of (audit_part self)) }
     {
         self.refusal().tell_at(site, &self, out)
     }
 
     /// The same with another sentence.
-    pub(crate) fn tell_why<W: Write, D: Display>(
+    pub fn tell_why<W: Write, D: Display>(
         self,
         site: Option<Site<'_>>,
         why: &D,
@@ -175,7 +176,7 @@ impl AuditFault {
     }
 
     /// The same for a fault of these files: the sentence names the files that are not of one match.
-    pub(crate) fn tell_of<W: Write>(
+    pub fn tell_of<W: Write>(
         self,
         files: &[&str],
         site: Option<Site<'_>>,
@@ -219,8 +220,10 @@ impl fmt::Display for Sentence<'_> {
     }
 }
 
-/// The name of the file with a number.
-pub(crate) fn name_of<'a>(files: &[&'a str], place: usize) -> &'a str {
+/// Returns the name of the file with a number; the empty name if there is no such file.
+pub fn name_of<'a>(files: &[&'a str], place: usize) -> &'a str
+    ensures { result.now ≡ name_in files.now place }
+{
     match files.get(place) {
         Some(file) => file,
         None => "",

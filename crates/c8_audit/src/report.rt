@@ -10,13 +10,14 @@ ghost use Rattle.c8_audit.specs.Verdicts.{IsLeastCount};
 ghost use Rattle.c8_audit.specs.declared.verdict.Verdicts.{Verdicts};
 ghost use Rattle.c8_audit.specs.Audit.{fault_in};
 ghost use Rattle.c8_keys.specs.Report.{Grows};
-ghost use Rattle.c8_audit.specs.Printed.{entered_text, checks_text, agree_text, verdicts_text, unchecked_text, accused_text, untrue_text, opposed_text, short_text, rest_text, sentence_of, Tells};
+ghost use Rattle.c8_audit.specs.Printed.{entered_text, checks_text, agree_text, verdicts_text, unchecked_text, sentence_of, check_in, Tells};
 
 use crate::agreed::is_dropped;
+use crate::conclusion::conclusion_of;
 use crate::count::digest_of;
 use crate::entered::cut_of;
 use crate::error::{AuditFault, name_of};
-use crate::fault::{Answer, Fault, Short};
+use crate::fault::Answer;
 use crate::files::Gathered;
 use crate::journal::{Journal, journal_of};
 use crate::search::PLAYERS_END;
@@ -196,91 +197,26 @@ fn write_agree<W: Write>(agree: Answer, count: u32, out: &mut W) -> io::Result<(
     }
 }
 
-/// Writes the sentence at the end: the first no, else why a verdict is short, else that all are yes.
+/// Writes the sentence at the end.
 fn write_sentence<W: Write>(verdicts: &Verdicts, out: &mut W) -> io::Result<()>
     ensures { OnOk result (Appends (W.contents out.old) (W.contents out.new)
         (sentence_of verdicts.now)) }
 {
-    match verdicts.entered {
-        Answer::No(fault) => write_accused(fault, out),
-        Answer::Short(short) => write_rest(Some(short), verdicts.untrue, verdicts.agree, out),
-        Answer::Yes => write_rest(None, verdicts.untrue, verdicts.agree, out),
+    writeln!(out, "{}", conclusion_of(verdicts))
+}
+
+/// Returns the number of the record that ends the last checkpoint of a player's journal; 0 if there is none.
+pub fn check_of(journals: &[Option<Journal>], player: Player) -> usize
+    ensures { result ≡ check_in journals.now player.number }
+{
+    match journals.get(player.place()) {
+        Some(Some(journal)) => journal.tally.last_check,
+        _ => 0,
     }
 }
 
-/// Writes the sentence if nobody is accused of an input. `short` is the journal that is short of inputs, if one is.
-fn write_rest<W: Write>(
-    short: Option<Short>,
-    untrue: Option<Player>,
-    agree: Answer,
-    out: &mut W,
-) -> io::Result<()>
-    ensures { OnOk result (Appends (W.contents out.old) (W.contents out.new)
-        (rest_text short untrue agree)) }
-{
-    if let Some(player) = untrue {
-        return write_untrue(player, out);
-    }
-    match agree {
-        Answer::No(fault) => write_opposed(fault, out),
-        Answer::Short(other) => write_short(short.unwrap_or(other), out),
-        Answer::Yes => match short {
-            Some(short) => write_short(short, out),
-            None => writeln!(out, "the journals agree"),
-        },
-    }
-}
-
-fn write_accused<W: Write>(fault: Fault, out: &mut W) -> io::Result<()>
-    ensures { OnOk result (Appends (W.contents out.old) (W.contents out.new) (accused_text fault)) }
-{
-    let (one, frame, other) = (fault.one.number, fault.frame, fault.other.number);
-    writeln!(
-        out,
-        "player {one}'s own journal has another input in frame {frame} than player {other}'s"
-    )
-}
-
-fn write_untrue<W: Write>(player: Player, out: &mut W) -> io::Result<()>
-    ensures { OnOk result (Appends (W.contents out.old) (W.contents out.new) (untrue_text player)) }
-{
-    let number = player.number;
-    writeln!(
-        out,
-        "player {number}'s last checkpoint is not that of its inputs"
-    )
-}
-
-fn write_opposed<W: Write>(fault: Fault, out: &mut W) -> io::Result<()>
-    ensures { OnOk result (Appends (W.contents out.old) (W.contents out.new) (opposed_text fault)) }
-{
-    let (frame, one, other) = (fault.frame, fault.one.number, fault.other.number);
-    writeln!(
-        out,
-        "players {one} and {other} have different inputs in frame {frame}"
-    )
-}
-
-fn write_short<W: Write>(short: Short, out: &mut W) -> io::Result<()>
-    ensures { OnOk result (Appends (W.contents out.old) (W.contents out.new) (short_text short)) }
-{
-    let number = short.player.number;
-    writeln!(
-        out,
-        "player {number}'s journal ends before what others hold of it"
-    )
-}
-
-/// The number of the record that ends a player's last checkpoint.
-fn check_of(journals: &[Option<Journal>], player: Player) -> usize {
-    match journal_of(journals, player) {
-        Some(journal) => journal.tally.last_check,
-        None => 0,
-    }
-}
-
-/// The first verdict that is no; if none is, whether one is short.
-fn fault_of(verdicts: &Verdicts) -> Option<AuditFault>
+/// Returns the first verdict that is no; if none is, whether one is short.
+pub fn fault_of(verdicts: &Verdicts) -> Option<AuditFault>
     ensures { result ≡ fault_in verdicts.now }
 {
     match (verdicts.entered, verdicts.untrue, verdicts.agree) {

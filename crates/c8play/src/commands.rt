@@ -1,13 +1,13 @@
 //! The command line.
 
 use crate::help::ENDING;
-use c8_audit::{AUDIT, audit_given};
 use c8_command::Status;
 use c8_front::{
     RUN, SHOW, Terminals, Threaded, is_explained, status_at, tell, with_commands, word_of, words_in,
 };
 use c8_host::{match_commands, match_given};
 use c8_journals::{JOURNAL, journal_given};
+use c8_judge::{AUDIT, audit_given};
 use c8_keys::run_files;
 use c8_relay_web::{RELAY_COMMAND, relay_given};
 use c8_replay::{REPLAY, replay_given};

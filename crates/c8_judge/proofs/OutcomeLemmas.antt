@@ -1,6 +1,10 @@
--- The status of an outcome.
-use Rattle.std.proofs.Common.{◌≡◌, ◌⊎◌, inl, inr, List, ℕ, Option, Some, None, Result, Ok, Err, IfOk, refl, sym, ap, subst, ◌∙◌, ◌++◌, codes}
+-- The status of an outcome, and what is printed of it.
+use Rattle.std.proofs.Common.{◌≡◌, ◌⊎◌, inl, inr, List, [], ◌∷◌, ℕ, Option, Some, None, Result, Ok, Err, IfOk, refl, sym, ap, subst, ◌∙◌, ◌++◌, codes}
+use Rattle.std.proofs.Common.{Bool, true, false}
+use Rattle.std.specs.Borrow.{Bor}
 use Rattle.c8_command.specs.Status.{status_of, status_of_outcome}
+use Rattle.c8_command.specs.declared.error.TextError.{TextError}
+use Rattle.c8_command.specs.declared.error.TextError.TheVariants as texts
 use Rattle.c8_command.specs.declared.status.Status.{Status}
 use Rattle.c8_game.specs.GameFaults.{IsRefused}
 use Rattle.c8_game.specs.GameText.{Spells}
@@ -24,9 +28,14 @@ use Rattle.c8_audit.specs.declared.fault.Answer.TheVariants.{Yes, Short, No}
 use Rattle.c8_audit.specs.declared.files.Twice.{Twice}
 use Rattle.c8_audit.specs.declared.journal.Journal.{Journal}
 use Rattle.c8_audit.specs.declared.verdict.Verdicts.{Verdicts}
-use Rattle.c8_audit.specs.Audit.{first_no, fault_in, IsJudged, AreJudged, IsWithout, AreRefused, IsUnjudged, HasAudited}
+use Rattle.c8_audit.specs.Audit.{first_no, fault_in}
 use Rattle.c8_audit.specs.Errors.{audit_part}
-use Rattle.c8_audit.specs.Printed.{entered_text, checks_text, agree_text, yes_text, sentence_text, sentence_of, Tells, TellsYes}
+use Rattle.c8_audit.specs.Printed.{entered_text, checks_text, agree_text, yes_text, concluded, words_of, sentence_of, Tells, TellsYes}
+use Rattle.c8_judge.specs.Audited.{IsJudged, AreJudged, IsWithout, AreRefused, IsUnjudged, HasAudited, IsEvidence, fault_of_game}
+use Rattle.serde_json.specs.Data.{Data}
+use Rattle.std.specs.Prelude.{OnOk, map, option_map, unwrap_or}
+use Rattle.c8_json.specs.Lines.{refused_data, data_line}
+use Rattle.c8_judge.specs.PrintedJson.{audit_data, status_of_fault, IsAudit, TellsVerdicts, TellsRefusal, TellsAs}
 use Rattle.c8_command.specs.declared.status.Status.TheVariants as statuses
 use Rattle.std.specs.Io.KnownBytes.{Appends}
 use Rattle.c8_audit.specs.declared.error.AuditFault.TheVariants as faults
@@ -36,13 +45,6 @@ use Rattle.c8_audit.specs.declared.error.AuditFault.TheVariants.{Game}
 -- how the command tells what it judged, without and with the readings
 abbrev pub TellsJudged : Rules → AllSeen → Status → Type 0
 TellsJudged rules all status = (outcome : Result Verdicts AuditFault) × IsJudged rules all outcome × (status ≡ status_of_outcome audit_part outcome)
-
-pub judged_by : (rules : Rules) (given shown : List (Option Journal)) (verdicts : Verdicts) (fault : Option AuditFault)
-    (old new : Option (List ℕ)) → shown ≡ given → AreVerdicts rules (all_seen shown) verdicts
-    → fault ≡ fault_in verdicts → Tells old new verdicts
-    → (found : Verdicts) × AreVerdicts rules (all_seen given) found × (fault ≡ fault_in found) × Tells old new found
-judged_by rules given shown verdicts fault old new same are is tells =
-    (verdicts, subst (λ (journals : List (Option Journal)). AreVerdicts rules (all_seen journals) verdicts) same are, is, tells)
 
 pub told_no : {E : Type 0} (rules : Rules) (all : AllSeen) (told : Result Status E) (fault : AuditFault) (verdicts : Verdicts)
     → AreVerdicts rules all verdicts → Some fault ≡ fault_in verdicts
@@ -55,20 +57,22 @@ pub told_unjudged : {E : Type 0} (told : Result Status E) (fault : AuditFault) �
 told_unjudged (Ok status) fault is same = (Err fault, inr (fault, is, refl), same)
 told_unjudged (Err error) fault is same = tt
 
+-- ---- why nothing is judged
+
+pub no_file : (error : TextError) → IsUnjudged (fault_of_game error)
+no_file texts.Failed = inl (inl tt)
+no_file texts.Memory = inl (inr (inl refl))
+
 -- the text spells no game, or memory ran out while it was read
-pub told_no_game : {E : Type 0} (told : Result Status E) (text : List ℕ) (error : GameError) → (error ≡ games.Memory) ⊎ IsRefused text error
-    → IfOk told (λ status. status ≡ status_of (audit_part (Game error))) → IfOk told HasAudited
-told_no_game told text error (inl memory) same = told_unjudged told (Game error) (inl (inr (inl (ap Game memory)))) same
-told_no_game told text error (inr refused) same = told_unjudged told (Game error) (inr (inl (text, (error, refused, refl)))) same
+pub no_game : (text : List ℕ) (error : GameError) → (error ≡ games.Memory) ⊎ IsRefused text error → IsUnjudged (Game error)
+no_game text error (inl memory) = inl (inr (inl (ap Game memory)))
+no_game text error (inr refused) = inr (inl (text, (error, refused, refl)))
 
 -- the program makes no game, or memory ran out while its text was written
-pub told_no_program : {E : Type 0} (told : Result Status E) (program : List ℕ) (why : ProgramError)
-    → (why ≡ programs.Memory) ⊎ (fault_of usual_settings program ≡ Some why)
-    → IfOk told (λ status. status ≡ status_of (audit_part (Game (game_fault why)))) → IfOk told HasAudited
-told_no_program told program why (inl memory) same =
-    told_unjudged told (Game (game_fault why)) (inl (inr (inl (ap (λ (e : ProgramError). Game (game_fault e)) memory)))) same
-told_no_program told program why (inr fault) same =
-    told_unjudged told (Game (game_fault why)) (inr (inr (inl (program, (why, fault, refl))))) same
+pub no_program : (program : List ℕ) (why : ProgramError) → (why ≡ programs.Memory) ⊎ (fault_of usual_settings program ≡ Some why)
+    → IsUnjudged (Game (game_fault why))
+no_program program why (inl memory) = inl (inr (inl (ap (λ (e : ProgramError). Game (game_fault e)) memory)))
+no_program program why (inr fault) = inr (inr (inl (program, (why, fault, refl))))
 
 pub unjudged_by : (text : List ℕ) (rules : Rules) (files : List Twice) (fault : AuditFault) → Spells text rules
     → IsWithout fault ⊎ AreRefused rules files fault → IsUnjudged fault
@@ -138,7 +142,7 @@ yes_lines (Short short) (Some player) agree count check is = absurd cc
 yes_lines (No fault) untrue agree count check is = absurd cc
 
 yes_sentence : (entered : Answer) (untrue : Option Player) (agree : Answer) → first_no entered untrue agree ≡ None
-    → sentence_text entered untrue agree ≡ codes "the journals agree\n"
+    → words_of (concluded entered untrue agree) ++ (10 ∷ []) ≡ codes "the journals agree\n"
 yes_sentence Yes None Yes is = refl
 yes_sentence Yes None (Short short) is = absurd cc
 yes_sentence Yes None (No fault) is = absurd cc
@@ -159,3 +163,64 @@ tells_yes old new verdicts none (before, check, after, appends) =
       subst (λ (last : List ℕ). Appends old new (before ++ (yes_text verdicts.count ++ (after ++ last)))) sentence
           (subst (λ (text : List ℕ). Appends old new (before ++ (text ++ (after ++ sentence_of verdicts)))) same appends),
     )
+
+-- ---- what is printed
+
+-- a refusal is not done
+refused_status : (P : Type 0) (fault : AuditFault) → status_of (audit_part fault) ≡ statuses.Done → P
+refused_status P fault =
+    let told : Result Status (Unit {0}) = Ok (status_of (audit_part fault)) in
+    never_done P told fault refl
+
+yes_status : (fault : Option AuditFault) → status_of_fault fault ≡ statuses.Done → fault ≡ None
+yes_status None done = refl
+yes_status (Some fault) done = refused_status (Some fault ≡ None) fault done
+
+module _ (names : List (Bor (List ℕ))) (old new : Option (List ℕ)) where
+  -- the verdicts of evidence are printed, and the status is theirs
+  pub tells_verdicts : (json : Bool) (rules : Rules) (journals : List (Option Journal)) (empty : ℕ) (verdicts : Verdicts) (status : Status)
+      → IsEvidence rules journals empty → AreVerdicts rules (all_seen journals) verdicts → status ≡ status_of_fault (fault_in verdicts)
+      → TellsVerdicts json rules journals names empty verdicts old new → TellsAs json names status old new
+  tells_verdicts false rules journals empty verdicts status evidence are same tells =
+      λ done. tells_yes old new verdicts (yes_status (fault_in verdicts) (sym same ∙ done)) tells
+  tells_verdicts true rules journals empty verdicts status evidence are same tells = (
+    audit_data rules journals names empty verdicts,
+    inl (record { rules = rules; journals = journals; empty = empty; evidence = evidence; verdicts = verdicts; are = are; object = refl; status_is = same }),
+    tells,
+  )
+
+  -- a refusal is printed, and the status is its own
+  pub tells_refusal : (json : Bool) (fault : AuditFault) (status : Status) → IsUnjudged fault → status ≡ status_of (audit_part fault)
+      → TellsRefusal json old new → TellsAs json names status old new
+  tells_refusal false fault status unjudged same tells = λ done. refused_status (TellsYes old new) fault (sym same ∙ done)
+  tells_refusal true fault status unjudged same (words, appends) = (
+    refused_data words,
+    inr (record { fault = fault; unjudged = unjudged; words = words; object = refl; status_is = same }),
+    appends,
+  )
+
+-- the words of a refusal
+pub tells_words : {T E : Type 0} (told : Result T E) (value : Data) (old new : Option (List ℕ)) → (words : List ℕ) × (value ≡ refused_data words)
+    → OnOk told (Appends old new (data_line value)) → OnOk told (TellsRefusal true old new)
+tells_words (Ok done) value old new (words, is) appends =
+    (words, subst (λ (it : Data). Appends old new (data_line it)) is appends)
+tells_words (Err error) value old new (words, is) appends = tt
+
+-- ---- the command line
+
+module _ (found : Option (Bor (List ℕ))) (value : Option (List ℕ)) (is : option_map (λ (s : Bor (List ℕ)). s.now) found ≡ value) where
+  -- an option that is there has a value
+  pub is_there : (word : Bor (List ℕ)) → found ≡ Some word → value ≡ None → ⊥
+  is_there word some none =
+      let no_way : Some word.now ≡ None = sym (ap (option_map (λ (s : Bor (List ℕ)). s.now)) some) ∙ is ∙ none in
+      cc
+
+  -- one that is not there has none
+  pub is_missing : found ≡ None → value ≡ None
+  is_missing none = sym is ∙ ap (option_map (λ (s : Bor (List ℕ)). s.now)) none
+
+pub names_by : (found : Option (Bor (List (Bor (List ℕ))))) (none : Bor (List (Bor (List ℕ)))) (values : Option (List (List ℕ)))
+    → none.now ≡ [] → option_map (λ (s : Bor (List (Bor (List ℕ)))). map (λ (v : Bor (List ℕ)). v.now) s.now) found ≡ values
+    → map (λ (v : Bor (List ℕ)). v.now) (unwrap_or found none).now ≡ unwrap_or values []
+names_by None none values empty is = ap (map (λ (v : Bor (List ℕ)). v.now)) empty ∙ ap (λ (o : Option (List (List ℕ))). unwrap_or o []) is
+names_by (Some names) none values empty is = ap (λ (o : Option (List (List ℕ))). unwrap_or o []) is

@@ -28,6 +28,15 @@ What it prints:
                     with the same line have found the same match
   the journals agree, or a sentence that says what does not
 
+With --json standard output is one object on one line, with the fields players, unchecked, empty, dropped,
+entered, checks, agree, result and sentence, or after a refusal that judges nothing the field refused, as
+'open 3 BadRecord'. docs/FORMATS.md lists what they have. Standard error and the exit status are the same.
+
+With --matches FOLDER there is no GAME and no JOURNAL. Each folder in FOLDER is a match: it has one game, a
+file whose name ends in .game or .ch8, and one to four journals, files whose names end in .journal. For each
+match one line of JSON is printed, in the order of the names, with the fields audit (the object of --json),
+match (the folder's name) and status (the exit status of this audit). The exit status is the worst of all.
+
 Refusals, each one line on standard error, as 'refused: audit 3 Disagree':
   game 1 Line to 6 Memory: those of the command run
   open 1 WrongGame  a journal is of another game
@@ -38,6 +47,7 @@ Refusals, each one line on standard error, as 'refused: audit 3 Disagree':
   audit 3 Disagree  'agree no'
   audit 4 Journals  two journals of one player, none of player 1, or journals of two rooms
   audit 5 Short     'entered short' or 'agree short', and no verdict is no
+  audit 6 Folder    FOLDER has no folder in it; in a line: not one game and one to four journals
   disk 1 Failed     a file that cannot be read, a text above 16777216 bytes, a journal above 1073741824
                     bytes, a journal that lost records while it was read; output that cannot be written
 

@@ -1,0 +1,17 @@
+-- What commands print as JSON, as data and as text.
+use Rattle.std.specs.Prelude.{◌^◌, ℕ, nat_lt, if◌then◌else◌, List, [], ◌∷◌, ◌++◌, codes}
+use Rattle.std.specs.Fmt.{decimal}
+use Rattle.serde_json.specs.Data.{Data, number, unsigned, string, object, member, no_members}
+use Rattle.serde_json.specs.Written.{compact_text}
+
+-- a number, or its digits as a text if it is above 2^53, where some readers lose the last ones
+abbrev pub number_data : ℕ → Data
+number_data n = if nat_lt (2 ^ 53) n then string (decimal n) else number (unsigned n)
+
+-- the words of a refusal
+abbrev pub refused_data : List ℕ → Data
+refused_data words = object (member (codes "refused") (string words) no_members)
+
+-- the text on one line
+abbrev pub data_line : Data → List ℕ
+data_line value = compact_text value ++ (10 ∷ [])

@@ -1,0 +1,60 @@
+//! What commands print as JSON: one object on one line, with numbers that every reader takes without a loss.
+//! `specs/Lines.antt` says which texts these are.
+#![tactic(auto)]
+
+ghost use Rattle.std.specs.Prelude.{◌≡◌, ℕ, List, false, string_bytes, IfOk, OnOk};
+ghost use Rattle.std.specs.Io.KnownBytes.{Appends};
+ghost use Rattle.serde_json.specs.View.{view};
+ghost use Rattle.serde_json.specs.Written.{has_float};
+ghost use Rattle.c8_json.specs.Lines.{number_data, refused_data, data_line};
+
+use c8_command::Refusal;
+use serde_json::{Value, json};
+use std::alloc::{AllocError, Global};
+use std::io;
+use std::io::Write;
+
+/// The greatest number that every reader of JSON takes without a loss: 2^53. One above it is written as a text.
+pub const MOST_EXACT: u64 = 9_007_199_254_740_992;
+
+/// Makes a number, or the text of its digits if it is above `MOST_EXACT`. The error is that memory ran out.
+pub fn number_of(alloc: Global, n: u64) -> Result<Value, AllocError>
+    ensures number { IfOk result (λ v. view v ≡ number_data n) }
+    ensures exact { IfOk result (λ v. has_float (view v) ≡ false) }
+{
+    if n > MOST_EXACT {
+        Ok(Value::String(format!(in alloc; "{n}")?))
+    } else {
+        Ok(Value::from(n))
+    }
+}
+
+/// Makes the object of a refusal: its one member `refused` has the words of its line, as `audit 3 Disagree`. The error is
+/// that memory ran out.
+pub fn refused_of(alloc: Global, refusal: Refusal) -> Result<Value, AllocError>
+    ensures object { IfOk result (λ v. (words : List ℕ) × (view v ≡ refused_data words)) }
+    ensures exact { IfOk result (λ v. has_float (view v) ≡ false) }
+{
+    let Refusal { part, number, name } = refusal;
+    let refused = format!(in alloc; "{} {number} {name}", part.name())?;
+    json!(in alloc; {"refused": refused})
+}
+
+/// Returns the line of an object without a float, with its line feed. The error is that memory ran out.
+pub fn line_of(alloc: Global, object: &Value) -> Result<String, AllocError>
+    requires { has_float (view object.now) ≡ false }
+    ensures { IfOk result (λ line. string_bytes line ≡ data_line (view object.now)) }
+{
+    let mut line = object.to_string(alloc)?;
+    line.push('\n')?;
+    Ok(line)
+}
+
+/// Writes the line of an object without a float. The error is the writer's, or that memory ran out; then nothing is written.
+pub fn write_line<W: Write>(alloc: Global, object: &Value, out: &mut W) -> io::Result<()>
+    requires { has_float (view object.now) ≡ false }
+    ensures { OnOk result (Appends (W.contents out.old) (W.contents out.new) (data_line (view object.now))) }
+{
+    let line = line_of(alloc, object)?;
+    write!(out, "{line}")
+}
