@@ -100,7 +100,7 @@ typedef struct {
 
 /* What happened in a session. */
 typedef struct {
-    uint8_t kind;   /* one of C8_EVENT_LINKED to C8_EVENT_ENDED */
+    uint8_t kind;   /* one of C8_EVENT_LINKED to C8_EVENT_RESTARTED */
     uint8_t player; /* whom it is about, 1 to 4; 0 for the session itself */
     uint32_t frame; /* the frame that it names; 0 if it names none */
 } c8_event_state;
@@ -111,7 +111,8 @@ enum {
     C8_EVENT_RESUMED = 3,     /* it is heard again after that, also where it starts again: then its link is not open yet */
     C8_EVENT_DROPPED = 4,     /* it was dropped: from `frame` on its inputs are empty. Its own session has no such event */
     C8_EVENT_DESYNC = 5,      /* its CHIP-8 machine differs from the own one after `frame` frames: once for a frame */
-    C8_EVENT_ENDED = 6        /* c8_is_over has become true, with `frame` frames confirmed */
+    C8_EVENT_ENDED = 6,       /* c8_is_over has become true, with `frame` frames confirmed */
+    C8_EVENT_RESTARTED = 7    /* it has started again, over its journal: its program was restarted, or a lost one came back */
 };
 
 /* What an input of a row is. */

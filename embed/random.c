@@ -244,7 +244,7 @@ static void read_all(c8_session *s) {
 static void tell(c8_session *s) {
     c8_event_state event = {0};
     for (int i = 0; c8_event(s, &event); i++) {
-        if (!s->at || event.kind < C8_EVENT_LINKED || event.kind > C8_EVENT_ENDED || event.player > 4) fail("an event", event.kind);
+        if (!s->at || event.kind < C8_EVENT_LINKED || event.kind > C8_EVENT_RESTARTED || event.player > 4) fail("an event", event.kind);
         if ((event.player == 0) != (event.kind == C8_EVENT_ENDED)) fail("about nobody", event.player);
         if (i > 24) fail("too many events", event.kind);
     }

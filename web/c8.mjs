@@ -30,7 +30,8 @@ export const CLOSED = 101, NOT_SEALED = 103, SEEN_BEFORE = 104, BAD_SECRET = 105
 export const HELLO = 0, WELCOME = 1, DATA = 2, FREEZE = 3, FROZEN = 4, CUT = 5;
 
 /** The kinds of events. */
-export const EVENT_LINKED = 1, EVENT_INTERRUPTED = 2, EVENT_RESUMED = 3, EVENT_DROPPED = 4, EVENT_DESYNC = 5, EVENT_ENDED = 6;
+export const EVENT_LINKED = 1, EVENT_INTERRUPTED = 2, EVENT_RESUMED = 3, EVENT_DROPPED = 4, EVENT_DESYNC = 5, EVENT_ENDED = 6,
+  EVENT_RESTARTED = 7;
 
 /** What an input of a row is, for `status`. */
 export const PREDICTED = 0, HELD = 1, EMPTY = 2;

@@ -66,12 +66,13 @@ def end_of(said):
 
 
 def all_alike(match, players, ends):
-    """These players and the replays of their journals end alike."""
+    """These players and the replays of their journals end alike. Returns the events of the last one."""
     for player in players:
-        said, _ = match.ended(player)
+        said, events = match.ended(player)
         ends[player] = end_of(said)
         same(f"{match.what}: the replay of player {player}", end_of(match.replayed(player)), ends[player])
     same(f"{match.what}: ends", set(ends.values()), {ends[players[0]]})
+    return events
 
 
 def plays(bench, program):
@@ -103,7 +104,8 @@ def returns(bench, program):
     match.running[1].kill()
     match.ended(1, -signal.SIGKILL)
     match.start(1)
-    all_alike(match, PLAYERS, {})
+    events = all_alike(match, PLAYERS, {})
+    same("a return: who started again", sorted(set(re.findall(r"event restarted player (\d)", events))), ["1", "2"])
 
 
 def leaves(bench, program):

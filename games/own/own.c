@@ -107,7 +107,7 @@ static void run(c8_session *session) {
 }
 
 static void happened(c8_session *session) {
-    static const char *const names[] = {"", "linked", "interrupted", "resumed", "dropped", "desync", "ended"};
+    static const char *const names[] = {"", "linked", "interrupted", "resumed", "dropped", "desync", "ended", "restarted"};
     c8_event_state it;
     while (c8_event(session, &it)) {
         fprintf(stderr, "event %s player %d frame %" PRIu32 "\n", names[it.kind], it.player, it.frame);

@@ -12,7 +12,7 @@ use Rattle.c8_wire.specs.Packet.{Packet}
 use Rattle.c8_embed.specs.declared.events.Event.{Event}
 use Rattle.c8_embed.specs.declared.lead.Lead.{Lead}
 use Rattle.c8_embed.specs.declared.news.News.{News}
-use Rattle.c8_embed.specs.News.{HasLooked, HasTold, alarm_in, alarmed}
+use Rattle.c8_embed.specs.News.{HasLooked, HasTold, alarm_in, alarmed, greeting_in, greeted}
 use Rattle.c8_embed.specs.Steps.{StepsValue, IsTrueTo}
 
 -- The peer, the rows that the engine was given, how many frames each step rolls back for a test (0 without a test), what
@@ -51,9 +51,10 @@ is_dropped peer = (player_in (known_by peer) peer.me).leaving
 abbrev pub HasLookedAt : {D : Type 0} → PeerValue D → News → News → Type 0
 HasLookedAt peer old new = (is_over : Bool) × HasLooked is_over peer old new × (is_dropped peer ≡ true → is_over ≡ true)
 
--- the look after a delivery, and the alarm that it raised
+-- the look after a delivery, the alarm that it raised, and whether its sender has started again
 abbrev pub HasHeardAt : {D : Type 0} → PeerValue D → Result Packet WireError → Result Heard Refused → News → News → Type 0
-HasHeardAt peer told answer old new = (looked : News) × HasLookedAt peer old looked × (new ≡ alarmed (alarm_in told answer) looked)
+HasHeardAt peer told answer old new = (looked : News) × HasLookedAt peer old looked
+    × (new ≡ greeted (greeting_in told answer) (alarmed (alarm_in told answer) looked))
 
 -- the look before an event is taken
 abbrev pub HasToldAt : {D : Type 0} → PeerValue D → News → Option Event → News → Type 0

@@ -10,13 +10,15 @@
 --   and the same frame, or a later one.
 -- - `Ended`, with the number of confirmed frames: the look that first finds the session over. A player that was dropped hears this
 --   of its own session, and no `Dropped`, since its peer records no cut of itself.
+-- - `Restarted`: a delivery of a HELLO or a WELCOME that is taken, if the last one of that player named another epoch. After a HELLO
+--   `Linked` follows, once the link is open again. A WELCOME that comes before it keeps the link open, and then there is no `Linked`.
 --
 -- A second event of one kind and player takes the place of the first, if that waits still.
 use Rattle.std.specs.Prelude.{ℕ, ◌≡◌, ◌+◌, ◌*◌, ◌-◌, ◌<◌, ◌≤◌, ◌&&◌, min, not, Bool, true, false, slice_index_or, slice_set, replicate}
 use Rattle.std.specs.Prelude.{Option, Some, None}
 use Rattle.c8_embed.specs.declared.events.Event.{Event}
 use Rattle.c8_embed.specs.declared.events.EventKind.{EventKind}
-use Rattle.c8_embed.specs.declared.events.EventKind.TheVariants.{Linked, Interrupted, Resumed, Dropped, Desynced, Ended}
+use Rattle.c8_embed.specs.declared.events.EventKind.TheVariants.{Linked, Interrupted, Resumed, Dropped, Desynced, Ended, Restarted}
 use Rattle.c8_embed.specs.declared.events.Events.{Events}
 use Rattle.c8_embed.specs.declared.events.Shown.{Shown}
 use Rattle.c8_embed.specs.declared.events.Waiting.{Waiting}
@@ -30,6 +32,7 @@ number_of Resumed = 2
 number_of Dropped = 3
 number_of Desynced = 4
 number_of Ended = 5
+number_of Restarted = 6
 
 -- the place of a kind and a player; player 0 stands for the session itself
 abbrev pub place_of : EventKind → ℕ → ℕ
@@ -76,6 +79,7 @@ news Resumed before after = once (before.is_silent && not after.is_silent && not
 news Dropped before after = new_of before.cut after.cut
 news Desynced before after = None
 news Ended before after = None
+news Restarted before after = None
 
 abbrev pub noted_news : EventKind → ℕ → Shown → Shown → Events → Events
 noted_news kind player before after e = noted_if kind player (news kind before after) e
@@ -90,7 +94,7 @@ compared player before after e =
 
 -- no event waits
 pub record AreTold (e : Events) : Type 0 where
-  pub none : e.waiting ≡ replicate 24 None
+  pub none : e.waiting ≡ replicate 28 None
   pub first : e.next ≡ 0
 
 -- the oldest of the events that wait at the first places, and its place
@@ -106,7 +110,7 @@ FoundBelow e end (Some found) = IsOldestBelow e end found.0 found.1
 
 -- the oldest event is taken, and waits no more; or there is none
 abbrev pub HasTaken : Events → Option Event → Events → Type 0
-HasTaken old None new = ((p : ℕ) → p < 24 → waiting_at old p ≡ None) × (new ≡ old)
+HasTaken old None new = ((p : ℕ) → p < 28 → waiting_at old p ≡ None) × (new ≡ old)
 HasTaken old (Some event) new =
-    (place : ℕ) × (w : Waiting) × IsOldestBelow old 24 place w × (event ≡ w.event)
+    (place : ℕ) × (w : Waiting) × IsOldestBelow old 28 place w × (event ≡ w.event)
     × (new ≡ record old { waiting = slice_set old.waiting place None })

@@ -1,11 +1,12 @@
 -- What an engine notes when it looks at its session. `Events` says which call raises which event.
-use Rattle.std.specs.Prelude.{ℕ, ◌≡◌, ◌-◌, ◌&&◌, not, Bool, true, false, nat_lt, List, [], ◌∷◌, slice_index_or, slice_set, Option, Some, None}
+use Rattle.std.specs.Prelude.{ℕ, ◌≡◌, ◌==◌, ◌-◌, ◌&&◌, ◌||◌, not, Bool, true, false, nat_lt, List, [], ◌∷◌, slice_index_or, slice_set}
+use Rattle.std.specs.Prelude.{Option, Some, None}
 use Rattle.std.specs.Prelude.{Result, Ok, Err, if◌then◌else◌}
 use Rattle.c8_hand.specs.Links.{link_to}
 use Rattle.c8_known.specs.Known.{player_in, is_frozen_in}
 use Rattle.c8_known.specs.Confirmed.{confirmed}
 use Rattle.c8_wire.specs.declared.error.WireError.{WireError}
-use Rattle.c8_wire.specs.Packet.{Packet, Message}
+use Rattle.c8_wire.specs.Packet.{Packet, Message, HeadValue}
 use Rattle.c8_wire.specs.Packet as packets
 use Rattle.c8_wire.specs.Seats.{is_player}
 use Rattle.c8_refusals.specs.declared.error.Refused.{Refused}
@@ -14,10 +15,11 @@ use Rattle.c8_peer.specs.Peer.{PeerValue, known_by}
 use Rattle.c8_peer.specs.declared.heard.Heard.{Heard}
 use Rattle.c8_embed.specs.Events.{AreTold, HasTaken, noted, noted_if, compared}
 use Rattle.c8_embed.specs.declared.events.Event.{Event}
-use Rattle.c8_embed.specs.declared.events.EventKind.TheVariants.{Desynced, Ended}
+use Rattle.c8_embed.specs.declared.events.EventKind.TheVariants.{Desynced, Ended, Restarted}
 use Rattle.c8_embed.specs.declared.events.Events.{Events}
 use Rattle.c8_embed.specs.declared.events.Shown.{Shown}
 use Rattle.c8_embed.specs.declared.news.Alarm.{Alarm}
+use Rattle.c8_embed.specs.declared.news.Greeting.{Greeting}
 use Rattle.c8_embed.specs.declared.news.News.{News}
 
 -- ---- a look
@@ -37,6 +39,7 @@ pub record AreNoNews (n : News) : Type 0 where
   pub events : AreTold n.events
   pub players : n.players ≡ nothing_shown ∷ nothing_shown ∷ nothing_shown ∷ nothing_shown ∷ []
   pub alarms : n.alarms ≡ None ∷ None ∷ None ∷ None ∷ []
+  pub epochs : n.epochs ≡ 0 ∷ 0 ∷ 0 ∷ 0 ∷ []
   pub is_over : n.is_over ≡ false
 
 abbrev pub shown_in : List Shown → ℕ → Shown
@@ -131,8 +134,49 @@ abbrev pub alarmed : Option Alarm → News → News
 alarmed None n = n
 alarmed (Some alarm) n = raised alarm n
 
+-- ---- a player that has started again
+
+abbrev pub greeting_by : HeadValue → Option Greeting
+greeting_by head = if is_player head.from then Some (record { player = head.from; epoch = head.sender_epoch }) else None
+
+-- whose greeting a packet is, and which epoch it names
+abbrev pub greeting : HeadValue → Message → Option Greeting
+greeting head packets.Hello = greeting_by head
+greeting head (packets.Welcome ack) = greeting_by head
+greeting head (packets.Data d) = None
+greeting head (packets.Freeze f) = None
+greeting head (packets.Frozen f) = None
+greeting head (packets.Cut c) = None
+greeting head (packets.Show shown) = None
+greeting head (packets.Seen ack) = None
+
+abbrev pub greeting_of : Packet → Option Greeting
+greeting_of p = greeting p.head p.message
+
+-- the greeting that a delivery has taken
+abbrev pub greeting_in : Result Packet WireError → Result Heard Refused → Option Greeting
+greeting_in told (Err why) = None
+greeting_in (Err error) (Ok heard) = None
+greeting_in (Ok p) (Ok heard) = greeting_of p
+
+-- the epoch that a player's last greeting named; 0 for none
+abbrev pub epoch_of : News → ℕ → ℕ
+epoch_of n player = slice_index_or n.epochs (player - 1) 0
+
+-- that it names another epoch than before
+abbrev pub restarted : ℕ → ℕ → Option ℕ
+restarted before now = if before == 0 || before == now then None else Some 0
+
+abbrev pub greeted : Option Greeting → News → News
+greeted None n = n
+greeted (Some greeting) n = record n {
+  events = noted_if Restarted greeting.player (restarted (epoch_of n greeting.player) greeting.epoch) n.events;
+  epochs = slice_set n.epochs (greeting.player - 1) greeting.epoch;
+}
+
 -- ---- what is taken
 
 abbrev pub HasTold : News → Option Event → News → Type 0
 HasTold old event new =
-    HasTaken old.events event new.events × (new.players ≡ old.players) × (new.alarms ≡ old.alarms) × (new.is_over ≡ old.is_over)
+    HasTaken old.events event new.events × (new.players ≡ old.players) × (new.alarms ≡ old.alarms) × (new.epochs ≡ old.epochs)
+    × (new.is_over ≡ old.is_over)

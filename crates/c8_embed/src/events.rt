@@ -5,7 +5,7 @@ ghost use Rattle.c8_embed.specs.Events.{number_of, once, new_of, noted, noted_if
 use c8_game::MOST_PLAYERS;
 
 /// How many kinds of events there are.
-const KINDS: usize = 6;
+const KINDS: usize = 7;
 
 /// How many events can wait: one of each kind and player.
 pub const MOST_EVENTS: usize = KINDS * MOST_PLAYERS;
@@ -25,6 +25,8 @@ pub enum EventKind {
     Desynced,
     /// The session is over, with `frame` confirmed frames.
     Ended,
+    /// A player has started again.
+    Restarted,
 }
 
 /// An event of a session.
@@ -78,6 +80,7 @@ impl EventKind {
             EventKind::Dropped => 3,
             EventKind::Desynced => 4,
             EventKind::Ended => 5,
+            EventKind::Restarted => 6,
         }
     }
 
@@ -90,7 +93,7 @@ impl EventKind {
             EventKind::Interrupted => once(after.is_silent && !before.is_silent),
             EventKind::Resumed => once(before.is_silent && !after.is_silent && !after.is_gone),
             EventKind::Dropped => new_of(before.cut, after.cut),
-            EventKind::Desynced | EventKind::Ended => None,
+            EventKind::Desynced | EventKind::Ended | EventKind::Restarted => None,
         }
     }
 }
@@ -177,7 +180,7 @@ impl Events {
 
     /// Returns the oldest event that waits, and its place.
     fn oldest(&self) -> Option<(usize, Waiting)>
-        ensures { FoundBelow self.now 24 result }
+        ensures { FoundBelow self.now 28 result }
     {
         let mut found = None;
         for place in 0..MOST_EVENTS {

@@ -23,6 +23,6 @@ pub use events::{Event, EventKind, Events, Shown, Waiting};
 pub use head::{Head, head_of};
 pub use lead::Lead;
 pub use medium::Medium;
-pub use news::{Alarm, News};
+pub use news::{Alarm, Greeting, News};
 pub use patience::Patience;
 pub use steps::{Stepped, Steps};

@@ -2,7 +2,7 @@
 ghost use Rattle.std.specs.Prelude.{◌≡◌, ◌≤◌, IfSome};
 ghost use Rattle.c8_wire.specs.Lent.{packet_of};
 ghost use Rattle.c8_wire.specs.checked.Read.{read};
-ghost use Rattle.c8_embed.specs.News.{AreNoNews, IsShown, HasLooked, looked, ended, mark_of, is_desync, alarm_in, is_later, raised, alarmed, HasTold};
+ghost use Rattle.c8_embed.specs.News.{AreNoNews, IsShown, HasLooked, looked, ended, mark_of, is_desync, alarm_in, is_later, raised, alarmed, greeting_by, greeting_of, greeting_in, restarted, greeted, HasTold};
 
 use crate::events::{Event, EventKind, Events, Shown};
 use c8_disk::Disk;
@@ -21,6 +21,8 @@ pub struct News {
     players: [Shown; MOST_PLAYERS],
     /// The frame of the last alarm about each player that was noted.
     alarms: [Option<u32>; MOST_PLAYERS],
+    /// The epoch that each player's last greeting named; 0 for none.
+    epochs: [u32; MOST_PLAYERS],
     is_over: bool,
 }
 
@@ -29,6 +31,13 @@ pub struct News {
 pub struct Alarm {
     pub player: u8,
     pub frame: u32,
+}
+
+/// A HELLO or a WELCOME that was taken: whose it is, and which epoch it names.
+#[derive(Clone, Copy)]
+pub struct Greeting {
+    pub player: u8,
+    pub epoch: u32,
 }
 
 impl News {
@@ -46,6 +55,7 @@ impl News {
             events: Events::new(),
             players: [nothing; MOST_PLAYERS],
             alarms: [None; MOST_PLAYERS],
+            epochs: [0; MOST_PLAYERS],
             is_over: false,
         }
     }
@@ -80,13 +90,36 @@ impl News {
         self.is_over = is_over;
     }
 
-    /// Notes the alarm that a delivery with this answer raised, if it raised one that is new.
+    /// Notes the alarm that a delivery with this answer raised, if it raised one that is new, and whether its sender has
+    /// started again.
     pub fn hear(&mut self, bytes: &[u8], answer: Result<Heard, Refused>)
-        ensures { self.new ≡ alarmed (alarm_in (read bytes.now) answer) self.old }
+        ensures { self.new ≡ greeted (greeting_in (read bytes.now) answer)
+            (alarmed (alarm_in (read bytes.now) answer) self.old) }
     {
-        if let Some(alarm) = alarm_in(bytes, answer) {
+        self.hear_alarm(alarm_in(bytes, answer));
+        self.hear_greeting(greeting_in(bytes, answer));
+    }
+
+    fn hear_alarm(&mut self, alarm: Option<Alarm>)
+        requires { IfSome alarm (λ alarm. alarm.player ≤ 4) }
+        ensures { self.new ≡ alarmed alarm self.old }
+    {
+        if let Some(alarm) = alarm {
             self.raise(alarm);
         }
+    }
+
+    fn hear_greeting(&mut self, greeting: Option<Greeting>)
+        requires { IfSome greeting (λ greeting. greeting.player ≤ 4) }
+        ensures { self.new ≡ greeted greeting self.old }
+    {
+        let Some(Greeting { player, epoch }) = greeting else {
+            return;
+        };
+        let place = usize::from(player.saturating_sub(1));
+        let news = restarted(self.epochs[place], epoch);
+        self.events.note_if(EventKind::Restarted, player, news);
+        self.epochs[place] = epoch;
     }
 
     /// Notes an alarm, unless one about this player and the same frame, or a later one, was noted before.
@@ -179,6 +212,61 @@ fn is_desync(answer: Result<Heard, Refused>) -> bool
             | Refused::Dropped
             | Refused::OtherWire => false,
         },
+    }
+}
+
+/// The greeting in bytes that a delivery with this answer has taken.
+fn greeting_in(bytes: &[u8], answer: Result<Heard, Refused>) -> Option<Greeting>
+    ensures greeting { result ≡ greeting_in (read bytes.now) answer }
+    ensures within { IfSome result (λ greeting. greeting.player ≤ 4) }
+{
+    if answer.is_err() {
+        return None;
+    }
+    match view(bytes) {
+        Ok(datagram) => greeting_of(&datagram),
+        Err(_) => None,
+    }
+}
+
+/// Whose greeting a datagram is, and which epoch it names.
+fn greeting_of(datagram: &Datagram<'_>) -> Option<Greeting>
+    ensures greeting { result ≡ greeting_of (packet_of datagram.now) }
+    ensures within { IfSome result (λ greeting. greeting.player ≤ 4) }
+{
+    match datagram {
+        Datagram::Hello(_) => greeting_by(datagram),
+        Datagram::Welcome(_) => greeting_by(datagram),
+        Datagram::Data(_)
+        | Datagram::Freeze(_)
+        | Datagram::Frozen(_)
+        | Datagram::Cut(_)
+        | Datagram::Show(_)
+        | Datagram::Seen(_) => None,
+    }
+}
+
+/// The greeting of a datagram's sender, if that is a player.
+fn greeting_by(datagram: &Datagram<'_>) -> Option<Greeting>
+    ensures greeting { result ≡ greeting_by (packet_of datagram.now).head }
+    ensures within { IfSome result (λ greeting. greeting.player ≤ 4) }
+{
+    let header = datagram.header();
+    let player = header.from().player()?;
+    Some(Greeting {
+        player: player.number,
+        epoch: header.sender_epoch(),
+    })
+}
+
+/// The news of a player that names this epoch after that one: it has started again.
+fn restarted(before: u32, now: u32) -> Option<u32>
+    ensures { result ≡ restarted before now }
+{
+    if before == 0 || before == now {
+        None
+    } else {
+        Some(0)
     }
 }
 

@@ -145,6 +145,7 @@ event_code events.Resumed = 3
 event_code events.Dropped = 4
 event_code events.Desynced = 5
 event_code events.Ended = 6
+event_code events.Restarted = 7
 
 -- how many ticks to leave out
 abbrev pub wait_code : Bool → ℕ

@@ -181,6 +181,7 @@ pub(crate) fn event_code(kind: EventKind) -> u8
         EventKind::Dropped => 4,
         EventKind::Desynced => 5,
         EventKind::Ended => 6,
+        EventKind::Restarted => 7,
     }
 }
 

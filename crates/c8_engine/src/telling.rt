@@ -9,7 +9,7 @@ use crate::handle::Handle;
 #[derive(Clone, Copy)]
 #[repr(C)]
 pub struct EventState {
-    /// 1 linked, 2 interrupted, 3 resumed, 4 dropped, 5 desynchronised, 6 ended.
+    /// 1 linked, 2 interrupted, 3 resumed, 4 dropped, 5 desynchronised, 6 ended, 7 restarted.
     pub kind: u8,
     /// The player that it is about; 0 for the session itself.
     pub player: u8,

@@ -45,6 +45,7 @@ class EventKind(enum.IntEnum):
     DROPPED = 4      # it was dropped: from `frame` on its inputs are empty
     DESYNC = 5       # its CHIP-8 machine differs after `frame` frames
     ENDED = 6        # `is_over` has become true, with `frame` frames confirmed
+    RESTARTED = 7    # it has started again
 
 
 class Event(NamedTuple):

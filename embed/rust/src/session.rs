@@ -75,6 +75,8 @@ pub enum Event {
     Desync { player: u8, frame: u32 },
     /// [`Session::is_over`] has become true, with this many confirmed frames.
     Ended { frames: u32 },
+    /// This player has started again.
+    Restarted(u8),
 }
 
 impl Event {
@@ -88,6 +90,7 @@ impl Event {
             4 => Some(Event::Dropped { player, frame }),
             5 => Some(Event::Desync { player, frame }),
             6 => Some(Event::Ended { frames: frame }),
+            7 => Some(Event::Restarted(player)),
             _ => None,
         }
     }

@@ -33,7 +33,7 @@ pub struct c8_player_state {
 #[repr(C)]
 #[derive(Clone, Copy, Debug, Default, PartialEq, Eq)]
 pub struct c8_event_state {
-    /// 1 linked, 2 interrupted, 3 resumed, 4 dropped, 5 desynchronised, 6 ended.
+    /// 1 linked, 2 interrupted, 3 resumed, 4 dropped, 5 desynchronised, 6 ended, 7 restarted.
     pub kind: u8,
     /// Whom it is about, 1 to 4; 0 for the session itself.
     pub player: u8,
