@@ -11,8 +11,8 @@ use Rattle.c8_audit.specs.Read.{all_seen}
 use Rattle.c8_audit.specs.declared.error.AuditFault.{AuditFault}
 use Rattle.c8_audit.specs.declared.journal.Journal.{Journal}
 use Rattle.c8_audit.specs.declared.verdict.Verdicts.{Verdicts}
-use Rattle.c8_keys.specs.Report.{Grows}
-use Rattle.c8_keys.specs.checked.Grows.{grows_then}
+use Rattle.c8_texts.specs.Report.{Grows}
+use Rattle.c8_texts.specs.checked.Grows.{grows_then}
 use Rattle.c8_audit.specs.Printed.{checks_text, verdicts_text, sentence_of, Tells}
 
 pub true_checks : {T E : Type 0} (before after : Option (List ℕ)) (untrue : Option Player) (told : Result T E) → untrue ≡ None

@@ -9,7 +9,7 @@ ghost use Rattle.c8_audit.specs.Judged.{AreVerdicts};
 ghost use Rattle.c8_audit.specs.Verdicts.{IsLeastCount};
 ghost use Rattle.c8_audit.specs.declared.verdict.Verdicts.{Verdicts};
 ghost use Rattle.c8_audit.specs.Audit.{fault_in};
-ghost use Rattle.c8_keys.specs.Report.{Grows};
+ghost use Rattle.c8_texts.specs.Report.{Grows};
 ghost use Rattle.c8_audit.specs.Printed.{entered_text, checks_text, agree_text, verdicts_text, unchecked_text, sentence_of, check_in, Tells};
 
 use crate::agreed::is_dropped;

@@ -1,3 +1,9 @@
-pub mod Journals
-pub mod Drawn
+pub mod Asked
 pub mod Card
+pub mod Drawn
+pub mod Errors
+pub mod Faults
+pub mod Journals
+pub mod KeyLists
+pub mod Outcomes
+pub mod checked

@@ -3,8 +3,7 @@
 ghost use Rattle.std.specs.Prelude.{IfOk};
 ghost use Rattle.c8_files.specs.Drawn.{HasDrawn};
 
-use c8_command::{Refusal, Status};
-use c8_front::Outline;
+use c8_command::{Outline, Refusal, Status};
 use c8_transport::{SECRET_LENGTH, Secret};
 use std::fs::File;
 use std::io::{Read, Write};

@@ -1,7 +1,7 @@
 //! The options of the commands `host` and `join`.
 
 use crate::help::{HOST_ENDING, JOIN_ENDING};
-use c8_front::{Argument, Form, Outline};
+use c8_command::{Argument, Form, Outline};
 use c8_net::options::{PATIENCE, RELAY};
 use c8_play::{HOLD, MUTE, REPORT};
 use clap::builder::ValueParser;

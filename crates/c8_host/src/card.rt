@@ -3,9 +3,9 @@
 use crate::friends::Match;
 use c8_command::read_file;
 use c8_files::{
-    CARD_HOST, CARD_RELAY, CARD_ROOM, CARD_SECRET, first_behind, on_card, secret_in, write_card,
+    CARD_HOST, CARD_RELAY, CARD_ROOM, CARD_SECRET, first_behind, is_program, on_card, secret_in,
+    text_of, write_card,
 };
-use c8_program::{is_program, text_of};
 use c8_transport::Secret;
 use std::alloc::{AllocError, Global};
 use std::fs::File;

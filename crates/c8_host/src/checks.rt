@@ -4,10 +4,9 @@ ghost use Rattle.std.specs.Prelude.{◌≢◌, IfOk, IfSome};
 ghost use Rattle.c8_command.specs.declared.status.Status.TheVariants as statuses;
 
 use crate::friends::{Match, NONE};
-use c8_command::{Refusal, Site, Status};
+use c8_command::{Refusal, Site, Status, is_explained};
 use c8_disk::FileError;
 use c8_files::{JournalDisk, Trouble};
-use c8_front::is_explained;
 use c8_net::{Fault, PeerError, refuse, secret_at};
 use c8_udp::{SocketError, SystemSocket, address_at};
 use clap::ArgMatches;

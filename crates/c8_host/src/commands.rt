@@ -4,12 +4,10 @@
 use crate::arguments::{HOST, JOIN};
 use crate::host::host_given;
 use crate::join::join_given;
-use c8_command::Status;
-use c8_files::{SECRET, secret_given};
-use c8_front::{Outline, Terminals, Threaded};
+use c8_command::{Outline, Status, Terminals, Threaded};
+use c8_files::{GAME, SECRET, game_given, secret_given};
 use c8_net::{PEER, peer_given};
 use c8_play::{PLAY, play_given};
-use c8_program::{GAME, game_given};
 use c8_watch::{WATCH, watch_given};
 use clap::ArgMatches;
 use std::io;

@@ -7,8 +7,7 @@ ghost use Rattle.c8_host.specs.declared.friends.Found.TheVariants as found;
 ghost use Rattle.c8_net.specs.Answers.{EndsMatch};
 ghost use Rattle.c8_play.specs.Answers.{IsSilent, WantsReport, WantsNoReport};
 
-use c8_command::Status;
-use c8_front::{System, Terminals, is_explained, word_of};
+use c8_command::{Status, System, Terminals, is_explained, word_of};
 use c8_game::{Game, Player};
 use c8_net::{Asked, Fault, PeerError, game_at, perform_given, refuse};
 use c8_play::{Drawn, Ending, Live, Tempo, Terminal, keys_at, tell_ending, wants_report};

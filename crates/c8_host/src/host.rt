@@ -16,9 +16,8 @@ use crate::friends::{
 use crate::inviting::{Invited, invitation, kept};
 use crate::journals::journal_for;
 use crate::meeting::{Meeting, invitation_over};
-use c8_command::{Refusal, Site, Status};
+use c8_command::{Refusal, Site, Status, System, Terminals, is_explained, word_of};
 use c8_files::{make_secret, random_bytes};
-use c8_front::{System, Terminals, is_explained, word_of};
 use c8_game::{Game, Player};
 use c8_net::number_of;
 use c8_play::{Console, FIRST_ROW, KEY_BYTES, Terminal, rows_of};

@@ -12,9 +12,10 @@ use crate::checks::refuse_start;
 use crate::digits::{digits_in, is_secret};
 use crate::friends::{Begun, Found, Match, game_for, met_at, play, refuse_relay, secret_path};
 use crate::journals::journal_for;
-use c8_command::{Part, Refusal, Site, Status, read_file};
+use c8_command::{
+    Part, Refusal, Site, Status, System, Terminals, is_explained, read_file, word_of,
+};
 use c8_files::write_secret;
-use c8_front::{System, Terminals, is_explained, word_of};
 use c8_game::Player;
 use c8_play::Terminal;
 use clap::ArgMatches;

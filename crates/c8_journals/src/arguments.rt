@@ -1,7 +1,7 @@
 //! The arguments of the command `journal`.
 
 use crate::help::JOURNAL_ENDING;
-use c8_front::{Argument, Form, Outline};
+use c8_command::{Argument, Form, Outline};
 
 /// The most files.
 const MOST: usize = 64;

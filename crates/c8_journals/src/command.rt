@@ -2,8 +2,7 @@
 
 use crate::summary::{Summary, summary_of};
 use c8_audit::{JournalError, read_image};
-use c8_command::{Part, Refusal, Site, Status, TextError};
-use c8_front::is_explained;
+use c8_command::{Part, Refusal, Site, Status, TextError, is_explained};
 use c8_log::kept_len;
 use clap::ArgMatches;
 use std::io;

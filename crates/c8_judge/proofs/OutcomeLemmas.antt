@@ -12,11 +12,11 @@ use Rattle.c8_game.specs.declared.error.GameError.{GameError}
 use Rattle.c8_game.specs.declared.error.GameError.TheVariants as games
 use Rattle.c8_game.specs.Rules.{Rules}
 use Rattle.c8_game.specs.declared.row.Player.{Player}
-use Rattle.c8_program.specs.Asked.{usual_settings}
-use Rattle.c8_program.specs.Errors.{game_fault}
-use Rattle.c8_program.specs.Faults.{fault_of}
-use Rattle.c8_program.specs.declared.error.ProgramError.{ProgramError}
-use Rattle.c8_program.specs.declared.error.ProgramError.TheVariants as programs
+use Rattle.c8_files.specs.Asked.{usual_settings}
+use Rattle.c8_files.specs.Errors.{game_fault}
+use Rattle.c8_files.specs.Faults.{fault_of}
+use Rattle.c8_files.specs.declared.error.ProgramError.{ProgramError}
+use Rattle.c8_files.specs.declared.error.ProgramError.TheVariants as programs
 use Rattle.c8_audit.specs.Gathered.{AreGathered}
 use Rattle.c8_audit.specs.Images.{evidence_of}
 use Rattle.c8_audit.specs.Journals.{AllSeen}

@@ -24,10 +24,10 @@ use Rattle.c8_audit.specs.declared.verdict.Verdicts.{Verdicts}
 use Rattle.c8_audit.specs.Errors.{audit_part}
 use Rattle.c8_audit.specs.Audit.{fault_in}
 use Rattle.c8_audit.specs.declared.error.AuditFault.{AuditFault}
-use Rattle.c8_program.specs.Asked.{usual_settings}
-use Rattle.c8_program.specs.Errors.{game_fault}
-use Rattle.c8_program.specs.Faults.{fault_of}
-use Rattle.c8_program.specs.declared.error.ProgramError.{ProgramError}
+use Rattle.c8_files.specs.Asked.{usual_settings}
+use Rattle.c8_files.specs.Errors.{game_fault}
+use Rattle.c8_files.specs.Faults.{fault_of}
+use Rattle.c8_files.specs.declared.error.ProgramError.{ProgramError}
 use Rattle.c8_command.specs.declared.error.TextError.{TextError}
 use Rattle.c8_command.specs.declared.error.TextError.TheVariants as texts
 use Rattle.c8_judge.specs.declared.evidence.Unjudged.{Unjudged}

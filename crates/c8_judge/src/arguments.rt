@@ -1,7 +1,7 @@
 //! The arguments of the command `audit`.
 
 use crate::help::AUDIT_ENDING;
-use c8_front::{Argument, Form, Outline};
+use c8_command::{Argument, Form, Outline};
 
 /// The name of the option for JSON.
 pub(crate) const JSON: &str = "json";

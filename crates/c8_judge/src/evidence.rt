@@ -12,8 +12,8 @@ use c8_audit::{
     read_again, read_image,
 };
 use c8_command::{TextError, read_file};
+use c8_files::{ProgramError, is_program, text_of};
 use c8_game::{Game, GameError};
-use c8_program::{ProgramError, is_program, text_of};
 use std::rt::Files;
 
 /// How often the journals are read once more, if some lose records while they are read.

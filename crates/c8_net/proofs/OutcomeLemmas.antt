@@ -5,8 +5,8 @@ use Rattle.c8_command.specs.declared.refusal.Part.{Part}
 use Rattle.c8_command.specs.declared.refusal.Part.TheVariants as parts
 use Rattle.c8_command.specs.declared.status.Status.{Status}
 use Rattle.c8_command.specs.declared.status.Status.TheVariants as statuses
-use Rattle.c8_keys.specs.Report.{IsTold}
-use Rattle.c8_keys.specs.declared.lines.Played.{Played}
+use Rattle.c8_texts.specs.Report.{IsTold}
+use Rattle.c8_texts.specs.declared.lines.Played.{Played}
 use Rattle.c8_net.specs.Answers.{IsUnbegun, IsOutcome, HasAnswered, HasReported, EndsMatch}
 use Rattle.c8_net.specs.Errors.{peer_part}
 use Rattle.c8_net.specs.declared.error.PeerError.{PeerError}

@@ -13,7 +13,7 @@ use Rattle.c8_peer.specs.Peer.{PeerValue, known_by, begun_by, IsSound}
 use Rattle.c8_peer.specs.Runs.{TellsTruly}
 use Rattle.c8_peer.specs.TrueChecks.{HasTrueChecks, HasTrueLast}
 use Rattle.c8_net.specs.declared.error.PeerError.TheVariants.{Open, Lost}
-use Rattle.c8_keys.specs.declared.lines.Played.{Played}
+use Rattle.c8_texts.specs.declared.lines.Played.{Played}
 use Rattle.c8_live.specs.declared.error.SessionError.{SessionError}
 use Rattle.c8_live.specs.declared.error.SessionError.TheVariants as sessions
 use Rattle.c8_transport.specs.declared.error.WireFailed.TheVariants as failures

@@ -5,8 +5,8 @@ use Rattle.c8_command.specs.declared.status.Status.TheVariants.{Done}
 use Rattle.c8_game.specs.Rules.{Rules}
 use Rattle.c8_files.specs.Journals.{OfDisk}
 use Rattle.c8_files.specs.declared.journal.JournalDisk.{JournalDisk}
-use Rattle.c8_keys.specs.Report.{IsTold, Reports}
-use Rattle.c8_keys.specs.declared.lines.Played.{Played}
+use Rattle.c8_texts.specs.Report.{IsTold, Reports}
+use Rattle.c8_texts.specs.declared.lines.Played.{Played}
 use Rattle.c8_refusals.specs.declared.error.OpenError.TheVariants as opens
 use Rattle.c8_udp.specs.declared.error.SocketError.TheVariants as sockets
 use Rattle.c8_net.specs.Errors.{peer_part}

@@ -4,7 +4,7 @@ use Rattle.c8_command.specs.declared.refusal.Part.{Part}
 use Rattle.c8_command.specs.declared.refusal.Part.TheVariants as parts
 use Rattle.c8_disk.specs.Errors as disks
 use Rattle.c8_game.specs.Errors as games
-use Rattle.c8_keys.specs.Errors.{keys_error_number}
+use Rattle.c8_texts.specs.Errors.{keys_error_number}
 use Rattle.c8_refusals.specs.declared.error.OpenError.{OpenError}
 use Rattle.c8_refusals.specs.declared.error.OpenError.TheVariants as openings
 use Rattle.c8_live.specs.declared.error.SessionError.{SessionError}

@@ -13,8 +13,8 @@ use Rattle.c8_peer.specs.Peer.{PeerValue, known_by, begun_by}
 use Rattle.c8_peer.specs.TrueChecks.{HasTrueLast}
 use Rattle.c8_refusals.specs.declared.error.OpenError.{OpenError}
 use Rattle.c8_refusals.specs.declared.error.OpenError.TheVariants as opens
-use Rattle.c8_keys.specs.KeySets.{IsFaultOfSets}
-use Rattle.c8_keys.specs.declared.lines.Played.{Played}
+use Rattle.c8_texts.specs.KeySets.{IsFaultOfSets}
+use Rattle.c8_texts.specs.declared.lines.Played.{Played}
 use Rattle.c8_live.specs.declared.error.SessionError.{SessionError}
 use Rattle.c8_session.specs.Runs.{HasRunOn, IsStopped}
 use Rattle.c8_live.specs.Ends.{IsEnd}

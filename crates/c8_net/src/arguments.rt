@@ -1,11 +1,11 @@
 //! The options of the command `peer`, and what they ask for.
 
 use crate::help::PEER_ENDING;
-use c8_front::options::{
+use c8_command::options::{
     CHECKPOINT, GAME, LOCAL, PATIENCE, RELAY, REMOTES, ROOM, SECRET, STOP, WATCH_SECRET, WATCH5,
     WATCH6,
 };
-use c8_front::{Argument, Outline, is_explained, word_of};
+use c8_command::{Argument, Outline, is_explained, word_of};
 use c8_game::Player;
 use c8_udp::{MOST_WATCHERS, Named};
 use clap::ArgMatches;

@@ -6,9 +6,9 @@ ghost use Rattle.c8_net.specs.Errors.{peer_part, peer_error_number, error_of_ses
 use c8_command::{Part, Refusal};
 use c8_disk::DiskError;
 use c8_game::GameError;
-use c8_keys::KeysError;
 use c8_live::SessionError;
 use c8_peer::OpenError;
+use c8_texts::KeysError;
 use c8_transport::SecretError;
 use c8_udp::{SocketError, SocketFault};
 use thiserror::Error;

@@ -23,7 +23,7 @@ mod seals;
 mod stage;
 
 pub use arguments::{Asked, PEER, asked_for, number_of};
-pub use c8_front::options;
+pub use c8_command::options;
 pub use command::{peer, peer_given, perform, perform_given, refuse, refuse_among};
 pub use error::{PeerError, Unopened};
 pub use fault::{Fault, game_at};

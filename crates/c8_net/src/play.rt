@@ -2,7 +2,7 @@
 
 ghost use Rattle.std.specs.Prelude.{◌≡◌, ◌+◌, ℕ, length, IfOk, IfErr, IfSome};
 ghost use Rattle.c8_game.specs.Rules.{Rules};
-ghost use Rattle.c8_keys.specs.KeySets.{AreSetsOf};
+ghost use Rattle.c8_texts.specs.KeySets.{AreSetsOf};
 ghost use Rattle.c8_live.specs.Published.{MayShow};
 ghost use Rattle.c8_peer.specs.Opened.{IsOpened};
 ghost use Rattle.c8_peer.specs.Peer.{PeerValue};
@@ -17,12 +17,12 @@ use crate::stage::Stage;
 use c8_command::{TextError, text_of};
 use c8_disk::{Disk, DiskError};
 use c8_game::{Game, Keys, Player};
-use c8_keys::{KeysError, Played, key_sets};
 use c8_live::laws::{machines_begin_where_they_did, true_checks_show_the_serial_run};
 use c8_live::tell_end;
 use c8_peer::Peer;
 use c8_session::laws::peers_run_on;
 use c8_session::{Life, Session};
+use c8_texts::{KeysError, Played, key_sets};
 use c8_transport::Sealed;
 use c8_udp::{Addresses, Bell, MOST_WATCHERS, PolledUdp};
 use c8_wire::Watcher;

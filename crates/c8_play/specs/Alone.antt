@@ -5,7 +5,7 @@ use Rattle.c8_game.specs.declared.row.Row.{Row}
 use Rattle.c8_game.specs.declared.row.Keys.{Keys}
 use Rattle.c8_machine.specs.State.{state}
 use Rattle.c8_machine.specs.Serial.{serial}
-use Rattle.c8_keys.specs.declared.lines.Played.{Played}
+use Rattle.c8_texts.specs.declared.lines.Played.{Played}
 use Rattle.c8_play.specs.declared.console.Console.{Ghosts}
 use Rattle.c8_play.specs.declared.desk.Desk.{Desk}
 use Rattle.c8_play.specs.Typing.{Typing, HasRead, AreHeld, HasCounted}

@@ -4,11 +4,11 @@ use Rattle.clap.specs.Matches.{found_of, one_text}
 use Rattle.clap.specs.declared.parser.matches.ArgMatches.{ArgMatches}
 use Rattle.c8_command.specs.declared.status.Status.{Status}
 use Rattle.c8_command.specs.declared.status.Status.TheVariants.{Done}
-use Rattle.c8_front.specs.declared.front.Terminals.{Terminals}
+use Rattle.c8_command.specs.declared.front.Terminals.{Terminals}
 use Rattle.c8_game.specs.Rules.{Rules}
 use Rattle.c8_game.specs.declared.row.Row.{Row}
-use Rattle.c8_keys.specs.Report.{Reports}
-use Rattle.c8_keys.specs.declared.lines.Played.{Played}
+use Rattle.c8_texts.specs.Report.{Reports}
+use Rattle.c8_texts.specs.declared.lines.Played.{Played}
 use Rattle.c8_machine.specs.Serial.{serial}
 use Rattle.c8_machine.specs.State.{state}
 use Rattle.c8_net.specs.Answers.{HasReported}

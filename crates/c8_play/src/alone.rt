@@ -9,8 +9,8 @@ use crate::console::Console;
 use crate::desk::Desk;
 use crate::key_row::KeyRow;
 use c8_game::{Game, Row};
-use c8_keys::Played;
 use c8_machine::Machine;
+use c8_texts::Played;
 use std::time::Duration;
 
 /// Plays a game at a desk, frame by frame: to its last frame, for `frames` frames, or until the person quits. The row below

@@ -5,7 +5,7 @@ ghost use Rattle.c8_play.specs.Answers.{WantsReport, WantsNoReport};
 
 use crate::desk::Tempo;
 use crate::help::PLAY_ENDING;
-use c8_front::{Argument, Form, Outline, Terminals, word_of};
+use c8_command::{Argument, Form, Outline, Terminals, word_of};
 use c8_game::Player;
 use c8_net::options::{
     CHECKPOINT, GAME, LOCAL, PATIENCE, RELAY, REMOTES, ROOM, SECRET, STOP, WATCH_SECRET, WATCH5,

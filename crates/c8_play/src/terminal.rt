@@ -2,7 +2,7 @@
 
 use crate::console::{Console, Gone, KEY_BYTES, LOWEST, NARROWEST};
 use crate::exchange::Exchange;
-use c8_front::System;
+use c8_command::System;
 use c8_terminal::{ENTER, LEAVE};
 use mio::event::Source;
 use mio::{Events, Interest, Poll, Token};

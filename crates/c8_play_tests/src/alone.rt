@@ -4,8 +4,8 @@ ghost use Rattle.std.specs.Prelude.{◌≤◌};
 
 use crate::console::{Log, Marks, Sent, Still, Written};
 use c8_game::Game;
-use c8_keys::{Played, play};
 use c8_play::{Chime, Desk, KeyRow, Tempo, play_alone};
+use c8_texts::{Played, play};
 use std::alloc::Global;
 use std::io::Write;
 use std::time::Duration;

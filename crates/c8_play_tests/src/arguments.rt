@@ -1,6 +1,5 @@
 //! Arguments that cannot be read.
-use c8_command::Status;
-use c8_front::{status_at, words_in};
+use c8_command::{Status, status_at, words_in};
 use std::alloc::Global;
 use std::io;
 

@@ -1,7 +1,7 @@
 //! The pictures of a watched match, and their times by a clock of the test.
 ghost use Rattle.std.specs.Prelude.{◌≡◌};
 
-use c8_front::{Terminals, Threaded, command_of};
+use c8_command::{Terminals, Threaded, command_of};
 use c8_game::Game;
 use c8_terminal::{ENTER, LEAVE};
 use c8_transport::{Losses, Relaying, Traffic, Wire, WireFailed};

@@ -1,7 +1,7 @@
 //! Two people, each at a console of their own, who play over the loopback.
 
 use crate::console::{Log, Marks, Sent, Written};
-use c8_front::System;
+use c8_command::System;
 use c8_game::Player;
 use c8_net::{Asked, perform};
 use c8_play::{Ending, KeyWords, Live, Tempo};

@@ -3,11 +3,10 @@
 use c8_command::{Refusal, Site, TextError, TextsError};
 use c8_disk::DiskError;
 use c8_game::GameError;
-use c8_keys::{KeysError, RunError};
 use c8_net::PeerError;
 use c8_peer::OpenError;
 use c8_script::{ScriptError, SimError};
-use c8_show::{HexError, ShowError};
+use c8_texts::{HexError, KeysError, RunError, ShowError};
 use std::fmt::Display;
 
 /// Writes both lines, and returns whether that succeeded.

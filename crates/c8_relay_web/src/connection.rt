@@ -15,7 +15,7 @@ use crate::reply::{ACCEPTED, HEAD_END, Refused};
 use crate::request::{Asked, Upgrade, asked_in};
 use crate::shared::Shared;
 use c8_relay::{Address, LONGEST_READ};
-use c8_relay_udp::bits_of;
+use c8_udp::bits_of;
 use mio::net::TcpStream;
 use mio::{Interest, Registry, Token};
 use std::io;

@@ -5,7 +5,7 @@ ghost use Rattle.c8_relay_web.specs.Connections.{IsConnection};
 use crate::site::Site;
 use crate::web::Web;
 use c8_relay::{Address, Ether, LONGEST_READ};
-use c8_relay_udp::{Passed, Socket};
+use c8_udp::{Passed, RelaySocket};
 use mio::net::TcpListener;
 use mio::{Events, Registry, Token};
 use std::io;
@@ -20,12 +20,12 @@ const MOST_TRIES: usize = 16;
 
 /// Opens a UDP socket, and a listener at the TCP port of its number. Where the system chooses the port, another one is tried
 /// if that number is taken.
-fn sockets<R: Net>(rt: &R, local: SocketAddr) -> io::Result<(Socket, TcpListener)>
+fn sockets<R: Net>(rt: &R, local: SocketAddr) -> io::Result<(RelaySocket, TcpListener)>
     ensures sent { IfOk result (λ both. both.0.passed.sent.items ≡ []) }
     ensures received { IfOk result (λ both. both.0.passed.received.items ≡ []) }
 {
     for _ in 0..MOST_TRIES {
-        let socket = Socket::open(rt, local)?;
+        let socket = RelaySocket::open(rt, local)?;
         match TcpListener::bind(rt, socket.local()?) {
             Ok(listener) => return Ok((socket, listener)),
             Err(error) if local.port() != 0 || error.kind() != ErrorKind::AddrInUse => {
@@ -40,7 +40,7 @@ fn sockets<R: Net>(rt: &R, local: SocketAddr) -> io::Result<(Socket, TcpListener
 /// A UDP socket, and all connections. The two take turns, so that a flood of one does not hold up the other.
 #[derive(Drop)]
 pub struct Hub {
-    socket: Socket,
+    socket: RelaySocket,
     web: Web,
     /// Whether the socket may have something to read.
     is_socket_ready: bool,

@@ -6,7 +6,7 @@ use crate::hub::Hub;
 use crate::numbers::MOST_CONNECTIONS;
 use arrayvec::ArrayString;
 use c8_relay::{Relay, leave};
-use c8_relay_udp::{Counts, batch};
+use c8_udp::{Counts, batch};
 use mio::{Events, Poll, Registry};
 use std::fmt::Write as _;
 use std::io;

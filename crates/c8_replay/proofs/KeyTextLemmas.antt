@@ -21,7 +21,7 @@ use Rattle.c8_game.specs.Rules.{Rules}
 use Rattle.c8_game.specs.checked.FaultLaws.{faultless_none, faultless_more}
 use Rattle.c8_game.specs.declared.row.Keys.{Keys}
 use Rattle.c8_game.specs.declared.row.Row.{Row}
-use Rattle.c8_keys.specs.KeyLines.{is_key_line, row_of, key_line_fault}
+use Rattle.c8_texts.specs.KeyLines.{is_key_line, row_of, key_line_fault}
 use Rattle.c8_known.specs.Known.{PlayerValue, KnownValue, player_in, IsKnown, IsOfGame}
 use Rattle.c8_known.specs.Confirmed.{input_of, or_empty, confirmed, row, rows_below}
 use Rattle.c8_known.specs.checked.ConfirmedLaws.{confirmed_is, nobody_past}

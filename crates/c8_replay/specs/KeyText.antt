@@ -8,7 +8,7 @@ use Rattle.c8_game.specs.Faults.{AreFaultless}
 use Rattle.c8_game.specs.Rules.{Rules}
 use Rattle.c8_game.specs.declared.row.Keys.{Keys}
 use Rattle.c8_game.specs.declared.row.Row.{Row}
-use Rattle.c8_keys.specs.KeyLines.{key_line_fault, row_of}
+use Rattle.c8_texts.specs.KeyLines.{key_line_fault, row_of}
 
 -- a set has sixteen keys
 abbrev pub IsSet : Keys → Type 0

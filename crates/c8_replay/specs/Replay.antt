@@ -9,8 +9,8 @@ use Rattle.c8_game.specs.Rules.{Rules}
 use Rattle.c8_game.specs.declared.error.GameError.{GameError}
 use Rattle.c8_game.specs.declared.error.GameError.TheVariants as games
 use Rattle.c8_game.specs.declared.row.Row.{Row}
-use Rattle.c8_keys.specs.Report.{Reports}
-use Rattle.c8_keys.specs.declared.lines.Played.{Played}
+use Rattle.c8_texts.specs.Report.{Reports}
+use Rattle.c8_texts.specs.declared.lines.Played.{Played}
 use Rattle.c8_known.specs.Confirmed.{confirmed, rows_below}
 use Rattle.c8_known.specs.Known.{KnownValue}
 use Rattle.c8_log.specs.Slots.{kept}

@@ -1,7 +1,7 @@
 //! The options of the command `replay`, and what they ask for.
 
 use crate::help::REPLAY_ENDING;
-use c8_front::{Argument, Outline, is_explained, word_of};
+use c8_command::{Argument, Outline, is_explained, word_of};
 use clap::ArgMatches;
 use clap::builder::ValueParser;
 

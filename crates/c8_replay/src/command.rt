@@ -2,7 +2,7 @@
 
 ghost use Rattle.std.specs.Prelude.{◌≡◌, ◌≢◌, IfOk};
 ghost use Rattle.c8_command.specs.declared.status.Status.TheVariants as statuses;
-ghost use Rattle.c8_keys.specs.Report.{Reports};
+ghost use Rattle.c8_texts.specs.Report.{Reports};
 ghost use Rattle.c8_replay.specs.Replay.{EndsReplay, EndsReplayOf, HasReplayed, IsPrinted};
 
 use crate::arguments::{Asked, asked_of};
@@ -10,12 +10,11 @@ use crate::error::ReplayFault;
 use crate::screening::screen_journal;
 use crate::showing::{Shown, show_journal};
 use c8_audit::{JournalError, read_image};
-use c8_command::{Refusal, Site, Status, Text, TextsError, both, read_file};
-use c8_front::{System, is_same_file};
+use c8_command::{Refusal, Site, Status, System, Text, TextsError, both, is_same_file, read_file};
+use c8_files::{NO_TEXT, ProgramError, is_binary, is_program, text_of};
 use c8_game::GameError;
-use c8_keys::{Played, game_site, write_report};
 use c8_play::Terminal;
-use c8_program::{NO_TEXT, ProgramError, is_binary, is_program, text_of};
+use c8_texts::{Played, game_site, write_report};
 use clap::ArgMatches;
 use std::alloc::Global;
 use std::fs::File;

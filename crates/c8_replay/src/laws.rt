@@ -3,8 +3,8 @@
 ghost use Rattle.std.specs.Prelude.{ℕ, List};
 ghost use Rattle.c8_game.specs.Rules.{Rules};
 ghost use Rattle.c8_game.specs.declared.row.Row.{Row};
-ghost use Rattle.c8_keys.specs.KeyLines.{IsRunOf};
-ghost use Rattle.c8_keys.specs.declared.lines.Played.{Played};
+ghost use Rattle.c8_texts.specs.KeyLines.{IsRunOf};
+ghost use Rattle.c8_texts.specs.declared.lines.Played.{Played};
 ghost use Rattle.c8_replay.specs.KeyText.{SpellRows};
 ghost use Rattle.c8_replay.specs.Replay.{IsRunOfRows};
 

@@ -10,10 +10,10 @@ use crate::page_text::{
     AFTER_PICTURES, BEFORE_DROPS, BEFORE_KEYS, BEFORE_PICTURES, BEFORE_PLAYERS,
 };
 use c8_game::{Game, Keys, Player};
-use c8_keys::Played;
 use c8_known::Known;
 use c8_machine::Machine;
 use c8_screen::{HEIGHT, Screen};
+use c8_texts::Played;
 use std::alloc::{AllocError, Global};
 use std::io::Write;
 

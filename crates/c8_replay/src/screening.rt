@@ -11,9 +11,9 @@ use crate::showing::{frames_of, run_rows};
 use crate::strokes::Ask;
 use c8_audit::known_in;
 use c8_game::Game;
-use c8_keys::Played;
 use c8_known::Known;
 use c8_play::Console;
+use c8_texts::Played;
 use std::alloc::Global;
 
 /// Shows the match of a journal's bytes on a console, until the person there quits. The errors are those of

@@ -13,9 +13,9 @@ use crate::key_text::key_text;
 use crate::page::add_page;
 use c8_audit::{JournalError, known_in};
 use c8_game::{Game, GameError};
-use c8_keys::Played;
 use c8_known::Known;
 use c8_machine::Machine;
+use c8_texts::Played;
 use std::alloc::Global;
 
 /// The result of `show_journal`.

@@ -1,7 +1,7 @@
 //! The options of the command `rig`, and what they ask for.
 
 use crate::rig_help::RIG_ENDING;
-use c8_front::{Argument, Outline, is_explained, word_of};
+use c8_command::{Argument, Outline, is_explained, word_of};
 use clap::ArgMatches;
 use clap::builder::ValueParser;
 

@@ -1,7 +1,7 @@
 //! The options of the command `sim`.
 
 use crate::sim_help::SIM_ENDING;
-use c8_front::{Argument, Form, Outline};
+use c8_command::{Argument, Form, Outline};
 
 /// The command `sim`.
 pub static SIM: Outline = Outline {

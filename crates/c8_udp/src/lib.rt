@@ -7,30 +7,40 @@
 //! the system; a test can supply its own. That of a match is a [`Route`]: straight to the others, or through a relay, as a
 //! [`Membership`] asks. [`address_at`] finds the addresses of hosts by their names,
 //! [`Reached`] all that a command line names ([`Named`]), and [`NoAddress`] says why a word is none.
+//!
+//! Packets over UDP as an ether ([`RelaySocket`]), and what a relay did with them, in numbers ([`batch`], [`Counts`]).
 #![tactic(auto)]
 
 mod addresses;
 mod contacts;
+mod counts;
 mod error;
+mod ether;
 pub mod laws;
 mod letter;
 mod membership;
 mod names;
 mod no_address;
+mod passed;
 mod polled;
 mod reached;
 mod route;
+mod serving;
 mod socket;
 mod udp;
 
 pub use addresses::{Addresses, MOST_WATCHERS, Remote, refused_address};
+pub use counts::Counts;
 pub use error::{SocketError, SocketFault};
+pub use ether::{RelaySocket, bits_of};
 pub use letter::Letter;
 pub use membership::Membership;
 pub use names::address_at;
 pub use no_address::{LEARNT, NoAddress, Wanted};
+pub use passed::Passed;
 pub use polled::{Bell, PolledUdp};
 pub use reached::{Named, Reached, Unreached, is_same_place};
 pub use route::Route;
+pub use serving::batch;
 pub use socket::{Socket, SystemSocket};
 pub use udp::Udp;

@@ -8,7 +8,7 @@ use Rattle.c8_machine.specs.State.{state}
 use Rattle.c8_machine.specs.Serial.{serial}
 use Rattle.c8_spectator.specs.Growth.{IsStillWatched}
 use Rattle.c8_spectator.specs.Watching.{WatchValue, first_watch}
-use Rattle.c8_keys.specs.declared.lines.Played.{Played}
+use Rattle.c8_texts.specs.declared.lines.Played.{Played}
 use Rattle.c8_transport.specs.declared.error.WireFailed.{WireFailed}
 use Rattle.c8_transport.specs.declared.wire.Wire.{Ghosts}
 use Rattle.c8_watch.specs.Turns.{AreTurns}

@@ -4,7 +4,7 @@ use Rattle.c8_command.specs.Status.{status_of_outcome}
 use Rattle.c8_command.specs.declared.status.Status.{Status}
 use Rattle.c8_game.specs.Rules.{Rules}
 use Rattle.c8_game.specs.declared.row.Row.{Row}
-use Rattle.c8_keys.specs.declared.lines.Played.{Played}
+use Rattle.c8_texts.specs.declared.lines.Played.{Played}
 use Rattle.c8_machine.specs.Serial.{serial}
 use Rattle.c8_machine.specs.State.{state}
 use Rattle.c8_net.specs.Errors.{peer_part}

@@ -1,7 +1,7 @@
 //! The options of the command `watch`, and what they ask for.
 
 use crate::help::WATCH_ENDING;
-use c8_front::{Argument, Form, Outline, is_explained, word_of};
+use c8_command::{Argument, Form, Outline, is_explained, word_of};
 use c8_net::number_of;
 use c8_net::options::{LOCAL, RELAY};
 use c8_wire::Watcher;

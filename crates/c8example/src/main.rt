@@ -4,10 +4,10 @@
 
 use c8_disk::MemDisk;
 use c8_game::{Game, Keys, Player};
-use c8_keys::{Played, write_report};
 use c8_live::{Packet, Putter, Taker, inlet, make_turn};
 use c8_peer::Peer;
 use c8_session::Session;
+use c8_texts::{Played, write_report};
 use c8_transport::{Wire, WireFailed};
 use c8_wire::Seat;
 use std::alloc::Global;

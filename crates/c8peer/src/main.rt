@@ -2,8 +2,7 @@
 //! takes less time to prove and build. The script `c8play` starts it for these commands.
 #![tactic(auto)]
 
-use c8_command::Status;
-use c8_front::{Terminals, Threaded, Unhurried, line_of, status_at, tell, words_in};
+use c8_command::{Status, Terminals, Threaded, Unhurried, line_of, status_at, tell, words_in};
 use c8_host::{match_commands, match_given};
 use std::env::Args;
 use std::io::{IsTerminal, Read, Write};

@@ -1,18 +1,17 @@
 //! The command line.
 
 use crate::help::ENDING;
-use c8_command::Status;
-use c8_front::{
-    RUN, SHOW, Terminals, Threaded, is_explained, status_at, tell, with_commands, word_of, words_in,
+use c8_command::{
+    RUN, SHOW, Status, Terminals, Threaded, is_explained, status_at, tell, with_commands, word_of,
+    words_in,
 };
 use c8_host::{match_commands, match_given};
 use c8_journals::{JOURNAL, journal_given};
 use c8_judge::{AUDIT, audit_given};
-use c8_keys::run_files;
 use c8_relay_web::{RELAY_COMMAND, relay_given};
 use c8_replay::{REPLAY, replay_given};
 use c8_script::{RIG, SIM, rig_given, sim_given};
-use c8_show::show;
+use c8_texts::{run_files, show};
 use clap::{ArgMatches, Command};
 use std::alloc::{AllocError, Global};
 use std::env::Args;

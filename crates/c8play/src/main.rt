@@ -1,13 +1,13 @@
 //! c8play: two to four people play CHIP-8 programs together over UDP.
 //!
 //! `commands` has the whole command line: the table of c8_host, and `run`, `relay`, `replay`, `audit`, `journal`, `sim`, `rig` and `show`. A
-//! command and its options are in the crate that runs it, but the options of `run` and `show` in c8_front.
+//! command and its options are in the crate that runs it, but the options of `run` and `show` in c8_command.
 #![tactic(auto)]
 
 mod commands;
 mod help;
 
-use c8_front::{Terminals, Unhurried};
+use c8_command::{Terminals, Unhurried};
 use commands::answer;
 use std::env;
 use std::io::IsTerminal;

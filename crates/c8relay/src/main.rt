@@ -1,8 +1,7 @@
 //! c8relay: carries the datagrams of matches between players who cannot reach each other.
 #![tactic(auto)]
 
-use c8_command::Status;
-use c8_front::{command_of, status_at, tell, words_in};
+use c8_command::{Status, command_of, status_at, tell, words_in};
 use c8_relay_web::{RELAY, relay_given};
 use std::env::Args;
 use std::fs::File;

@@ -2,9 +2,8 @@
 //! `c8play` starts it for this command.
 #![tactic(auto)]
 
-use c8_command::Status;
-use c8_front::{RUN, is_explained, line_of, status_at, tell, word_of, words_in};
-use c8_keys::run_files;
+use c8_command::{RUN, Status, is_explained, line_of, status_at, tell, word_of, words_in};
+use c8_texts::run_files;
 use std::io::{IsTerminal, Write};
 use std::process::ExitCode;
 use std::{env, io};

@@ -2,9 +2,8 @@
 //! `c8play` starts it for that command.
 #![tactic(auto)]
 
-use c8_command::Status;
-use c8_front::{SHOW, is_explained, line_of, status_at, tell, word_of, words_in};
-use c8_show::show;
+use c8_command::{SHOW, Status, is_explained, line_of, status_at, tell, word_of, words_in};
+use c8_texts::show;
 use std::io::{IsTerminal, Write};
 use std::process::ExitCode;
 use std::{env, io};

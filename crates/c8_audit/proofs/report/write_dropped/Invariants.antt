@@ -1,5 +1,5 @@
 -- What was written of the players before this one, if they were dropped, was only added.
-use Rattle.c8_keys.specs.Report.{Grows}
+use Rattle.c8_texts.specs.Report.{Grows}
 use Rattle.c8_audit.proofs.report.write_dropped.Given as goal
 
 -- some text was added so far

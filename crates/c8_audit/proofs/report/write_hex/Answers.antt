@@ -2,7 +2,7 @@
 use Rattle.std.proofs.Common.{false}
 use Rattle.std.specs.Fmt.{digits_output, padded_integral, shown_prefix, radix_prefix}
 use Rattle.std.specs.Io.KnownBytes.{Appends}
-use Rattle.c8_keys.specs.checked.Grows.{grows_then}
+use Rattle.c8_texts.specs.checked.Grows.{grows_then}
 use Rattle.c8_audit.proofs.PrintLemmas.{some_of}
 use Rattle.c8_audit.proofs.report.write_hex.Goals as goal
 

@@ -1,5 +1,5 @@
 -- The digits of the bytes so far were only added.
-use Rattle.c8_keys.specs.Report.{Grows}
+use Rattle.c8_texts.specs.Report.{Grows}
 use Rattle.c8_audit.proofs.report.write_hex.Given as goal
 
 -- some text was added so far

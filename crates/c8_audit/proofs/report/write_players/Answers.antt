@@ -1,5 +1,5 @@
 -- The line of one more player is added behind the others.
-use Rattle.c8_keys.specs.checked.Grows.{grows_then}
+use Rattle.c8_texts.specs.checked.Grows.{grows_then}
 use Rattle.c8_audit.proofs.report.write_players.Goals as goal
 
 pub loop-number-preserved : goal.loop-number-preserved

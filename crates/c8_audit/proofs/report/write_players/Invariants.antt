@@ -1,5 +1,5 @@
 -- The lines of the journals before this player's were only added.
-use Rattle.c8_keys.specs.Report.{Grows}
+use Rattle.c8_texts.specs.Report.{Grows}
 use Rattle.c8_audit.proofs.report.write_players.Given as goal
 
 -- some text was added so far

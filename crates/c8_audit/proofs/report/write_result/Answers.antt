@@ -1,5 +1,5 @@
 -- The line of the result is its count, the digits of the digest and a line feed, one behind another.
-use Rattle.c8_keys.specs.checked.Grows.{grows_by, grows_then, grows_last}
+use Rattle.c8_texts.specs.checked.Grows.{grows_by, grows_then, grows_last}
 use Rattle.c8_audit.proofs.report.write_result.Goals as goal
 
 pub returns : goal.returns

@@ -1,6 +1,0 @@
-pub mod Errors
-pub mod KeyLines
-pub mod KeySets
-pub mod Report
-pub mod Run
-pub mod checked

@@ -1,6 +1,0 @@
-pub mod Asked
-pub mod Errors
-pub mod Faults
-pub mod KeyLists
-pub mod Outcomes
-pub mod checked
