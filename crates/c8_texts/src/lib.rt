@@ -9,19 +9,19 @@
 #![tactic(auto)]
 
 mod command;
+mod datagram;
 mod error;
 mod explain;
 mod lines;
 mod report;
 mod sets;
-mod show;
 mod show_error;
 
 pub use command::{run, run_files};
+pub use datagram::show;
 pub use error::{KeysError, RunError};
 pub use explain::{game_site, key_sets_site};
 pub use lines::{Played, faulty_key_line, play};
 pub use report::write_report;
 pub use sets::{faulty_key_set, key_sets};
-pub use show::show;
 pub use show_error::{HexError, ShowError};

@@ -11,7 +11,7 @@ use Rattle.c8_command.specs.Status.{status_of_outcome}
 use Rattle.c8_texts.specs.declared.show_error.ShowError.{ShowError}
 use Rattle.c8_texts.specs.declared.show_error.ShowError.TheVariants as errors
 use Rattle.c8_command.specs.declared.status.Status.{Status}
-use Rattle.c8_texts.proofs.show.show.Goals as goal
+use Rattle.c8_texts.proofs.datagram.show.Goals as goal
 
 -- what holds of the status that is answered
 told : {T E : Type 0} → (answer : Result T E) (status : T) {Q : T → Type 0} → ((x : T) → x ≡ status → Q x) → IfOk answer (λ x. x ≡ status)
