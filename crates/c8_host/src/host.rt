@@ -20,7 +20,8 @@ use c8_command::{Refusal, Site, Status, System, Terminals, is_explained, word_of
 use c8_files::{make_secret, random_bytes};
 use c8_game::{Game, Player};
 use c8_net::number_of;
-use c8_play::{Console, FIRST_ROW, KEY_BYTES, Terminal, rows_of};
+use c8_play::{Console, KEY_BYTES, Terminal};
+use c8_terminal::{FIRST_ROW, rows_of};
 use clap::ArgMatches;
 use std::alloc::{AllocError, Global};
 use std::fs::File;

@@ -4,12 +4,11 @@ ghost use Rattle.std.specs.Prelude.{◌≡◌, ◌≤◌};
 ghost use Rattle.c8_play.specs.Alone.{IsPlayedAlone, IsEndAlone};
 ghost use Rattle.c8_play.specs.Desk.{IsSameDesk};
 
-use crate::chime::Chime;
 use crate::console::Console;
 use crate::desk::Desk;
-use crate::key_row::KeyRow;
 use c8_game::{Game, Row};
 use c8_machine::Machine;
+use c8_terminal::{Chime, KeyRow};
 use c8_texts::Played;
 use std::time::Duration;
 

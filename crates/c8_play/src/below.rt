@@ -6,10 +6,8 @@ use crate::console::Console;
 use crate::desk::is_written;
 use arrayvec::ArrayVec;
 use c8_game::Lines;
+use c8_terminal::rows_of_line;
 use std::io::Write;
-
-/// The first row of the terminal below the picture and its row of text, with a row between.
-pub const FIRST_ROW: usize = 19;
 
 /// The most bytes that move the cursor to a row and clear it.
 const LONGEST_MOVE: usize = 32;
@@ -18,21 +16,6 @@ const LONGEST_MOVE: usize = 32;
 const WRAP: &[u8] = b"\x1b[?7h";
 
 const WRAP_NO_MORE: &[u8] = b"\x1b[?7l";
-
-/// How many rows lines take on a screen of so many columns. A line that is longer is wrapped by the terminal, so that it can be
-/// selected as one.
-pub fn rows_of(lines: &[u8], columns: usize) -> usize {
-    let mut rows: usize = 0;
-    for line in lines.split(|byte| *byte == b'\n') {
-        rows = rows.saturating_add(rows_of_line(line, columns));
-    }
-    rows
-}
-
-/// How many rows a line takes; an empty one takes none.
-fn rows_of_line(line: &[u8], columns: usize) -> usize {
-    line.len().div_ceil(columns.max(1))
-}
 
 /// Writes lines on a console below the picture, from a row on: those for which it has rows. Returns the next row, and whether
 /// all was written.

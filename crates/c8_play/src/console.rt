@@ -2,14 +2,12 @@
 
 ghost use Rattle.std.specs.Prelude.{◌≡◌, ◌≤◌, ◌++◌, ℕ, List, take, IfOk, OnErr};
 
+use c8_terminal::NARROWEST;
 use mio::event::Source;
 use std::time::Duration;
 
 /// The most bytes of keys that one read takes.
 pub const KEY_BYTES: usize = 64;
-
-/// The columns of the narrowest terminal.
-pub const NARROWEST: usize = 64;
 
 /// The rows of a terminal that does not say how many it has.
 pub const LOWEST: usize = 24;

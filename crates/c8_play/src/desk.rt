@@ -10,11 +10,11 @@ ghost use Rattle.c8_terminal.specs.Strokes.{noted};
 ghost use Rattle.c8_play.specs.Typing.{HasCome, HasRead, HasCounted, AreHeld, read_after, after_signals};
 ghost use Rattle.c8_play.specs.Desk.{typing, seen_at, drawn_at, IsSameDesk, MayForget, HasShown};
 
-use crate::below::{FIRST_ROW, write_lines};
+use crate::below::write_lines;
 use crate::console::{Console, KEY_BYTES};
 use c8_game::Keys;
 use c8_screen::Screen;
-use c8_terminal::{Beat, Decoder, Held, Lateness, Painter, Signal};
+use c8_terminal::{Beat, Decoder, FIRST_ROW, Held, Lateness, Painter, Signal};
 use mio::event::Source;
 use std::time::Duration;
 

@@ -8,13 +8,11 @@ ghost use Rattle.c8_play.specs.Desk.{IsSameDesk};
 ghost use Rattle.c8_play.specs.Frames.{IsFrame, IsSeen, HasPlayed, HasWaited, AreFrames, IsEnough, IsEndOfPlay};
 ghost use Rattle.c8_play.specs.Lead.{window_of, patience_of, frames_of};
 
-use crate::chime::Chime;
 use crate::console::Console;
 use crate::desk::{Desk, Tempo};
 use crate::ending::Ending;
-use crate::key_words::KeyWords;
 use crate::lead::{Lead, hindmost};
-use crate::status::{CLEAR, LONGEST_ROW, StatusRow};
+use crate::status::StatusRow;
 use arrayvec::ArrayVec;
 use c8_disk::Disk;
 use c8_game::{Game, Player};
@@ -24,7 +22,7 @@ use c8_net::{Asked, Ended, Line, Performance, Unopened, sealer_of};
 use c8_peer::Peer;
 use c8_session::Session;
 use c8_session::laws::peers_run_on;
-use c8_terminal::Lateness;
+use c8_terminal::{CLEAR_ROW, Chime, KeyWords, LONGEST_ROW, Lateness};
 use c8_transport::{Losses, Sealed, Wire};
 use std::io;
 use std::io::Write;
@@ -122,7 +120,7 @@ fn play_over<'g, D: Disk, W: Wire + Drop, C: Console + Drop, E: Write>(
 /// Shows for two seconds how a match ended, or until the person leaves.
 fn linger<C: Console + Drop>(desk: &mut Desk<C>, ending: Ending) {
     let mut row = ArrayVec::<u8, LONGEST_ROW>::new();
-    let _ = row.write_all(CLEAR);
+    let _ = row.write_all(CLEAR_ROW);
     let _ = ending.write(&mut row);
     desk.linger(&row);
 }

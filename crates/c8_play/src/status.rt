@@ -2,32 +2,16 @@
 
 mod text;
 
-use crate::chime::Chime;
-use crate::console::NARROWEST;
-use crate::key_words::KeyWords;
-use crate::reminder::Reminder;
 use arrayvec::ArrayVec;
 use c8_disk::Disk;
 use c8_game::{MOST_PLAYERS, Player};
 use c8_live::{Counters, Gauge, Reading, Standing};
 use c8_peer::Peer;
 use c8_session::Session;
+use c8_terminal::{Chime, KeyWords, LONGEST_ROW, LONGEST_WRITTEN, NARROWEST, Reminder, WIDEST};
 use c8_transport::{Losses, Relaying};
 use std::io::Write;
 use std::time::Duration;
-
-/// The most columns of a terminal that the row uses.
-pub(crate) const WIDEST: usize = 200;
-
-/// The most bytes of the row, with those that move the cursor and clear the row.
-pub const LONGEST_ROW: usize = 210;
-
-/// The most bytes that one frame writes for the row: the row, and a bell.
-pub(crate) const LONGEST_WRITTEN: usize = LONGEST_ROW + 1;
-
-/// Moves the cursor to the first column of row 17, below the screen, and clears the row. It comes before the text,
-/// because after a text up to the last column the cursor would still be on that column.
-pub(crate) const CLEAR: &[u8] = b"\x1b[17;1H\x1b[K";
 
 /// The numbers of the row.
 #[derive(Clone, Copy, Default)]

@@ -1,9 +1,9 @@
 //! The terminal of the process: the only file here that calls the system.
 
-use crate::console::{Console, Gone, KEY_BYTES, LOWEST, NARROWEST};
+use crate::console::{Console, Gone, KEY_BYTES, LOWEST};
 use crate::exchange::Exchange;
 use c8_command::System;
-use c8_terminal::{ENTER, LEAVE};
+use c8_terminal::{ENTER, LEAVE, NARROWEST};
 use mio::event::Source;
 use mio::{Events, Interest, Poll, Token};
 use std::fs::{File, OpenOptions};

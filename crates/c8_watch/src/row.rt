@@ -3,17 +3,12 @@
 use arrayvec::ArrayVec;
 use c8_game::Player;
 use c8_live::write_relaying;
+use c8_terminal::{CLEAR_ROW, NARROWEST};
 use c8_transport::{Losses, Relaying};
 use c8_wire::Watcher;
 use std::io;
 use std::io::Write;
 use std::time::Duration;
-
-/// Moves the cursor to the first column of row 17, below the screen, and clears the row.
-const CLEAR: &[u8] = b"\x1b[17;1H\x1b[K";
-
-/// The columns that the row uses.
-const COLUMNS: usize = 64;
 
 /// The most bytes of the row, with those that move the cursor.
 const LONGEST: usize = 80;
@@ -89,8 +84,8 @@ impl WatchRow {
     /// The row: each part that fits beside those before it, as a whole.
     fn composed(&self, now: Duration) -> ArrayVec<u8, LONGEST> {
         let mut row = ArrayVec::new();
-        let _ = row.write_all(CLEAR);
-        let most = CLEAR.len().saturating_add(COLUMNS);
+        let _ = row.write_all(CLEAR_ROW);
+        let most = CLEAR_ROW.len().saturating_add(NARROWEST);
         for part in 0..4 {
             let before = row.len();
             if self.write_part(&mut row, part, now).is_err() || row.len() > most {

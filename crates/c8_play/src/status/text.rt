@@ -1,9 +1,10 @@
 //! The text of the row, in parts.
 
-use crate::status::{CLEAR, LONGEST_ROW, Numbers, StatusRow};
+use crate::status::{Numbers, StatusRow};
 use arrayvec::ArrayVec;
 use c8_game::Player;
 use c8_live::{Reading, write_relaying};
+use c8_terminal::{CLEAR_ROW, LONGEST_ROW};
 use std::io;
 use std::io::Write;
 
@@ -70,8 +71,8 @@ impl StatusRow {
     /// Returns the row: each part that fits beside the more important ones, as a whole.
     pub(crate) fn composed(&self, waits: Option<Player>) -> ArrayVec<u8, LONGEST_ROW> {
         let mut row = ArrayVec::new();
-        let _ = row.write_all(CLEAR);
-        let most = CLEAR.len().saturating_add(self.columns);
+        let _ = row.write_all(CLEAR_ROW);
+        let most = CLEAR_ROW.len().saturating_add(self.columns);
         let mut names_keys = false;
         for part in PARTS {
             let before = row.len();

@@ -8,7 +8,7 @@ const SHOWN: u64 = 10;
 /// Whether a row shows the keys: before the game goes on, for ten seconds from then on, and for ten seconds after the person
 /// asks. All times are of one clock.
 #[derive(Clone, Copy, Debug, PartialEq, Eq)]
-pub(crate) struct Reminder {
+pub struct Reminder {
     now: Duration,
     /// Until when they are shown since the game goes on; `None` before that.
     begun: Option<Duration>,
@@ -19,7 +19,7 @@ pub(crate) struct Reminder {
 
 impl Reminder {
     /// Before the game goes on.
-    pub(crate) fn new() -> Reminder {
+    pub fn new() -> Reminder {
         Reminder {
             now: Duration::from_secs(0),
             begun: None,
@@ -29,12 +29,12 @@ impl Reminder {
     }
 
     /// The person asks for the keys.
-    pub(crate) fn ask(&mut self) {
+    pub fn ask(&mut self) {
         self.is_due = true;
     }
 
     /// Notes the time, and whether the game goes on.
-    pub(crate) fn note(&mut self, now: Duration, goes_on: bool) {
+    pub fn note(&mut self, now: Duration, goes_on: bool) {
         let until = now.saturating_add(Duration::from_secs(SHOWN));
         self.now = now;
         if goes_on && self.begun.is_none() {
@@ -47,12 +47,12 @@ impl Reminder {
     }
 
     /// Whether the keys are shown because the person asked.
-    pub(crate) fn is_asked(&self) -> bool {
+    pub fn is_asked(&self) -> bool {
         self.asked.is_some_and(|until| self.now < until)
     }
 
     /// Whether the keys are shown.
-    pub(crate) fn is_shown(&self) -> bool {
+    pub fn is_shown(&self) -> bool {
         self.is_asked() || self.begun.is_none_or(|until| self.now < until)
     }
 }

@@ -1,9 +1,8 @@
 //! The row of text below the screen of a person who plays alone: the keys of all players.
 
-use crate::console::NARROWEST;
 use crate::key_words::KeyWords;
 use crate::reminder::Reminder;
-use crate::status::{CLEAR, LONGEST_ROW, LONGEST_WRITTEN, WIDEST};
+use crate::text_row::{CLEAR_ROW, LONGEST_ROW, LONGEST_WRITTEN, NARROWEST, WIDEST};
 use arrayvec::ArrayVec;
 use c8_game::{Game, MOST_PLAYERS, Player};
 use std::io::Write;
@@ -57,7 +56,7 @@ impl KeyRow {
     pub fn row(&mut self, now: Duration, bell: &[u8]) -> &[u8] {
         self.reminder.note(now, true);
         let mut row = ArrayVec::new();
-        let _ = row.write_all(CLEAR);
+        let _ = row.write_all(CLEAR_ROW);
         if self.reminder.is_shown() {
             self.write_keys(&mut row);
         }
@@ -72,11 +71,11 @@ impl KeyRow {
 
     /// Writes the keys of each player, and how the game ends, if that fits.
     fn write_keys(&self, row: &mut ArrayVec<u8, LONGEST_ROW>) {
-        let most = CLEAR.len().saturating_add(self.columns);
+        let most = CLEAR_ROW.len().saturating_add(self.columns);
         for place in 0..MOST_PLAYERS {
             let (before, keys) = (row.len(), self.keys[place].bytes());
             let number = place.saturating_add(1);
-            let gap = if before == CLEAR.len() { "" } else { "  " };
+            let gap = if before == CLEAR_ROW.len() { "" } else { "  " };
             let is_written = keys.is_empty()
                 || write!(row, "{gap}{number}: ").is_ok() && row.write_all(keys).is_ok();
             if !is_written || row.len() > most {
@@ -84,7 +83,7 @@ impl KeyRow {
             }
         }
         let before = row.len();
-        if before > CLEAR.len() && (row.write_all(ENDS).is_err() || row.len() > most) {
+        if before > CLEAR_ROW.len() && (row.write_all(ENDS).is_err() || row.len() > most) {
             row.truncate(before);
         }
     }
