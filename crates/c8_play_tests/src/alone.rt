@@ -4,11 +4,11 @@ ghost use Rattle.std.specs.Prelude.{◌≤◌};
 
 use crate::console::{Log, Marks, Sent, Still, Written};
 use c8_game::Game;
-use c8_play::{Chime, Desk, KeyRow, Tempo, play_alone};
+use c8_play::{Desk, Tempo, play_alone};
+use c8_terminal::{Chime, KeyRow};
 use c8_texts::{Played, play};
 use std::alloc::Global;
 use std::io::Write;
-use std::time::Duration;
 
 /// The first frame draws four points in the upper left corner; nothing is drawn after that.
 pub const DRAWS: &[u8] =
@@ -151,43 +151,4 @@ fn strokes_make_what_key_lines_do(rt: HostRuntime) {
     assert!(rt; is_played(alloc, 60, &ESCAPE, 1_000, 13));
     assert!(rt; is_played(alloc, 120, &ESCAPE, 1_000, 14));
     assert!(rt; is_played(alloc, 20, &ESCAPE, 1_000, 12));
-}
-
-/// A game of two with the keys in words.
-const TEXT: &[u8] =
-    b"# keys 1: 1 up, q down, a serve\n# keys 2: 4 up, r down, f serve\nplayers 2\nipf 10\nframes 30\ndelay 0\nwindow 8\nseed 0\nmask1 0020\nmask2 2000\ncode a206d0011204f000\n";
-
-/// The milliseconds, whether the person asks, and what is then written.
-type Shown = (u64, bool, &'static [u8]);
-
-#[rattlefmt::skip]
-static SHOWN: [Shown; 6] = [
-    (0, false, b"\x1b[17;1H\x1b[K1: 1 up, q down, a serve  2: 4 up, r down, f serve  Escape ends"),
-    (9_999, false, b""),
-    (10_000, false, b"\x1b[17;1H\x1b[K"),
-    (11_000, true, b"\x1b[17;1H\x1b[K1: 1 up, q down, a serve  2: 4 up, r down, f serve  Escape ends"),
-    (20_999, false, b""),
-    (21_000, false, b"\x1b[17;1H\x1b[K"),
-];
-
-/// Whether the keys of all players are shown for ten seconds, and for ten seconds after the person asks.
-fn shows_all_keys(alloc: Global) -> bool {
-    let Ok(game) = Game::read(alloc, TEXT) else {
-        return false;
-    };
-    let mut row = KeyRow::new(&game, TEXT, 64);
-    for (millis, is_asked, wanted) in &SHOWN {
-        if *is_asked {
-            row.remind();
-        }
-        if row.row(Duration::from_millis(*millis), b"") != *wanted {
-            return false;
-        }
-    }
-    row.row(Duration::from_secs(22), b"\x07") == b"\x07".as_slice()
-}
-
-#[test]
-fn who_plays_alone_sees_all_keys(rt: HostRuntime) {
-    assert!(rt; shows_all_keys(rt.alloc()));
 }

@@ -1,6 +1,6 @@
 //! How a match ended, in words.
 
-use c8_game::Player;
+use crate::asked::ASKED;
 use c8_net::Asked;
 use c8_play::{Cause, Drawn, Ending, quoted, tell_ending};
 use std::alloc::Global;
@@ -8,29 +8,14 @@ use std::alloc::Global;
 /// What ended a match after how many of 36,000 frames, and the words.
 type Row = (Cause, u32, &'static str);
 
+#[rattlefmt::skip]
 static ROWS: [Row; 7] = [
     (Cause::Unbegun, 0, ""),
-    (
-        Cause::Over,
-        36_000,
-        "the match is over: all 36000 frames are confirmed",
-    ),
-    (
-        Cause::Dropped,
-        665,
-        "player 1 dropped you after 665 of 36000 frames",
-    ),
-    (
-        Cause::Left,
-        665,
-        "you left the match after 665 of 36000 frames",
-    ),
+    (Cause::Over, 36_000, "the match is over: all 36000 frames are confirmed"),
+    (Cause::Dropped, 665, "player 1 dropped you after 665 of 36000 frames"),
+    (Cause::Left, 665, "you left the match after 665 of 36000 frames"),
     (Cause::Alone, 2, "you left before anybody came"),
-    (
-        Cause::Strange,
-        2,
-        "you left: packets came with another secret, game or room",
-    ),
+    (Cause::Strange, 2, "you left: packets came with another secret, game or room"),
     (Cause::Stopped, 5, "5 of 36000 frames are confirmed"),
 ];
 
@@ -79,77 +64,47 @@ fn a_word_is_quoted_where_a_shell_needs_it(rt: HostRuntime) {
 fn asked_with(journal: &'static str) -> Asked<'static, 'static> {
     Asked {
         game: "my rally.game",
-        player: Player::CHAIR,
         journal,
-        local: "",
-        remotes: None,
-        relay: None,
-        watchers: [None, None],
-        secret: None,
-        watch_secret: None,
         room: 77,
-        has_room: true,
-        turns: 0,
-        patience: None,
-        stop: None,
-        checkpoint: 0,
-        progress: false,
-        says_end: false,
-        is_muted: true,
-        explain: false,
-        notices: &[],
+        ..ASKED
     }
 }
 
+/// The journal, what ended the match after how many frames, how the text begins, and how it ends.
+type Told = (&'static str, Cause, u32, &'static str, &'static str);
+
+/// The lines after a match that ended early and can go on, and after one that cannot. The words of the process stand between.
+#[rattlefmt::skip]
+static TOLD: [Told; 5] = [
+    ("one.journal", Cause::Left, 5, "to see it again: ./c8play replay 'my rally.game' one.journal --screen\nyou left the match after 5 of 36000 frames; to go on:\n  ./c8play", " --room 77\n"),
+    // nobody was there: nothing is to be seen
+    ("one.journal", Cause::Alone, 2, "you left before anybody came; to go on:\n  ./c8play", " --room 77\n"),
+    ("one.journal", Cause::Over, 36_000, "to see it again: ./c8play replay 'my rally.game' one.journal --screen\n", "\nthe match is over: all 36000 frames are confirmed\n"),
+    ("-", Cause::Over, 36_000, "the match is over", "the match is over: all 36000 frames are confirmed\n"),
+    ("-", Cause::Left, 5, "you left the match", "you left the match after 5 of 36000 frames; you cannot come back, since you kept no journal\n"),
+];
+
+fn told() -> &'static [Told] {
+    &TOLD
+}
+
 /// Whether this is said after a match.
-fn tells(alloc: Global, journal: &'static str, ending: Ending, wanted: (&str, &str)) -> bool {
-    let (begin, end) = wanted;
-    let mut told = Vec::new(alloc);
+fn is_said(alloc: Global, row: Told) -> bool {
+    let (journal, cause, confirmed, begin, end) = row;
+    let mut text = Vec::new(alloc);
     let drawn = Drawn {
         room: Some(77),
         word: None,
     };
-    tell_ending(alloc, &mut told, &asked_with(journal), ending, drawn).is_ok()
-        && told.starts_with(begin.as_bytes())
-        && told.ends_with(end.as_bytes())
+    let ending = ending(cause, confirmed);
+    tell_ending(alloc, &mut text, &asked_with(journal), ending, drawn).is_ok()
+        && text.starts_with(begin.as_bytes())
+        && text.ends_with(end.as_bytes())
 }
 
-/// The lines after a match that ended early and can go on, and after one that cannot. The words of the process stand between.
 #[test]
 fn who_may_come_back_is_told_how(rt: HostRuntime) {
-    let alloc = rt.alloc();
-    let again = "to see it again: ./c8play replay 'my rally.game' one.journal --screen\n";
-    let left =
-        "to see it again: ./c8play replay 'my rally.game' one.journal --screen\nyou left the match after 5 of 36000 frames; to go on:\n  ./c8play";
-    assert!(rt;
-        tells(
-            alloc,
-            "one.journal",
-            ending(Cause::Left, 5),
-            (left, " --room 77\n")
-        )
-    );
-    // nobody was there: nothing is to be seen
-    let alone = "you left before anybody came; to go on:\n  ./c8play";
-    assert!(rt;
-        tells(
-            alloc,
-            "one.journal",
-            ending(Cause::Alone, 2),
-            (alone, " --room 77\n")
-        )
-    );
-    let over = "the match is over: all 36000 frames are confirmed\n";
-    assert!(rt;
-        tells(
-            alloc,
-            "one.journal",
-            ending(Cause::Over, 36_000),
-            (again, over)
-        )
-    );
-    assert!(rt; tells(alloc, "-", ending(Cause::Over, 36_000), (over, over)));
-    let gone =
-        "you left the match after 5 of 36000 frames; you cannot come back, since you kept no journal\n";
-    assert!(rt; tells(alloc, "-", ending(Cause::Left, 5), (gone, gone)));
+    for row in told() {
+        assert!(rt; is_said(rt.alloc(), *row));
+    }
 }

@@ -6,7 +6,8 @@ use c8_host::{
     Invited, Ticket, card_text, digits_in, filled, invitation, link_name, long_link, own_addresses,
     short_link, typed,
 };
-use c8_play::{Desk, Tempo, rows_of};
+use c8_play::{Desk, Tempo};
+use c8_terminal::rows_of;
 use c8_transport::Secret;
 use std::alloc::Global;
 use std::fs;

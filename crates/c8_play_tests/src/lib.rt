@@ -1,11 +1,12 @@
 //! Tests of what people type and see: c8_play, what c8_watch draws, and texts that no command prints in `cases/` or in
 //! `tools/programs`.
 //!
-//! `console` has consoles with scripted keys. `alone` plays a game at one, `waits` and `three` matches whose others are
-//! absent, `pair` a match of two over the loopback. `rows` has the row below the screen, `endings` the words after a match,
-//! `friends` what `host` and `join` show and read, `pauses` the sleeps of a peer's threads, `disks` disks that are too slow.
-//! `drawing` has the pictures of a watched match, and `stop` its end after enough frames. `answers`, `refusals`, `arguments` and `readers` have lines of
-//! refusals. Functions without contracts lend the tables, so that a proof holds for any rows.
+//! `console` has consoles with scripted keys, `asked` what a match asks for. `alone` plays a game at a console, `waits` and
+//! `three` matches whose others are absent, `pair` a match of two over the loopback. `rows` has the row below the screen,
+//! `endings` the words after a match, `friends` what `host` and `join` show and read, `pauses` the sleeps of a peer's threads,
+//! `disks` disks that are too slow. `drawing` has the pictures of a watched match, and `stop` its end after enough frames.
+//! `answers` and `refusals` have lines of refusals. Functions without contracts lend the tables, so that a proof holds for any
+//! rows.
 #![tactic(auto)]
 
 #[cfg(test)]
@@ -13,7 +14,7 @@ mod alone;
 #[cfg(test)]
 mod answers;
 #[cfg(test)]
-mod arguments;
+mod asked;
 #[cfg(test)]
 mod console;
 #[cfg(test)]
@@ -28,8 +29,6 @@ mod friends;
 mod pair;
 #[cfg(test)]
 mod pauses;
-#[cfg(test)]
-mod readers;
 #[cfg(test)]
 mod refusals;
 #[cfg(test)]

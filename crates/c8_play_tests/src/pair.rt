@@ -1,10 +1,12 @@
 //! Two people, each at a console of their own, who play over the loopback.
 
+use crate::asked::ASKED;
 use crate::console::{Log, Marks, Sent, Written};
 use c8_command::System;
 use c8_game::Player;
 use c8_net::{Asked, perform};
-use c8_play::{Ending, KeyWords, Live, Tempo};
+use c8_play::{Ending, Live, Tempo};
+use c8_terminal::KeyWords;
 use std::fs;
 use std::net::{Ipv4Addr, SocketAddr, UdpSocket};
 use std::test::Fail;
@@ -52,21 +54,11 @@ where
         journal,
         local,
         remotes: Some(&[remote]),
-        relay: None,
-        watchers: [None, None],
-        secret: None,
-        watch_secret: None,
-        room: 3,
-        has_room: true,
         turns: 10_000,
-        patience: None,
         stop,
-        checkpoint: 0,
         progress: true,
         says_end: true,
-        is_muted: true,
-        explain: false,
-        notices: &[],
+        ..ASKED
     };
     let mut log = Log::new(rt.alloc());
     let mut ending = Ending::NONE;

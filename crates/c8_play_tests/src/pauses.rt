@@ -1,5 +1,6 @@
 //! Counts the sleeps of a peer's threads, and looks at how they end.
 
+use crate::asked::ASKED;
 use c8_disk::MemDisk;
 use c8_game::{Game, Player};
 use c8_net::{Asked, Pace, play_on, prepare};
@@ -87,26 +88,11 @@ where
     let game = Game::read(alloc, GAME).ok()?;
     let (local, remote) = ("127.0.0.1:0", "127.0.0.1:4999");
     let asked = Asked {
-        game: "",
-        player: Player::CHAIR,
         journal: "-",
         local,
         remotes: Some(&[remote]),
-        relay: None,
-        watchers: [None, None],
-        secret: None,
-        watch_secret: None,
-        room: 3,
-        has_room: true,
         turns: TURNS,
-        patience: None,
-        stop: None,
-        checkpoint: 0,
-        progress: false,
-        says_end: false,
-        is_muted: true,
-        explain: false,
-        notices: &[],
+        ..ASKED
     };
     let none = [None, None];
     let Ok(it) = prepare(

@@ -1,10 +1,10 @@
 //! The row of text below the screen.
 
-use c8_game::{Game, Player};
+use c8_game::Player;
 use c8_live::Standing;
-use c8_play::{Chime, KeyWords, StatusRow};
+use c8_play::StatusRow;
+use c8_terminal::{Chime, KeyWords};
 use c8_transport::{Losses, Relaying};
-use std::alloc::Global;
 use std::time::Duration;
 
 /// The time, the player for whom the match waits, and the text that is then written.
@@ -100,19 +100,30 @@ static OF_FOUR_WIDE: [Look; 1] = [
     Look { millis: 123_456_989, confirmed: 262_136, ticked: 262_144, rollbacks: 138, longest: 45, heard: [0, 0, 0, 0], is_alarmed: false, waits: Some(2), wanted: b"\x1b[17;1H\x1b[K262144/262136  no answer for 123456 s: same game, room and secret?  1: 123456889 ms  2: 123456889 ms  4: 123456889 ms  back 138, longest 45" },
 ];
 
+/// A peer that heard the players this often, and has not ticked yet.
+fn standing_of(heard: [u64; 4]) -> Standing {
+    Standing {
+        ticked: 0,
+        rollbacks: 0,
+        longest: 0,
+        heard,
+        is_alarmed: false,
+        lost: 0,
+        foreign: 0,
+        unsealed: 0,
+        repeated: 0,
+        relaying: Relaying::Direct,
+    }
+}
+
 /// Whether exactly this is written at a look.
 fn tells(status: &mut StatusRow, look: &Look, wanted: &[u8]) -> bool {
     let standing = Standing {
         ticked: look.ticked,
         rollbacks: look.rollbacks,
         longest: look.longest,
-        heard: look.heard,
         is_alarmed: look.is_alarmed,
-        lost: 0,
-        foreign: 0,
-        unsealed: 0,
-        repeated: 0,
-        relaying: Relaying::Direct,
+        ..standing_of(look.heard)
     };
     let now = Duration::from_millis(look.millis);
     let waits = look.waits.and_then(Player::new);
@@ -152,25 +163,14 @@ const AGAIN: &[u8] = b"\x1b[17;1H\x1b[K0/7  waits for 2: 3 s  control-D again dr
 const NEVER_HERE: &[u8] = b"\x1b[17;1H\x1b[K0/7  waits for 2: 3 s  2: 3500 ms  back 0, longest 0";
 
 /// A peer that heard player 2 alone, this often.
-fn standing_of(heard: u64) -> Standing {
-    Standing {
-        ticked: 0,
-        rollbacks: 0,
-        longest: 0,
-        heard: [0, heard, 0, 0],
-        is_alarmed: false,
-        lost: 0,
-        foreign: 0,
-        unsealed: 0,
-        repeated: 0,
-        relaying: Relaying::Direct,
-    }
+fn who_heard(two: u64) -> Standing {
+    standing_of([0, two, 0, 0])
 }
 
 /// Whether player 1 reads this where player 2 was heard this often.
 fn is_told(status: &mut StatusRow, millis: u64, heard: u64, wanted: &[u8]) -> bool {
     let now = Duration::from_millis(millis);
-    status.row_of(now, 7, &standing_of(heard), Player::new(2)) == wanted
+    status.row_of(now, 7, &who_heard(heard), Player::new(2)) == wanted
 }
 
 /// Whether a player that never was here is not dropped: no drop is offered, control-D asks for none, and no patience runs
@@ -190,7 +190,7 @@ fn drops_no_stranger() -> bool {
 fn drops_for_another() -> bool {
     let (two, three) = (Player { number: 2 }, Player { number: 3 });
     let mut status = StatusRow::new(Duration::from_secs(0), Player::CHAIR, 3);
-    let _greeted = status.row_of(Duration::from_secs(0), 7, &standing_of(1), None);
+    let _greeted = status.row_of(Duration::from_secs(0), 7, &who_heard(1), None);
     status.give_up(Some(three)).is_none()
         && status.give_up(Some(three)) == Some(three)
         && status.give_up(Some(two)).is_none()
@@ -200,7 +200,7 @@ fn drops_for_another() -> bool {
 fn is_patient() -> bool {
     let two = Player { number: 2 };
     let mut status = StatusRow::new(Duration::from_secs(0), Player::CHAIR, 2);
-    let _greeted = status.row_of(Duration::from_secs(0), 7, &standing_of(1), None);
+    let _greeted = status.row_of(Duration::from_secs(0), 7, &who_heard(1), None);
     let is_never = !status.is_out_of_patience(two, u64::MAX);
     status.set_patience(Some(60));
     let mut other = StatusRow::new(Duration::from_secs(0), two, 2);
@@ -217,7 +217,7 @@ fn drops_at_the_second() -> bool {
     let two = Player { number: 2 };
     let mut status = StatusRow::new(Duration::from_secs(0), Player::CHAIR, 2);
     // player 2 was heard at the start, and then no more
-    let _greeted = status.row_of(Duration::from_secs(0), 7, &standing_of(1), None);
+    let _greeted = status.row_of(Duration::from_secs(0), 7, &who_heard(1), None);
     is_told(&mut status, 3_500, 1, DROPS)
         && status.give_up(None).is_none()
         && status.give_up(Some(two)).is_none()
@@ -276,7 +276,7 @@ fn are_first_words() -> bool {
             unsealed: *unsealed,
             ..Losses::default()
         });
-        let standing = standing_of(*heard);
+        let standing = who_heard(*heard);
         let row = status.row_of(Duration::from_millis(*millis), 0, &standing, Player::new(2));
         if row != if *wanted == last { &[] } else { *wanted } {
             return false;
@@ -292,48 +292,7 @@ fn a_first_wait_says_what_may_be_wrong(rt: HostRuntime) {
 }
 
 /// A game text with the keys of its players.
-const TEXT: &[u8] =
-    b"# Two paddles.\n# keys 1: 1 up, q down, a serve\r\n# keys 2: 4 up, r down, f serve\n# keys 3: \x1b[2J\nplayers 2\n";
-
-/// Whether these are the words of a player in a text.
-fn are_words(text: &[u8], number: u8, wanted: &[u8]) -> bool {
-    let player = Player::new(number).unwrap_or(Player::CHAIR);
-    KeyWords::in_text(text, player).bytes() == wanted
-}
-
-/// Words of 48 bytes, and of 49.
-const LONGEST: &[u8] = b"# keys 1: 123456789 123456789 123456789 123456789 12345678";
-
-const TOO_LONG: &[u8] = b"# keys 1: 123456789 123456789 123456789 123456789 123456789";
-
-/// Keys that a game has only in its masks.
-const PLAIN: &[u8] =
-    b"players 2\nipf 10\nframes 60\ndelay 0\nwindow 8\nseed 0\nmask1 0000\nmask2 7001\ncode 1200\n";
-
-/// Whether a player's words without a comment are the letters of its mask, and a comment goes before.
-fn are_letters(alloc: Global) -> bool {
-    let Ok(game) = Game::read(alloc, PLAIN) else {
-        return false;
-    };
-    let (one, two) = (Player::CHAIR, Player { number: 2 });
-    let letters = KeyWords::none().or_letters(&game, two);
-    let words = KeyWords::in_text(TEXT, two).or_letters(&game, two);
-    let nothing = KeyWords::none().or_letters(&game, one);
-    letters.bytes() == b"keys x 4 r f".as_slice()
-        && words.bytes() == b"4 up, r down, f serve".as_slice()
-        && nothing.bytes().is_empty()
-}
-
-#[test]
-fn a_game_names_the_keys(rt: HostRuntime) {
-    assert!(rt; are_words(TEXT, 1, b"1 up, q down, a serve"));
-    assert!(rt; are_words(TEXT, 2, b"4 up, r down, f serve"));
-    // no bytes that a terminal would obey
-    assert!(rt; are_words(TEXT, 3, b"") && are_words(TEXT, 4, b""));
-    assert!(rt; are_words(LONGEST, 1, &LONGEST[10..]));
-    assert!(rt; are_words(TOO_LONG, 1, b""));
-    assert!(rt; are_letters(rt.alloc()));
-}
+const TEXT: &[u8] = b"# keys 1: 1 up, q down, a serve\n# keys 2: 4 up, r down, f serve\n";
 
 /// The time, how many frames are confirmed, whether the person has asked for the keys, and whether they are shown.
 type Shown = (u64, u32, bool, bool);
@@ -389,7 +348,7 @@ const ASKED: &[u8] =
 fn names_the_key_for_keys() -> bool {
     let mut status = StatusRow::new(Duration::from_secs(0), Player::CHAIR, 2);
     status.name_keys(KeyWords::in_text(TEXT, Player::CHAIR));
-    let (now, standing) = (Duration::from_secs(12), standing_of(0));
+    let (now, standing) = (Duration::from_secs(12), who_heard(0));
     let hint = status.row_of(now, 0, &standing, Player::new(2)) == HINT;
     status.remind();
     hint && status.row_of(now, 0, &standing, Player::new(2)) == ASKED

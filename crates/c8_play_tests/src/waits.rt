@@ -4,13 +4,15 @@
 ghost use Rattle.std.specs.Prelude.{[]};
 
 use crate::alone::{DRAWS, whole};
+use crate::asked::ASKED;
 use crate::console::{Log, Sent, Still, Written};
 use c8_disk::MemDisk;
 use c8_game::{Game, Player};
 use c8_net::Asked;
 use c8_peer::Peer;
-use c8_play::{Desk, KeyWords, Tempo, play_frames};
+use c8_play::{Desk, Tempo, play_frames};
 use c8_session::Session;
+use c8_terminal::KeyWords;
 use c8_transport::{Wire, WireFailed};
 use c8_wire::Seat;
 use std::alloc::Global;
@@ -100,26 +102,11 @@ struct Row {
 /// The options of a match without files: at most this many turns, and what else may end it.
 pub fn asked_for(turns: u64, stop: Option<u64>, patience: Option<u64>) -> Asked<'static, 'static> {
     Asked {
-        game: "",
-        player: Player::CHAIR,
-        journal: "",
-        local: "",
-        remotes: None,
-        relay: None,
-        watchers: [None, None],
-        secret: None,
-        watch_secret: None,
         room: 0,
-        has_room: true,
         turns,
         patience,
         stop,
-        checkpoint: 0,
-        progress: false,
-        says_end: false,
-        is_muted: true,
-        explain: false,
-        notices: &[],
+        ..ASKED
     }
 }
 
