@@ -62,6 +62,11 @@ pub static HOST: Outline = Outline {
             ..Argument::FILE
         },
         Argument {
+            name: "watch",
+            help: "Lets somebody watch, in seat 5, and shows the line to type; with --card writes a card for that too",
+            ..Argument::FLAG
+        },
+        Argument {
             name: "players",
             help: "Refuses a game that is not for so many players [default: any]",
             value: Some(ValueParser::Signed(2, 4)),

@@ -16,7 +16,7 @@ use std::io::Write;
 use std::net::Net;
 use std::rt::Files;
 
-/// Refuses what the match would refuse later: the secret, the own port, the journal, in this order; `None` if all can be
+/// Refuses what the match would refuse later: the secrets, the own port, the journal, in this order; `None` if all can be
 /// opened.
 pub(crate) fn refuse_start<R, E>(
     rt: &R,
@@ -29,14 +29,39 @@ where
     E: Write,
     ensures { IfOk result (λ told. IfSome told (λ status. status ≢ statuses.Done)) }
 {
-    if let Err(fault) = secret_at(rt, wanted.secret.as_str()) {
-        let status = refuse(rt.alloc(), is_explained(given), None, &fault, refused)?;
+    if let Some(status) = refuse_secret(rt, given, wanted.secret.as_str(), refused)? {
+        return Ok(Some(status));
+    }
+    if let Some(path) = &wanted.watch
+        && let Some(status) = refuse_secret(rt, given, path.as_str(), refused)?
+    {
         return Ok(Some(status));
     }
     if let Some(status) = refuse_port(rt, given, wanted.local.as_str(), refused)? {
         return Ok(Some(status));
     }
     refuse_journal(rt, given, wanted.journal.as_str(), refused)
+}
+
+/// Refuses a file that has no secret; `None` if it has one.
+fn refuse_secret<R, E>(
+    rt: &R,
+    given: &ArgMatches<'_>,
+    path: &str,
+    refused: &mut E,
+) -> io::Result<Option<Status>>
+where
+    R: Files<File = File> + AllocGlobal,
+    E: Write,
+    ensures { IfOk result (λ told. IfSome told (λ status. status ≢ statuses.Done)) }
+{
+    match secret_at(rt, path) {
+        Ok(_secret) => Ok(None),
+        Err(fault) => {
+            let status = refuse(rt.alloc(), is_explained(given), None, &fault, refused)?;
+            Ok(Some(status))
+        }
+    }
 }
 
 /// Refuses an own address that the system does not open; `None` if it does, or if there is none.

@@ -3,7 +3,7 @@
 
 use crate::arguments::{HOST, JOIN};
 use crate::host::host_given;
-use crate::join::join_given;
+use crate::join::{join_given, play_by_card};
 use c8_command::{Outline, Status, Terminals, Threaded};
 use c8_files::{GAME, SECRET, game_given, secret_given};
 use c8_net::{PEER, peer_given};
@@ -35,6 +35,9 @@ where
 {
     let ended = match name {
         "peer" => peer_given(rt, given, input, terminals, out, refused),
+        "play" if given.contains_id("player") => {
+            play_by_card(rt, given, input, terminals, out, refused)
+        }
         "play" => play_given(rt, given, terminals, out, refused),
         "host" => host_given(rt, given, terminals, out, refused),
         "join" => join_given(rt, given, input, terminals, out, refused),

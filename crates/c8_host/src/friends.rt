@@ -23,7 +23,7 @@ use std::{fs, io};
 /// How many frames a second a match of two friends has.
 const RATE: u8 = 60;
 
-/// The word for no journal, and for an address that is learnt.
+/// The word for no journal, and for an address that is learnt: that of a friend or a watcher.
 pub(crate) const NONE: &str = "-";
 
 /// What a match takes beside what both commands ask for.
@@ -44,6 +44,8 @@ pub(crate) struct Match {
     pub(crate) patience: Option<u64>,
     /// The path of the secret.
     pub(crate) secret: String,
+    /// The path of the watchers' secret, if somebody may watch.
+    pub(crate) watch: Option<String>,
     /// The path of the journal, or `-` for none.
     pub(crate) journal: String,
     /// Whether this command made the file of the secret from digits that a person typed.
@@ -53,6 +55,31 @@ pub(crate) struct Match {
 }
 
 impl Match {
+    /// The match of a player in a room, without an address; its journal is not known yet.
+    pub(crate) fn new(
+        alloc: Global,
+        given: &ArgMatches<'_>,
+        player: Player,
+        room: u64,
+        secret: String,
+    ) -> Result<Match, AllocError> {
+        Ok(Match {
+            game: format!(in alloc; "{}", word_of(given, "GAME"))?,
+            player,
+            local: String::new(alloc),
+            remote: String::new(alloc),
+            relay: None,
+            room,
+            is_drawn: false,
+            patience: None,
+            secret,
+            watch: None,
+            journal: String::new(alloc),
+            is_typed: false,
+            notices: Vec::new(alloc),
+        })
+    }
+
     /// What `play` is asked for. Nothing is said of the tone and of refusals.
     fn asked<'m, 'a>(&'a self, remotes: &'m [&'a str]) -> Asked<'m, 'a> {
         Asked {
@@ -62,9 +89,9 @@ impl Match {
             local: self.local.as_str(),
             remotes: self.relay.is_none().then_some(remotes),
             relay: self.relay.as_deref(),
-            watchers: [None, None],
+            watchers: [self.watch.is_some().then_some(NONE), None],
             secret: Some(self.secret.as_str()),
-            watch_secret: None,
+            watch_secret: self.watch.as_deref(),
             room: self.room,
             has_room: true,
             turns: u64::MAX,
@@ -111,19 +138,11 @@ pub(crate) fn met_at(
     } else {
         format!(in alloc; "0.0.0.0:{port}")?
     };
+    let relay = format!(in alloc; "{relay}")?;
     Ok(Match {
-        game: format!(in alloc; "{}", word_of(given, "GAME"))?,
-        player,
         local,
-        remote: String::new(alloc),
-        relay: Some(format!(in alloc; "{relay}")?),
-        room,
-        is_drawn: false,
-        patience: None,
-        secret,
-        journal: String::new(alloc),
-        is_typed: false,
-        notices: Vec::new(alloc),
+        relay: Some(relay),
+        ..Match::new(alloc, given, player, room, secret)?
     })
 }
 
@@ -304,5 +323,13 @@ where
             let status = refuse(rt.alloc(), is_explained(given), None, &fault, refused)?;
             Ok(Found::Refused(status))
         }
+    }
+}
+
+/// The path of the file for watchers that belongs to one for players: `rally.watch.secret` to `rally.secret`.
+pub(crate) fn watchers_path(alloc: Global, path: &str) -> Result<String, AllocError> {
+    match path.rsplit_once('.') {
+        Some((begin, end)) if !end.contains('/') => format!(in alloc; "{begin}.watch.{end}"),
+        _ => format!(in alloc; "{path}.watch"),
     }
 }

@@ -5,10 +5,12 @@ pub const HOST_ENDING: &str =
     "The terminal shows the line that your friend types. Your friend needs the same game file, and the file
 of the secret: send it by a way that nobody else reads. GAME.secret is made once, and serves for all
 matches of this game. The room is new each time. With --card FILE all of that is in one file, the match
-card: send it privately, and your friend types ./c8play join FILE.
+card: send it privately, and your friend types ./c8play join FILE. With --watch somebody may watch, in seat 5:
+the terminal shows the line to type, which takes the watchers' own secret, as rally.game.watch.secret, or with
+--card a card that has it, as rally.watch.card.
 
   ./c8play host games/rally.game
-  ./c8play host games/rally.game --card rally.card
+  ./c8play host games/rally.game --card rally.card --watch
   ./c8play host games/rally.game --relay relay.example.org:4001
 
 With --relay nobody opens a port, and a game may have up to four players: all meet at a relay, a server on

@@ -11,9 +11,9 @@ use crate::addresses::{LIST, own_addresses};
 use crate::card::make_card;
 use crate::checks::refuse_start;
 use crate::friends::{
-    Begun, Found, Match, NONE, game_for, met_at, play, refuse_relay, secret_path,
+    Begun, Found, Match, NONE, game_for, met_at, play, refuse_relay, secret_path, watchers_path,
 };
-use crate::inviting::{Invited, invitation, kept};
+use crate::inviting::{Invited, WATCHER, invitation, kept};
 use crate::journals::journal_for;
 use crate::meeting::{Meeting, invitation_over};
 use c8_command::{Refusal, Site, Status, System, Terminals, is_explained, word_of};
@@ -73,7 +73,7 @@ where
         Begun::Match(wanted) => wanted,
         Begun::Refused(status) => return Ok(status),
     };
-    if let Some(status) = write_card_of(rt, given, &wanted, refused)? {
+    if let Some(status) = write_cards(rt, given, &wanted, refused)? {
         return Ok(status);
     }
     let below = invite(rt, given, &game, &wanted, &mut console, refused)?;
@@ -109,9 +109,9 @@ fn refuse_players<E: Write>(
     Ok(Some(Status::CommandLine))
 }
 
-/// Writes the match card, if one is asked for. It is refused if its file cannot be written, or is there already and no card of
-/// this match.
-fn write_card_of<R, E>(
+/// Writes the match card, if one is asked for, and that of a watcher, if somebody may watch too. It is refused if a file cannot
+/// be written, or is there already and no such card of this match.
+fn write_cards<R, E>(
     rt: &R,
     given: &ArgMatches<'_>,
     wanted: &Match,
@@ -129,8 +129,30 @@ where
     let addresses = own_addresses(rt.alloc(), list.as_str())?;
     let first = addresses.first().copied().unwrap_or("127.0.0.1");
     let host = format!(in rt.alloc(); "{first}:{}", port_in(given))?;
+    let (host, secret) = (host.as_str(), wanted.secret.as_str());
+    let made = make_card(rt, path, wanted, secret, None, host);
+    if let Some(status) = refuse_card(given, path, made, refused)? {
+        return Ok(Some(status));
+    }
+    let Some(secret) = &wanted.watch else {
+        return Ok(None);
+    };
+    let path = watchers_path(rt.alloc(), path)?;
+    let made = make_card(rt, path.as_str(), wanted, secret, Some(WATCHER), host);
+    refuse_card(given, path.as_str(), made, refused)
+}
+
+/// Refuses a card that was not made; `None` if it was.
+fn refuse_card<E: Write>(
+    given: &ArgMatches<'_>,
+    path: &str,
+    made: io::Result<()>,
+    refused: &mut E,
+) -> io::Result<Option<Status>>
+    ensures { IfOk result (λ told. IfSome told (λ status. status ≢ statuses.Done)) }
+{
     let site = is_explained(given).then_some(Site::File(path));
-    match make_card(rt, path, wanted, host.as_str()) {
+    match made {
         Ok(()) => Ok(None),
         Err(error) if error.kind() == io::ErrorKind::AlreadyExists => {
             let why = "there is another file of this name: delete it, or name another";
@@ -197,18 +219,28 @@ where
         return Ok(Begun::Refused(status));
     }
     let secret = secret_path(rt.alloc(), given)?;
-    let room = match made(rt, secret.as_str()) {
-        Ok(drawn) => number_of(given, "room").unwrap_or(drawn),
-        Err(error) => {
-            let site = is_explained(given).then_some(Site::File(secret.as_str()));
-            let status = Refusal::DISK.tell_at(site, &error, refused)?;
-            return Ok(Begun::Refused(status));
-        }
+    if let Some(status) = make_secret_at(rt, given, secret.as_str(), refused)? {
+        return Ok(Begun::Refused(status));
+    }
+    let watch = if given.get_flag("watch") {
+        Some(watchers_path(rt.alloc(), secret.as_str())?)
+    } else {
+        None
+    };
+    if let Some(path) = &watch
+        && let Some(status) = make_secret_at(rt, given, path.as_str(), refused)?
+    {
+        return Ok(Begun::Refused(status));
+    }
+    let room = match number_of(given, "room") {
+        Some(room) => room,
+        None => drawn_room(rt)?,
     };
     let mut wanted = match relay {
         Some(relay) => met_at(rt.alloc(), given, relay, Player::CHAIR, room, secret)?,
         None => hosted(rt.alloc(), given, secret, room)?,
     };
+    wanted.watch = watch;
     wanted.is_drawn = number_of(given, "room").is_none();
     wanted.patience = number_of(given, "patience");
     let mut notices = Vec::new(rt.alloc());
@@ -235,12 +267,15 @@ where
     let Some(relay) = &wanted.relay else {
         return lines_of(rt, given, wanted, columns);
     };
+    let file = watchers_file(rt.alloc(), given, wanted)?;
     let meeting = Meeting {
         path: word_of(given, "GAME"),
         game,
         relay: relay.as_str(),
         secret: wanted.secret.as_str(),
         card: given.get_str("card"),
+        watch: wanted.watch.as_deref(),
+        watchers_file: file.as_deref().unwrap_or(""),
         room: wanted.room,
         columns,
     };
@@ -272,26 +307,52 @@ fn hosted(
 ) -> Result<Match, AllocError> {
     let port = port_in(given);
     Ok(Match {
-        game: format!(in alloc; "{}", word_of(given, "GAME"))?,
-        player: Player::CHAIR,
         local: format!(in alloc; "0.0.0.0:{port}")?,
         remote: format!(in alloc; "{NONE}")?,
-        relay: None,
-        room,
-        is_drawn: false,
-        patience: None,
-        secret,
-        journal: String::new(alloc),
-        is_typed: false,
-        notices: Vec::new(alloc),
+        ..Match::new(alloc, given, Player::CHAIR, room, secret)?
     })
 }
 
-/// Makes the secret's file if it is missing, and draws a room of 32 bits.
-fn made<R: Files<File = File> + AllocGlobal>(rt: &R, secret: &str) -> io::Result<u64> {
-    make_secret(rt, secret)?;
+/// Makes the file of a secret if it is missing. It is refused if that fails.
+fn make_secret_at<R, E>(
+    rt: &R,
+    given: &ArgMatches<'_>,
+    path: &str,
+    refused: &mut E,
+) -> io::Result<Option<Status>>
+where
+    R: Files<File = File> + AllocGlobal,
+    E: Write,
+    ensures { IfOk result (λ told. IfSome told (λ status. status ≢ statuses.Done)) }
+{
+    match make_secret(rt, path) {
+        Ok(()) => Ok(None),
+        Err(error) => {
+            let site = is_explained(given).then_some(Site::File(path));
+            Ok(Some(Refusal::DISK.tell_at(site, &error, refused)?))
+        }
+    }
+}
+
+/// Draws a room of 32 bits.
+fn drawn_room<R: Files<File = File> + AllocGlobal>(rt: &R) -> io::Result<u64> {
     let [one, two, three, four, ..] = random_bytes(rt)?;
     Ok(u64::from(u32::from_be_bytes([one, two, three, four])))
+}
+
+/// The path of what a watcher needs, if somebody may watch: of the watchers' secret, or with a card of the watchers' card.
+fn watchers_file(
+    alloc: Global,
+    given: &ArgMatches<'_>,
+    wanted: &Match,
+) -> Result<Option<String>, AllocError> {
+    let Some(secret) = &wanted.watch else {
+        return Ok(None);
+    };
+    match given.get_str("card") {
+        Some(path) => Ok(Some(watchers_path(alloc, path)?)),
+        None => Ok(Some(format!(in alloc; "{secret}")?)),
+    }
 }
 
 /// The lines of the invitation, with the addresses of this machine.
@@ -301,11 +362,13 @@ where
 {
     let list = routes(rt)?;
     let addresses = own_addresses(rt.alloc(), list.as_str())?;
+    let file = watchers_file(rt.alloc(), given, wanted)?;
     let invited = Invited {
         game: word_of(given, "GAME"),
         secret: wanted.secret.as_str(),
         journal: wanted.journal.as_str(),
         card: given.get_str("card"),
+        watch: file.as_deref(),
         addresses: &addresses,
         port: port_in(given),
         room: wanted.room,

@@ -2,6 +2,7 @@
 
 use crate::friends::NONE;
 use c8_play::quoted;
+use c8_wire::Watcher;
 use std::alloc::{AllocError, Global};
 
 /// How the line of a command begins, and each further line of it.
@@ -15,6 +16,16 @@ const BREAK: &str = " \\\n";
 /// The columns that the backslash takes at the end of a line.
 const END: usize = 2;
 
+/// Who watches a match of `host`, and the seat as a word.
+pub(crate) const WATCHER: Watcher = Watcher { number: 5 };
+
+pub(crate) const SEAT: &str = "5";
+
+/// What a watcher types to see the match, and in the place of the own address: any port.
+pub(crate) const SCREEN: &str = "--screen";
+
+const ANY: &str = "0.0.0.0:0";
+
 /// What a host without a relay shows to a friend.
 #[derive(Clone, Copy)]
 pub struct Invited<'a> {
@@ -24,6 +35,8 @@ pub struct Invited<'a> {
     pub journal: &'a str,
     /// The path of the match card, if there is one: the friend needs nothing else.
     pub card: Option<&'a str>,
+    /// The path of what a watcher needs, if somebody may watch: of the watchers' secret, or with a card of the watchers' card.
+    pub watch: Option<&'a str>,
     /// The addresses of this machine, and the open port.
     pub addresses: &'a [&'a str],
     pub port: u16,
@@ -42,6 +55,7 @@ pub fn invitation(
         secret,
         journal,
         card,
+        watch,
         addresses,
         port,
         room,
@@ -50,17 +64,41 @@ pub fn invitation(
     let first = addresses.first().copied().unwrap_or("ADDRESS");
     let address = format!(in alloc; "{first}:{port}")?;
     let room = format!(in alloc; "{room}")?;
-    let words = match card {
-        Some(card) => [last_part(card), "", "", "", ""],
-        None => [
-            friends_path(game),
-            address.as_str(),
-            room.as_str(),
-            "--secret",
-            last_part(secret),
-        ],
+    let line = match card {
+        Some(card) => typed(alloc, "join", &[last_part(card)], columns)?,
+        None => {
+            let words = [
+                friends_path(game),
+                address.as_str(),
+                room.as_str(),
+                "--secret",
+                last_part(secret),
+            ];
+            typed(alloc, "join", &words, columns)?
+        }
     };
-    lines.push_str(&typed(alloc, "join", &words, columns)?)?;
+    lines.push_str(&line)?;
+    if let Some(file) = watch {
+        lines.push_str(&watching(alloc, file, columns)?)?;
+        let line = match card {
+            Some(_) => typed(alloc, "watch", &[last_part(file), SCREEN], columns)?,
+            None => {
+                let words = [
+                    friends_path(game),
+                    SEAT,
+                    ANY,
+                    address.as_str(),
+                    "--room",
+                    room.as_str(),
+                    "--secret",
+                    last_part(file),
+                    SCREEN,
+                ];
+                typed(alloc, "watch", &words, columns)?
+            }
+        };
+        lines.push_str(&line)?;
+    }
     lines.push_str(&filled(alloc, &shown(alloc, addresses)?, columns)?)?;
     let elsewhere = format!(in alloc;
         "Elsewhere: your router's address; it forwards UDP port {port}."
@@ -73,6 +111,12 @@ pub fn invitation(
 /// The line that says what to send before the friend types.
 pub(crate) fn sent(alloc: Global, file: &str, columns: usize) -> Result<String, AllocError> {
     let line = format!(in alloc; "Send {file} privately. Your friend types:")?;
+    filled(alloc, &line, columns)
+}
+
+/// The line that says what file a watcher gets, before what the watcher types.
+pub(crate) fn watching(alloc: Global, file: &str, columns: usize) -> Result<String, AllocError> {
+    let line = format!(in alloc; "Who watches gets {file} and types:")?;
     filled(alloc, &line, columns)
 }
 

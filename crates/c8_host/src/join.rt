@@ -7,7 +7,6 @@ ghost use Rattle.c8_host.specs.declared.friends.Begun.TheVariants as begun;
 ghost use Rattle.c8_net.specs.Answers.{EndsMatch};
 ghost use Rattle.c8_play.specs.Answers.{IsSilent, WantsReport, WantsNoReport};
 
-use crate::card::{Card, card_in};
 use crate::checks::refuse_start;
 use crate::digits::{digits_in, is_secret};
 use crate::friends::{Begun, Found, Match, game_for, met_at, play, refuse_relay, secret_path};
@@ -17,6 +16,7 @@ use c8_command::{
 };
 use c8_files::write_secret;
 use c8_game::Player;
+use c8_net::{Card, card_in};
 use c8_play::Terminal;
 use clap::ArgMatches;
 use std::alloc::{AllocError, Global};
@@ -74,6 +74,36 @@ where
         Begun::Match(wanted) => play(rt, given, terminals, wanted, "", console, out, refused),
         Begun::Refused(status) => Ok(status),
     }
+}
+
+/// Runs `play` with `--player`: joins the match of a card, as `join` does. Any other word of `play` is refused.
+pub(crate) fn play_by_card<R, I, W, E>(
+    rt: &R,
+    given: &ArgMatches<'_>,
+    input: I,
+    terminals: Terminals,
+    out: &mut W,
+    refused: &mut E,
+) -> io::Result<Status>
+where
+    R: System,
+    I: Read + Drop,
+    W: Write,
+    E: Write,
+    ensures report { WantsReport given.now terminals
+        → IfOk result (EndsMatch (W.contents out.old) (W.contents out.new)) }
+    ensures silent { WantsNoReport given.now terminals
+        → IfOk result (IsSilent EndsMatch (W.contents out.old) (W.contents out.new)) }
+{
+    let card = word_of(given, "GAME");
+    if given.contains_id("PLAYER") || way_by_card(rt, card, None)?.is_none() {
+        writeln!(
+            refused,
+            "error: --player goes with a match card alone, as in ./c8play play rally.card --player 2"
+        )?;
+        return Ok(Status::CommandLine);
+    }
+    join_given(rt, given, input, terminals, out, refused)
 }
 
 /// The match that a friend joins. It is refused if the secret is none, if a file of the match fails, or if the own port
@@ -135,6 +165,14 @@ where
         )?;
         return Ok(Some(Status::CommandLine));
     };
+    if way.is_watchers {
+        let card = word_of(given, "GAME");
+        writeln!(
+            refused,
+            "error: this card is for who watches: ./c8play watch {card} --screen"
+        )?;
+        return Ok(Some(Status::CommandLine));
+    }
     if !way.is_relay && given.get_one::<u8>("player").unwrap_or(2) != 2 {
         writeln!(
             refused,
@@ -152,8 +190,9 @@ struct Way {
     /// The address or name of the relay, or of player 1.
     there: String,
     is_relay: bool,
-    /// Whether it stands on a match card.
+    /// Whether it stands on a match card, and whether that card is a watcher's.
     is_card: bool,
+    is_watchers: bool,
 }
 
 /// Where the match is: with --relay at the relay, in the room after the game; else at the address in the room after it; or
@@ -187,6 +226,7 @@ fn way_to(
         there: format!(in alloc; "{there}")?,
         is_relay,
         is_card: false,
+        is_watchers: false,
     }))
 }
 
@@ -205,6 +245,7 @@ where
         room,
         there,
         is_relay,
+        seat,
     } = card;
     let there = match address {
         Some(address) => format!(in rt.alloc(); "{address}")?,
@@ -215,6 +256,7 @@ where
         there,
         is_relay,
         is_card: true,
+        is_watchers: seat.is_some(),
     }))
 }
 
@@ -237,19 +279,11 @@ fn met(
         return met_at(alloc, given, &there, player, room, secret);
     }
     let port = given.get_one::<u16>("port").unwrap_or(0);
+    let local = format!(in alloc; "{}:{port}", all_for(&there))?;
     Ok(Match {
-        game: format!(in alloc; "{}", word_of(given, "GAME"))?,
-        player: Player { number: 2 },
-        local: format!(in alloc; "{}:{port}", all_for(&there))?,
+        local,
         remote: there,
-        relay: None,
-        room,
-        is_drawn: false,
-        patience: None,
-        secret,
-        journal: String::new(alloc),
-        is_typed: false,
-        notices: Vec::new(alloc),
+        ..Match::new(alloc, given, Player { number: 2 }, room, secret)?
     })
 }
 

@@ -26,7 +26,7 @@ mod served;
 
 pub use addresses::own_addresses;
 pub use arguments::{HOST, JOIN};
-pub use card::card_text;
+pub use card::{Holder, card_text};
 pub use commands::{match_commands, match_given};
 pub use digits::digits_in;
 pub use host::host_given;

@@ -2,7 +2,9 @@
 
 ghost use Rattle.std.specs.Prelude.{IfErr};
 
-use crate::inviting::{filled, friends_path, last_part, sent, typed};
+use crate::inviting::{
+    SCREEN, SEAT, WATCHER, filled, friends_path, last_part, sent, typed, watching,
+};
 use crate::link::{Ticket, link_name, long_link, short_link};
 use crate::served::{Served, pages_at};
 use c8_command::read_file;
@@ -25,6 +27,9 @@ pub(crate) struct Meeting<'a> {
     /// The path of the secret, and of the match card if there is one.
     pub(crate) secret: &'a str,
     pub(crate) card: Option<&'a str>,
+    /// The path of the watchers' secret, if somebody may watch, and of what a watcher needs: that, or the watchers' card.
+    pub(crate) watch: Option<&'a str>,
+    pub(crate) watchers_file: &'a str,
     pub(crate) room: u64,
     /// The columns of the terminal.
     pub(crate) columns: usize,
@@ -38,8 +43,8 @@ where
     let alloc = rt.alloc();
     let players = meeting.game.players();
     let mut lines = String::new(alloc);
+    let there = pages_at(rt, meeting.relay, link_name(meeting.path), meeting.game);
     if let Ok(secret) = secret_in(rt, meeting.secret) {
-        let there = pages_at(rt, meeting.relay, link_name(meeting.path), meeting.game);
         for seat in 2..players + 1 {
             if let Some(link) = link_for(rt, meeting, &secret, seat, there)? {
                 lines.push_str(&opening(alloc, players, seat, &link)?)?;
@@ -48,6 +53,49 @@ where
     }
     let others = lines_to_type(alloc, meeting, lines.is_empty())?;
     lines.push_str(&others)?;
+    if let Some(watch) = meeting.watch {
+        lines.push_str(&lines_to_watch(rt, meeting, watch, there)?)?;
+    }
+    Ok(lines)
+}
+
+/// The lines for who watches: a link, if the relay serves the page, and what to type.
+fn lines_to_watch<R>(
+    rt: &R,
+    meeting: Meeting<'_>,
+    watch: &str,
+    there: Served,
+) -> Result<String, AllocError>
+where
+    R: Files<File = File> + AllocGlobal,
+{
+    let alloc = rt.alloc();
+    let mut lines = String::new(alloc);
+    if let Ok(secret) = secret_in(rt, watch)
+        && let Some(link) = link_for(rt, meeting, &secret, WATCHER.number, there)?
+    {
+        lines.push_str(&format!(in alloc; "Who watches opens this link:\n{link}\n")?)?;
+    }
+    let file = meeting.watchers_file;
+    lines.push_str(&watching(alloc, file, meeting.columns)?)?;
+    if meeting.card.is_some() {
+        let words = [last_part(file), SCREEN];
+        lines.push_str(&typed(alloc, "watch", &words, meeting.columns)?)?;
+        return Ok(lines);
+    }
+    let room = format!(in alloc; "{}", meeting.room)?;
+    let words = [
+        friends_path(meeting.path),
+        SEAT,
+        "--relay",
+        meeting.relay,
+        "--room",
+        room.as_str(),
+        "--secret",
+        last_part(file),
+        SCREEN,
+    ];
+    lines.push_str(&typed(alloc, "watch", &words, meeting.columns)?)?;
     Ok(lines)
 }
 
@@ -84,25 +132,27 @@ fn lines_to_type(
 fn line_for(alloc: Global, meeting: Meeting<'_>, seat: u8) -> Result<String, AllocError> {
     let room = format!(in alloc; "{}", meeting.room)?;
     let number = format!(in alloc; "{seat}")?;
-    let (option, number) = if seat == 2 {
-        ("", "")
+    if let Some(card) = meeting.card {
+        let words = [last_part(card), "--player", number.as_str()];
+        let count = if seat == 2 { 1 } else { words.len() };
+        return typed(alloc, "join", &words[..count], meeting.columns);
+    }
+    let words = [
+        friends_path(meeting.path),
+        room.as_str(),
+        "--relay",
+        meeting.relay,
+        "--secret",
+        last_part(meeting.secret),
+        "--player",
+        number.as_str(),
+    ];
+    let count = if seat == 2 {
+        words.len() - 2
     } else {
-        ("--player", number.as_str())
+        words.len()
     };
-    let words = match meeting.card {
-        Some(card) => [last_part(card), "", "", "", option, number, "", ""],
-        None => [
-            friends_path(meeting.path),
-            room.as_str(),
-            "--relay",
-            meeting.relay,
-            option,
-            number,
-            "--secret",
-            last_part(meeting.secret),
-        ],
-    };
-    typed(alloc, "join", &words, meeting.columns)
+    typed(alloc, "join", &words[..count], meeting.columns)
 }
 
 /// The link for a seat; `None` if the relay serves no page, or if the game is too long for one.

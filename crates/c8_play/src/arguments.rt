@@ -55,7 +55,8 @@ pub static PLAY: Outline = Outline {
         GAME,
         Argument {
             name: "PLAYER",
-            help: "The number of the own player, 1 to 4, or alone",
+            help: "The number of the own player, 1 to 4, or alone; with --player it is left out",
+            form: Form::Optional,
             ..Argument::NEEDED
         },
         Argument {
@@ -66,6 +67,12 @@ pub static PLAY: Outline = Outline {
         },
         LOCAL,
         REMOTES,
+        Argument {
+            name: "player",
+            help: "With a match card for GAME and no other word: the number of the own player, 2 to 4, as in join",
+            value: Some(ValueParser::Signed(2, 4)),
+            ..Argument::NUMBER
+        },
         RELAY,
         ROOM,
         Argument {

@@ -43,7 +43,7 @@ where
     let Some(who) = who_of(given) else {
         writeln!(
             refused,
-            "error: play takes GAME alone, or GAME, a PLAYER from 1 to 4, JOURNAL, LOCAL and REMOTE or --relay"
+            "error: play takes GAME alone, or GAME, a PLAYER from 1 to 4, JOURNAL, LOCAL and REMOTE or --relay, or a match card and --player"
         )?;
         return Ok(Status::CommandLine);
     };

@@ -24,11 +24,13 @@ turns; but nobody who never came, unless a third player waits too. At the end a 
 ended; with --report, and where standard output is no terminal, the machine after the confirmed frames is
 printed before it.
 
-Alone, two players, each in a terminal of their own, and player 2 through a relay:
+Alone, two players, each in a terminal of their own, player 2 through a relay, and by a match card:
   ./c8play play games/rally.game alone
   ./c8play play games/rally.game 1 one.journal 127.0.0.1:4001 127.0.0.1:4002
   ./c8play play games/rally.game 2 two.journal 127.0.0.1:4002 127.0.0.1:4001
   ./c8play play games/rally.game 2 two.journal --relay relay.example.org:4001 --room 7 --secret match.secret
+  ./c8play play rally.card --player 2
+The last line takes a match card, and is ./c8play join rally.card --player 2.
 
 In each frame the journal takes at most two records for each player, and each record waits for the disk
 twice; a line before the match says if this disk is too slow for that. With - in the place of JOURNAL and a

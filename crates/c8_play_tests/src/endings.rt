@@ -60,16 +60,6 @@ fn a_word_is_quoted_where_a_shell_needs_it(rt: HostRuntime) {
     assert!(rt; is_quoted(alloc, "", "''"));
 }
 
-/// A match of host or of play, with this journal.
-fn asked_with(journal: &'static str) -> Asked<'static, 'static> {
-    Asked {
-        game: "my rally.game",
-        journal,
-        room: 77,
-        ..ASKED
-    }
-}
-
 /// The journal, what ended the match after how many frames, how the text begins, and how it ends.
 type Told = (&'static str, Cause, u32, &'static str, &'static str);
 
@@ -96,8 +86,13 @@ fn is_said(alloc: Global, row: Told) -> bool {
         room: Some(77),
         word: None,
     };
+    let asked = Asked {
+        game: "my rally.game",
+        journal,
+        ..ASKED
+    };
     let ending = ending(cause, confirmed);
-    tell_ending(alloc, &mut text, &asked_with(journal), ending, drawn).is_ok()
+    tell_ending(alloc, &mut text, &asked, ending, drawn).is_ok()
         && text.starts_with(begin.as_bytes())
         && text.ends_with(end.as_bytes())
 }

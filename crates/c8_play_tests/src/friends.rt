@@ -3,12 +3,14 @@
 use crate::console::{Log, Still, Written};
 use c8_files::secret_in;
 use c8_host::{
-    Invited, Ticket, card_text, digits_in, filled, invitation, link_name, long_link, own_addresses,
-    short_link, typed,
+    Holder, Invited, Ticket, card_text, digits_in, filled, invitation, link_name, long_link,
+    own_addresses, short_link, typed,
 };
+use c8_net::card_in;
 use c8_play::{Desk, Tempo};
 use c8_terminal::rows_of;
 use c8_transport::Secret;
+use c8_wire::Watcher;
 use std::alloc::Global;
 use std::fs;
 
@@ -78,18 +80,27 @@ fn invited<'a>(game: &'a str, card: Option<&'a str>, addresses: &'a [&'a str]) -
             "games/rally.game.77.1.journal"
         },
         card,
+        watch: None,
         addresses,
         port: 4002,
         room: 77,
     }
 }
 
-fn invites(alloc: Global, invited: Invited<'_>, columns: usize, wanted: &str) -> bool {
+/// Whether an invitation begins and ends with these lines.
+fn invites(alloc: Global, invited: Invited<'_>, columns: usize, begin: &str, end: &str) -> bool {
     match invitation(alloc, invited, columns) {
-        Ok(lines) => lines.as_str() == wanted,
+        Ok(lines) => lines.as_str().strip_suffix(end) == Some(begin),
         Err(_) => false,
     }
 }
+
+/// How it ends for a machine with addresses, and a host with a journal.
+const END: &str = "\
+This machine: 192.168.100.105 10.0.0.7
+Elsewhere: your router's address; it forwards UDP port 4002.
+Your journal: games/rally.game.77.1.journal
+";
 
 /// The addresses of a machine.
 const HERE: [&str; 2] = ["192.168.100.105", "10.0.0.7"];
@@ -98,23 +109,20 @@ const ON_64: &str = "\
 Send games/rally.game.secret privately. Your friend types:
   ./c8play join games/rally.game 192.168.100.105:4002 77 \\
     --secret rally.game.secret
-This machine: 192.168.100.105 10.0.0.7
-Elsewhere: your router's address; it forwards UDP port 4002.
-Your journal: games/rally.game.77.1.journal
 ";
 
 const ON_90: &str = "\
 Send games/rally.game.secret privately. Your friend types:
   ./c8play join games/rally.game 192.168.100.105:4002 77 --secret rally.game.secret
-This machine: 192.168.100.105 10.0.0.7
-Elsewhere: your router's address; it forwards UDP port 4002.
-Your journal: games/rally.game.77.1.journal
 ";
 
 const ALONE: &str = "\
 Send games/rally.game.secret privately. Your friend types:
   ./c8play join 'my rally.game' ADDRESS:4002 77 --secret \\
     rally.game.secret
+";
+
+const ALONE_END: &str = "\
 This machine: no address found; put it in the place of ADDRESS
 Elsewhere: your router's address; it forwards UDP port 4002.
 You keep no journal: if this program ends, you cannot come back.
@@ -123,27 +131,48 @@ You keep no journal: if this program ends, you cannot come back.
 const BY_CARD: &str = "\
 Send out/rally.card privately. Your friend types:
   ./c8play join rally.card
-This machine: 192.168.100.105 10.0.0.7
-Elsewhere: your router's address; it forwards UDP port 4002.
-Your journal: games/rally.game.77.1.journal
 ";
+
+/// With a watcher, by the watchers' secret and by a card.
+const WATCHED: &str = "\
+Send games/rally.game.secret privately. Your friend types:
+  ./c8play join games/rally.game 192.168.100.105:4002 77 \\
+    --secret rally.game.secret
+Who watches gets games/rally.game.watch.secret and types:
+  ./c8play watch games/rally.game 5 0.0.0.0:0 \\
+    192.168.100.105:4002 --room 77 --secret \\
+    rally.game.watch.secret --screen
+";
+
+const WATCHED_BY_CARD: &str = "\
+Send out/rally.card privately. Your friend types:
+  ./c8play join rally.card
+Who watches gets out/rally.watch.card and types:
+  ./c8play watch rally.watch.card --screen
+";
+
+/// The same match, with this file for who watches.
+fn watched<'a>(invited: Invited<'a>, file: &'a str) -> Invited<'a> {
+    Invited {
+        watch: Some(file),
+        ..invited
+    }
+}
 
 #[test]
 fn the_invitation_has_the_line_to_type(rt: HostRuntime) {
     let alloc = rt.alloc();
     let rally = invited("games/rally.game", None, &HERE);
-    assert!(rt; invites(alloc, rally, 64, ON_64));
-    assert!(rt; invites(alloc, rally, 90, ON_90));
-    assert!(rt;
-        invites(
-            alloc,
-            invited("/home/me/my rally.game", None, &[]),
-            64,
-            ALONE
-        )
-    );
+    assert!(rt; invites(alloc, rally, 64, ON_64, END));
+    assert!(rt; invites(alloc, rally, 90, ON_90, END));
+    let alone = invited("/home/me/my rally.game", None, &[]);
+    assert!(rt; invites(alloc, alone, 64, ALONE, ALONE_END));
     let card = invited("games/rally.game", Some("out/rally.card"), &HERE);
-    assert!(rt; invites(alloc, card, 64, BY_CARD));
+    assert!(rt; invites(alloc, card, 64, BY_CARD, END));
+    let by_secret = watched(rally, "games/rally.game.watch.secret");
+    assert!(rt; invites(alloc, by_secret, 64, WATCHED, END));
+    let by_card = watched(card, "out/rally.watch.card");
+    assert!(rt; invites(alloc, by_card, 64, WATCHED_BY_CARD, END));
 }
 
 /// Whether a command is broken so.
@@ -210,23 +239,53 @@ const CARD: &[u8] =
 players 2
 ";
 
-/// Whether a card has this text.
-fn is_card(alloc: Global) -> bool {
+/// The text of a watcher's card, without a relay.
+const WATCHERS_CARD: &[u8] =
+    b"# A match card of c8play: whoever has it can watch. Type ./c8play watch and its name.
+# match room 9
+# match seat 5
+# match secret 000102030405060708090a0b0c0d0e0f101112131415161718191a1b1c1d1e1f
+# match host 192.168.1.5:4001
+players 2
+";
+
+/// Whether a card has this text, and is read as it was written.
+fn is_card(alloc: Global, seat: Option<Watcher>, relay: Option<&str>, wanted: &[u8]) -> bool {
     let secret = Secret::of(&SECRET);
-    card_text(
-        alloc,
-        9,
-        &secret,
-        Some("example.org:4001"),
-        "",
-        b"players 2\n",
-    )
-    .is_ok_and(|text| text.as_slice() == CARD)
+    let holder = Holder {
+        secret: &secret,
+        seat,
+    };
+    let host = "192.168.1.5:4001";
+    let Ok(text) = card_text(alloc, 9, holder, relay, host, b"players 2\n") else {
+        return false;
+    };
+    let is_read = match card_in(alloc, &text) {
+        Ok(Some(card)) => {
+            (card.room, card.seat, card.is_relay) == (9, seat, relay.is_some())
+                && card.there.as_str() == relay.unwrap_or(host)
+        }
+        _ => false,
+    };
+    is_read && text.as_slice() == wanted
 }
+
+/// Texts of no card: without a room, a secret or an address, and with the seat of a player.
+const NO_CARDS: [&[u8]; 4] = [
+    b"# match secret 00\n# match host a:1\n",
+    b"# match room 9\n# match host a:1\n",
+    b"# match room 9\n# match secret 00\n",
+    b"# match room 9\n# match seat 2\n# match secret 00\n# match host a:1\n",
+];
 
 #[test]
 fn a_card_has_all_of_a_match(rt: HostRuntime) {
-    assert!(rt; is_card(rt.alloc()));
+    let alloc = rt.alloc();
+    assert!(rt; is_card(alloc, None, Some("example.org:4001"), CARD));
+    assert!(rt; is_card(alloc, Some(Watcher { number: 5 }), None, WATCHERS_CARD));
+    for text in NO_CARDS {
+        assert!(rt; matches!(card_in(alloc, text), Ok(None)));
+    }
 }
 
 /// The bytes 00 to 1f.

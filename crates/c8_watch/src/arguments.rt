@@ -2,11 +2,16 @@
 
 use crate::help::WATCH_ENDING;
 use c8_command::{Argument, Form, Outline, is_explained, word_of};
-use c8_net::number_of;
 use c8_net::options::{LOCAL, RELAY};
+use c8_net::{Card, number_of};
 use c8_wire::Watcher;
 use clap::ArgMatches;
 use clap::builder::ValueParser;
+
+/// Any port of all addresses of this machine, of either IP version.
+const ANY_V4: &str = "0.0.0.0:0";
+
+const ANY_V6: &str = "[::]:0";
 
 /// What the command line of `watch` asks for.
 #[derive(Clone, Copy)]
@@ -42,19 +47,20 @@ pub static WATCH: Outline = Outline {
     takes: &[
         Argument {
             name: "GAME",
-            help: "The path of the game's text or .ch8 program, the same as the players'",
+            help: "The path of the game's text or .ch8 program, the same as the players'; or of the watchers' match card",
             ..Argument::NEEDED
         },
         Argument {
             name: "SEAT",
-            help: "The seat, 5 or 6, as in player 1's --watch5 or --watch6",
+            help: "The seat, 5 or 6, as in player 1's --watch5 or --watch6; with a card it is left out",
+            form: Form::Optional,
             value: Some(ValueParser::Signed(5, 6)),
             ..Argument::NEEDED
         },
         LOCAL,
         Argument {
             name: "REMOTE",
-            help: "Player 1's address or name; with --relay it is left out",
+            help: "Player 1's address or name; with --relay or a card it is left out",
             form: Form::Optional,
             ..Argument::NEEDED
         },
@@ -95,22 +101,61 @@ pub static WATCH: Outline = Outline {
     ],
 };
 
-/// Returns what a parsed command line asks for. The parser has checked that each argument is present and in range.
-pub(crate) fn asked_of<'a>(given: &ArgMatches<'a>) -> Option<WatchAsked<'a>> {
-    let seat = Watcher::new(given.get_one::<u8>("SEAT")?)?;
-    let relay = given.get_str("relay");
-    Some(WatchAsked {
+/// Returns what a parsed command line asks for: with a seat in its words, or with a card that has a seat. `None` without a seat.
+/// The parser has checked the ranges.
+pub(crate) fn asked_of<'a>(
+    given: &'a ArgMatches<'_>,
+    card: Option<&'a Card>,
+) -> Option<WatchAsked<'a>> {
+    match (given.get_one::<u8>("SEAT"), card) {
+        (Some(number), _) => Some(asked_in(given, Watcher::new(number)?)),
+        (None, Some(card)) => asked_by(given, card),
+        (None, None) => None,
+    }
+}
+
+/// What the words ask for.
+fn asked_in<'a>(given: &'a ArgMatches<'_>, seat: Watcher) -> WatchAsked<'a> {
+    let relay = text_in(given, "relay");
+    WatchAsked {
         game: word_of(given, "GAME"),
         seat,
         local: word_of(given, "LOCAL"),
         remote: relay.unwrap_or(word_of(given, "REMOTE")),
         has_relay: relay.is_some(),
-        secret: given.get_str("secret"),
+        secret: text_in(given, "secret"),
         room: number_of(given, "room").unwrap_or(0),
         turns: number_of(given, "turns").unwrap_or(u64::MAX),
         stop: number_of(given, "stop"),
         screen: given.get_flag("screen"),
-        cast: given.get_str("cast"),
+        cast: text_in(given, "cast"),
         explain: is_explained(given),
+    }
+}
+
+/// The value of an option.
+fn text_in<'a>(given: &'a ArgMatches<'_>, name: &str) -> Option<&'a str> {
+    match given.get_str(name) {
+        Some(word) => Some(word),
+        None => None,
+    }
+}
+
+/// The same, for the match on a card: its room, its secret, and the way to it. `None` if the card has no seat.
+fn asked_by<'a>(given: &'a ArgMatches<'_>, card: &'a Card) -> Option<WatchAsked<'a>> {
+    let asked = asked_in(given, card.seat?);
+    let there = card.there.as_str();
+    let any = if there.starts_with('[') {
+        ANY_V6
+    } else {
+        ANY_V4
+    };
+    Some(WatchAsked {
+        local: if card.is_relay { "" } else { any },
+        remote: there,
+        has_relay: card.is_relay,
+        secret: asked.secret.or(Some(asked.game)),
+        room: card.room,
+        ..asked
     })
 }

@@ -10,10 +10,12 @@ use crate::laws::turns_take_nothing_back;
 use crate::person::Person;
 use crate::stage::Stage;
 use crate::worker::Picture;
-use c8_command::{Status, Terminals, Threaded};
+use c8_command::{Status, Terminals, Threaded, read_file, word_of};
 use c8_files::warn_of_readers;
 use c8_game::Game;
-use c8_net::{Fault, Line, PeerError, Sealing, game_at, refuse_among, watch_sealing_at};
+use c8_net::{
+    Card, Fault, Line, PeerError, Sealing, card_in, game_at, refuse_among, watch_sealing_at,
+};
 use c8_peer::OpenError;
 use c8_spectator::Spectator;
 use c8_texts::{Played, write_report};
@@ -21,12 +23,23 @@ use c8_transport::{Counters, Sealed, Sealer, Wire};
 use c8_udp::{Addresses, Named, Reached, SocketError, SocketFault, is_same_place};
 use c8_wire::Seat;
 use clap::ArgMatches;
+use std::alloc::AllocError;
+use std::fs::File;
 use std::io;
 use std::io::Write;
 use std::net::Net;
+use std::rt::Files;
 use std::sync::Wait;
 use std::thread::Threads;
 use std::time::{Clock, SystemTime};
+
+/// The refusal of words that name no seat.
+const NO_SEAT: &str =
+    "watch takes a watcher's match card, or GAME, SEAT, LOCAL and REMOTE, or GAME, SEAT and --relay";
+
+/// The refusal of a card without a seat.
+const FOR_PLAYERS: &str =
+    "this card is for players, who type ./c8play join and its name; host --watch makes one to watch with";
 
 /// Runs `watch` as the command line asks. `--screen` is refused unless standard output is a terminal. The error is a
 /// writer's.
@@ -43,15 +56,36 @@ where
     E: Write,
     ensures { IfOk result (λ status. status ≡ statuses.Done → HasWatchedThen status) }
 {
-    match asked_of(given) {
-        Some(asked) => match mistake_in(given, &asked, terminals) {
-            Some(mistake) => {
-                writeln!(refused, "error: {mistake}")?;
-                Ok(Status::CommandLine)
-            }
-            None => watch(rt, &asked, out, refused),
-        },
-        None => Ok(Status::CommandLine),
+    let card = card_of(rt, given)?;
+    let Some(asked) = asked_of(given, card.as_ref()) else {
+        writeln!(refused, "error: {}", seatless(card.is_some()))?;
+        return Ok(Status::CommandLine);
+    };
+    match mistake_in(given, &asked, terminals) {
+        Some(mistake) => {
+            writeln!(refused, "error: {mistake}")?;
+            Ok(Status::CommandLine)
+        }
+        None => watch(rt, &asked, out, refused),
+    }
+}
+
+/// Why there is no seat, for a card or without one.
+fn seatless(is_card: bool) -> &'static str {
+    if is_card { FOR_PLAYERS } else { NO_SEAT }
+}
+
+/// The match card that the words name alone; `None` if they name a seat too, or if the file is no card.
+fn card_of<R>(rt: &R, given: &ArgMatches<'_>) -> Result<Option<Card>, AllocError>
+where
+    R: Files<File = File> + AllocGlobal,
+{
+    if given.contains_id("SEAT") {
+        return Ok(None);
+    }
+    match read_file(rt, word_of(given, "GAME")) {
+        Ok(text) => card_in(rt.alloc(), &text),
+        Err(_) => Ok(None),
     }
 }
 
@@ -70,7 +104,7 @@ fn mistake_in(
     if asked.has_relay && given.get_str("REMOTE").is_some() {
         return Some("--relay stands for player 1's address: give no REMOTE beside it");
     }
-    if !asked.has_relay && given.get_str("REMOTE").is_none() {
+    if !asked.has_relay && asked.remote.is_empty() {
         return Some("give LOCAL and REMOTE, or --relay");
     }
     if !asked.has_relay && is_same_place(asked.local, asked.remote) {

@@ -13,8 +13,8 @@ use std::time::{Clock, Duration};
 const RATE: u8 = 60;
 
 /// Draws the screen, if wanted, sixty times a second by the clock, and below it how far the match is. Each picture is one
-/// write of the rows of text that have changed, and one of the row below it if that has changed. Every sixtieth picture is drawn whole, because the terminal does not report a new window size. After a
-/// write has failed it draws no more.
+/// write of the rows of text that have changed, and one of the row below it if that has changed. Every sixtieth picture is
+/// drawn whole, because the terminal does not report a new window size. After a write has failed it draws no more.
 #[derive(Drop)]
 pub(crate) struct Drawing<'r, 'w, 'p, R, W, P> {
     rt: &'r R,

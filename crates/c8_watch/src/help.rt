@@ -22,7 +22,9 @@ Two players and a watcher, each in a terminal of their own:
   ./c8play peer games/duel.game 2 two.journal 127.0.0.1:4002 127.0.0.1:4001 < games/duel.2.keys
   ./c8play watch games/duel.game 5 127.0.0.1:4005 127.0.0.1:4001 --screen
 
-With --relay neither LOCAL nor REMOTE is needed. It needs --secret, and player 1 gives --watch5 -.
+With --relay neither LOCAL nor REMOTE is needed. It needs --secret, and player 1 gives --watch5 -. A match
+card for watchers, which `host --card --watch` writes, has all of that:
+  ./c8play watch rally.watch.card --screen
 
 Refusals, each one line on standard error, as 'refused: game 5 Hex':
   game 1 Line to 6 Memory: those of the command run
