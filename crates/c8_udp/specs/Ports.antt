@@ -1,7 +1,7 @@
 -- Which addresses a UDP socket has to do with.
 use Rattle.std.specs.Prelude.{◌≡◌, ℕ, Bool, IsSomeAnd, MatchBool, None, Option}
 use Rattle.std.specs.Net.Addr.{IsCanonicalOf, IsIpv6OfBits, embedded_segments, ipv6_bits, ipv6_segments}
-use Rattle.std.specs.Net.RelaySocket.{socket_ip, socket_port}
+use Rattle.std.specs.Net.Socket.{socket_ip, socket_port}
 use Rattle.std.specs.declared.net.ip_addr.IpAddr.{IpAddr}
 use Rattle.std.specs.declared.net.ip_addr.IpAddr.TheVariants as Ip
 use Rattle.std.specs.declared.net.ipv6_addr.Ipv6Addr.{Ipv6Addr}
