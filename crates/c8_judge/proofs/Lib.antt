@@ -4,3 +4,5 @@ mod OutcomeLemmas
 mod JsonLemmas
 -- The lines of all matches are one after another, and the worst status is that of the command.
 mod MatchLemmas
+-- A summary that counts each record in turn has what all records say.
+mod SummaryLemmas

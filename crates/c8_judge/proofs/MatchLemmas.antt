@@ -18,7 +18,7 @@ use Rattle.c8_command.specs.declared.refusal.Part.{Part}
 use Rattle.c8_command.specs.declared.refusal.Part.TheVariants as parts
 use Rattle.c8_command.specs.declared.status.Status.{Status}
 use Rattle.c8_command.specs.declared.status.Status.TheVariants as statuses
-use Rattle.c8_json.specs.Lines.{refused_data}
+use Rattle.c8_judge.specs.Lines.{refused_data}
 use Rattle.c8_judge.specs.Audited.{IsUnjudged}
 use Rattle.c8_judge.specs.PrintedJson.{IsOfVerdicts}
 use Rattle.c8_judge.specs.declared.matches.Found.{Found}

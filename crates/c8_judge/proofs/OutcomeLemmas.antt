@@ -34,7 +34,7 @@ use Rattle.c8_audit.specs.Printed.{entered_text, checks_text, agree_text, yes_te
 use Rattle.c8_judge.specs.Audited.{IsJudged, AreJudged, IsWithout, AreRefused, IsUnjudged, HasAudited, IsEvidence, fault_of_game}
 use Rattle.serde_json.specs.Data.{Data}
 use Rattle.std.specs.Prelude.{OnOk, map, option_map, unwrap_or}
-use Rattle.c8_json.specs.Lines.{refused_data, data_line}
+use Rattle.c8_judge.specs.Lines.{refused_data, data_line}
 use Rattle.c8_judge.specs.PrintedJson.{audit_data, status_of_fault, IsAudit, TellsVerdicts, TellsRefusal, TellsAs}
 use Rattle.c8_command.specs.declared.status.Status.TheVariants as statuses
 use Rattle.std.specs.Io.KnownBytes.{Appends}

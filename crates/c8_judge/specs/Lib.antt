@@ -1,3 +1,6 @@
+pub mod Lines
 pub mod Audited
 pub mod PrintedJson
 pub mod Matches
+pub mod Summary
+pub mod Counted

@@ -17,7 +17,7 @@ use Rattle.c8_command.specs.declared.status.Status.TheVariants as statuses
 use Rattle.c8_digest.specs.StateBytes.{state_bytes}
 use Rattle.c8_game.specs.Rules.{Rules}
 use Rattle.c8_game.specs.declared.row.Player.{Player}
-use Rattle.c8_json.specs.Lines.{number_data, refused_data, data_line}
+use Rattle.c8_judge.specs.Lines.{number_data, refused_data, data_line}
 use Rattle.c8_known.specs.Confirmed.{confirmed, rows_below}
 use Rattle.c8_machine.specs.Serial.{serial}
 use Rattle.c8_audit.specs.Audit.{fault_in}

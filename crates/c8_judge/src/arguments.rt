@@ -1,6 +1,6 @@
-//! The arguments of the command `audit`.
+//! The arguments of the commands `audit` and `journal`.
 
-use crate::help::AUDIT_ENDING;
+use crate::help::{AUDIT_ENDING, JOURNAL_ENDING};
 use c8_command::{Argument, Form, Outline};
 
 /// The name of the option for JSON.
@@ -11,6 +11,9 @@ pub(crate) const MATCHES: &str = "matches";
 
 /// The most journals of a match: one of each of four players.
 pub(crate) const MOST_JOURNALS: usize = 4;
+
+/// The most files of the command `journal`.
+const MOST_FILES: usize = 64;
 
 /// The command `audit`.
 pub static AUDIT: Outline = Outline {
@@ -39,6 +42,22 @@ pub static AUDIT: Outline = Outline {
             help: "Judges the match in each folder of this one instead, and prints a line of JSON for each",
             form: Form::Option("FOLDER"),
             excludes: &["GAME", "JOURNAL"],
+            ..Argument::NEEDED
+        },
+        Argument::EXPLAIN,
+    ],
+};
+
+/// The command `journal`.
+pub static JOURNAL: Outline = Outline {
+    name: "journal",
+    about: "Says what journals are: their players, rooms and games",
+    ending: JOURNAL_ENDING,
+    takes: &[
+        Argument {
+            name: "FILE",
+            help: "The paths of the journals, at most 64; they are only read",
+            form: Form::Words(1, MOST_FILES),
             ..Argument::NEEDED
         },
         Argument::EXPLAIN,

@@ -21,7 +21,7 @@ use c8_audit::{AuditFault, JournalError, laws, write_audit};
 use c8_command::{Site, Status, Text, is_explained, word_of};
 use c8_files::{NO_TEXT, is_binary};
 use c8_game::GameError;
-use c8_json::{refused_of, write_line};
+use crate::lines::{refused_of, write_line};
 use c8_texts::game_site;
 use clap::ArgMatches;
 use std::alloc::Global;

@@ -15,7 +15,7 @@ ghost use Rattle.c8_audit.specs.Verdicts.{IsLeastCount};
 ghost use Rattle.c8_audit.specs.declared.verdict.Verdicts.{Verdicts};
 ghost use Rattle.c8_judge.specs.Audited.{IsEvidence};
 ghost use Rattle.c8_judge.specs.PrintedJson.{listed, HasListed, journal_at, given_player, missing_player, dropped_player, player_data, drop_data, answer, short_data, no_data, answer_data, frames_member, checks_data, digest_by, result_data, object_data, audit_data};
-ghost use Rattle.c8_json.specs.Lines.{data_line};
+ghost use Rattle.c8_judge.specs.Lines.{data_line};
 
 use crate::evidence::Evidence;
 use c8_audit::{
@@ -23,7 +23,7 @@ use c8_audit::{
     digest_of, fault_of, is_dropped, judge, name_of,
 };
 use c8_game::{Game, Player};
-use c8_json::{number_of, write_line};
+use crate::lines::{number_of, write_line};
 use serde_json::{Value, json};
 use std::alloc::{AllocError, Global};
 use std::io;

@@ -10,7 +10,7 @@ ghost use Rattle.c8_command.specs.Status.{status_of as status_of_part};
 ghost use Rattle.c8_command.specs.declared.status.Status.TheVariants as statuses;
 ghost use Rattle.c8_judge.specs.Audited.{IsEvidence, IsUnjudged, fault_of_unjudged};
 ghost use Rattle.c8_judge.specs.PrintedJson.{status_of_fault};
-ghost use Rattle.c8_json.specs.Lines.{refused_data};
+ghost use Rattle.c8_judge.specs.Lines.{refused_data};
 ghost use Rattle.c8_judge.specs.Matches.{IsFound, IsLine, match_data, worse, worst_of, texts_of, TellsLines, TellsMatches, AreSortedNames};
 
 use crate::arguments::MOST_JOURNALS;
@@ -19,7 +19,7 @@ use crate::json::object_of;
 use c8_audit::{AuditFault, fault_of, judge};
 use c8_command::{Part, Refusal, Site, Status};
 use c8_files::is_program;
-use c8_json::{line_of as text_of, refused_of};
+use crate::lines::{line_of as text_of, refused_of};
 use serde_json::{Value, json};
 use std::alloc::{AllocError, Global};
 use std::io;

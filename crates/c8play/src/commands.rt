@@ -6,8 +6,7 @@ use c8_command::{
     words_in,
 };
 use c8_host::{match_commands, match_given};
-use c8_journals::{JOURNAL, journal_given};
-use c8_judge::{AUDIT, audit_given};
+use c8_judge::{AUDIT, JOURNAL, audit_given, journal_given};
 use c8_relay_web::{RELAY_COMMAND, relay_given};
 use c8_replay::{REPLAY, replay_given};
 use c8_script::{RIG, SIM, rig_given, sim_given};

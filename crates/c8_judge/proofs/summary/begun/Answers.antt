@@ -3,8 +3,8 @@ use Rattle.std.proofs.Common.{inl, refl}
 use Rattle.c8_log.specs.Slots.{kept}
 use Rattle.c8_record.specs.Lent.{value_of}
 use Rattle.c8_audit.proofs.JournalLemmas.{not_head, other_kind}
-use Rattle.c8_journals.proofs.SummaryLemmas.{head_summed}
-use Rattle.c8_journals.proofs.summary.begun.Goals as goal
+use Rattle.c8_judge.proofs.SummaryLemmas.{head_summed}
+use Rattle.c8_judge.proofs.summary.begun.Goals as goal
 
 pub returns-in_default-record : goal.returns-in_default-record
 returns-in_default-record c =

@@ -2,8 +2,8 @@
 use Rattle.std.proofs.Common.{arith}
 use Rattle.c8_log.specs.Slots.{kept}
 use Rattle.c8_record.specs.Lent.{value_of}
-use Rattle.c8_journals.proofs.SummaryLemmas.{few_entered, few_opened, summed_more}
-use Rattle.c8_journals.proofs.summary.summary_of.Goals as goal
+use Rattle.c8_judge.proofs.SummaryLemmas.{few_entered, few_opened, summed_more}
+use Rattle.c8_judge.proofs.summary.summary_of.Goals as goal
 
 pub add-requires-clause-few : goal.add-requires-clause-few
 add-requires-clause-few c =

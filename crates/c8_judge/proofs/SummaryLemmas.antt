@@ -10,9 +10,9 @@ use Rattle.std.proofs.lemmas.List.Elements.{All-append}
 use Rattle.std.proofs.lemmas.List.Folds.{list_any-append}
 use Rattle.std.proofs.lemmas.List.Sums.{sum_by-append, count_by-le-length}
 use Rattle.std.proofs.lemmas.Option.{slice_get_within, get_or_from_slice_get}
-use Rattle.c8_journals.specs.declared.summary.Summary.{Summary}
-use Rattle.c8_journals.specs.Counted.{Counts, IsSummedTo, form_after}
-use Rattle.c8_journals.specs.Summary.{IsSummed, Sums, forms, forms_of, tells_drop, was_dropped}
+use Rattle.c8_judge.specs.declared.summary.Summary.{Summary}
+use Rattle.c8_judge.specs.Counted.{Counts, IsSummedTo, form_after}
+use Rattle.c8_judge.specs.Summary.{IsSummed, Sums, forms, forms_of, tells_drop, was_dropped}
 use Rattle.c8_known.specs.Journal.{Record, Head, Epoch, Own, Got, Freeze, Leave, Cut, State, Check}
 use Rattle.c8_known.specs.Journal.{is_own, epochs, epochs_of, ticks}
 use Rattle.c8_record.specs.Body.{Spells, record_of, records_of}

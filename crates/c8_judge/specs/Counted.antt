@@ -1,8 +1,8 @@
 -- How a summary grows, record by record: what the code counts.
 use Rattle.std.specs.Prelude.{◌≡◌, ◌<◌, ◌≤◌, ◌+◌, ℕ, List, length, take, get_or, false, ◌||◌, cond}
 use Rattle.std.specs.List.{All}
-use Rattle.c8_journals.specs.declared.summary.Summary.{Summary}
-use Rattle.c8_journals.specs.Summary.{IsOf, Sums, tells_drop}
+use Rattle.c8_judge.specs.declared.summary.Summary.{Summary}
+use Rattle.c8_judge.specs.Summary.{IsOf, Sums, tells_drop}
 use Rattle.c8_known.specs.Journal.{Record, Head, Epoch, Own, Got, Freeze, Leave, Cut, State, Check, is_own, epochs_of}
 use Rattle.c8_record.specs.Body.{Spells, record_of, records_of}
 

@@ -3,8 +3,8 @@
 ghost use Rattle.std.specs.Prelude.{◌<◌, ◌+◌, ◌^◌, MatchResult};
 ghost use Rattle.c8_log.specs.Slots.{kept};
 ghost use Rattle.c8_record.specs.Lent.{value_of};
-ghost use Rattle.c8_journals.specs.Counted.{Counts, IsSummedTo};
-ghost use Rattle.c8_journals.specs.Summary.{IsSummed, IsUnsummed};
+ghost use Rattle.c8_judge.specs.Counted.{Counts, IsSummedTo};
+ghost use Rattle.c8_judge.specs.Summary.{IsSummed, IsUnsummed};
 
 use c8_audit::{JournalError, Unfit};
 use c8_game::{MOST_PLAYERS, Player};

@@ -1,12 +1,11 @@
 //! What commands print as JSON: one object on one line, with numbers that every reader takes without a loss.
 //! `specs/Lines.antt` says which texts these are.
-#![tactic(auto)]
 
 ghost use Rattle.std.specs.Prelude.{◌≡◌, ℕ, List, false, string_bytes, IfOk, OnOk};
 ghost use Rattle.std.specs.Io.KnownBytes.{Appends};
 ghost use Rattle.serde_json.specs.View.{view};
 ghost use Rattle.serde_json.specs.Written.{has_float};
-ghost use Rattle.c8_json.specs.Lines.{number_data, refused_data, data_line};
+ghost use Rattle.c8_judge.specs.Lines.{number_data, refused_data, data_line};
 
 use c8_command::Refusal;
 use serde_json::{Value, json};

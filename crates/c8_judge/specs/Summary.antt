@@ -4,7 +4,7 @@ use Rattle.std.specs.List.{slice_get, flat_map, list_any, All}
 use Rattle.c8_audit.specs.Journal.{HasNoHead}
 use Rattle.c8_audit.specs.declared.error.JournalError.{JournalError}
 use Rattle.c8_audit.specs.declared.error.JournalError.TheVariants.{WrongGame, BadRecord, Memory}
-use Rattle.c8_journals.specs.declared.summary.Summary.{Summary}
+use Rattle.c8_judge.specs.declared.summary.Summary.{Summary}
 use Rattle.c8_known.specs.Journal.{Record, Head, Epoch, Own, Got, Freeze, Leave, Cut, State, Check, freezes, lets_go, ticks, epochs}
 use Rattle.c8_record.specs.Body.{Spells, record_of, records_of}
 use Rattle.c8_record.specs.Replay.{BeginsWithHead}

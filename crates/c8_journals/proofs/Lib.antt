@@ -1,2 +1,0 @@
--- A summary that counts each record in turn has what all records say.
-mod SummaryLemmas
