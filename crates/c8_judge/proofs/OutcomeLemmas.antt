@@ -34,8 +34,8 @@ use Rattle.c8_audit.specs.Printed.{entered_text, checks_text, agree_text, yes_te
 use Rattle.c8_judge.specs.Audited.{IsJudged, AreJudged, IsWithout, AreRefused, IsUnjudged, HasAudited, IsEvidence, fault_of_game}
 use Rattle.serde_json.specs.Data.{Data}
 use Rattle.std.specs.Prelude.{OnOk, map, option_map, unwrap_or}
-use Rattle.c8_judge.specs.Lines.{refused_data, data_line}
-use Rattle.c8_judge.specs.PrintedJson.{audit_data, status_of_fault, IsAudit, TellsVerdicts, TellsRefusal, TellsAs}
+use Rattle.c8_judge.specs.Lines.{refused_data, data_line, TellsRefusal}
+use Rattle.c8_judge.specs.PrintedJson.{audit_data, status_of_fault, IsAudit, TellsVerdicts, TellsAs}
 use Rattle.c8_command.specs.declared.status.Status.TheVariants as statuses
 use Rattle.std.specs.Io.KnownBytes.{Appends}
 use Rattle.c8_audit.specs.declared.error.AuditFault.TheVariants as faults
@@ -198,13 +198,6 @@ module _ (names : List (Bor (List ℕ))) (old new : Option (List ℕ)) where
     inr (record { fault = fault; unjudged = unjudged; words = words; object = refl; status_is = same }),
     appends,
   )
-
--- the words of a refusal
-pub tells_words : {T E : Type 0} (told : Result T E) (value : Data) (old new : Option (List ℕ)) → (words : List ℕ) × (value ≡ refused_data words)
-    → OnOk told (Appends old new (data_line value)) → OnOk told (TellsRefusal true old new)
-tells_words (Ok done) value old new (words, is) appends =
-    (words, subst (λ (it : Data). Appends old new (data_line it)) is appends)
-tells_words (Err error) value old new (words, is) appends = tt
 
 -- ---- the command line
 

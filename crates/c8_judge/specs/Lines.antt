@@ -1,6 +1,7 @@
 -- What commands print as JSON, as data and as text.
-use Rattle.std.specs.Prelude.{◌^◌, ℕ, nat_lt, if◌then◌else◌, List, [], ◌∷◌, ◌++◌, codes}
+use Rattle.std.specs.Prelude.{◌≡◌, ◌^◌, ℕ, nat_lt, if◌then◌else◌, List, [], ◌∷◌, ◌++◌, codes, Option, Bool, true, false}
 use Rattle.std.specs.Fmt.{decimal}
+use Rattle.std.specs.Io.KnownBytes.{Appends}
 use Rattle.serde_json.specs.Data.{Data, number, unsigned, string, object, member, no_members}
 use Rattle.serde_json.specs.Written.{compact_text}
 
@@ -15,3 +16,8 @@ refused_data words = object (member (codes "refused") (string words) no_members)
 -- the text on one line
 abbrev pub data_line : Data → List ℕ
 data_line value = compact_text value ++ (10 ∷ [])
+
+-- The object of a refusal is added, or nothing.
+abbrev pub TellsRefusal : Bool → Option (List ℕ) → Option (List ℕ) → Type 0
+TellsRefusal false old new = new ≡ old
+TellsRefusal true old new = (words : List ℕ) × Appends old new (data_line (refused_data words))

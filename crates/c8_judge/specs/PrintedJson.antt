@@ -181,11 +181,6 @@ abbrev pub TellsVerdicts : Bool → Rules → List (Option Journal) → List (Bo
 TellsVerdicts false rules journals names empty verdicts old new = Tells old new verdicts
 TellsVerdicts true rules journals names empty verdicts old new = Appends old new (data_line (audit_data rules journals names empty verdicts))
 
--- The object of a refusal is added, or nothing.
-abbrev pub TellsRefusal : Bool → Option (List ℕ) → Option (List ℕ) → Type 0
-TellsRefusal false old new = new ≡ old
-TellsRefusal true old new = (words : List ℕ) × Appends old new (data_line (refused_data words))
-
 -- What is printed of an audit: its object, or lines, which are known after three yes.
 abbrev pub TellsAs : Bool → List (Bor (List ℕ)) → Status → Option (List ℕ) → Option (List ℕ) → Type 0
 TellsAs false names status old new = status ≡ statuses.Done → TellsYes old new

@@ -1,6 +1,6 @@
 //! `c8play audit`: judges the journals of a match.
 
-ghost use Rattle.std.specs.Prelude.{◌≡◌, ◌≢◌, Bool, None, IfOk, OnOk, List, ℕ};
+ghost use Rattle.std.specs.Prelude.{◌≡◌, ◌≢◌, Bool, None, IfOk, List, ℕ};
 ghost use Rattle.std.specs.Borrow.{Bor};
 ghost use Rattle.c8_audit.specs.Audit.{fault_in};
 ghost use Rattle.c8_audit.specs.Errors.{audit_part};
@@ -11,17 +11,17 @@ ghost use Rattle.c8_audit.specs.declared.verdict.Verdicts.{Verdicts};
 ghost use Rattle.c8_command.specs.Status.{status_of};
 ghost use Rattle.c8_judge.specs.Audited.{HasAudited, IsEvidence, fault_of_unjudged};
 ghost use Rattle.c8_judge.specs.Matches.{folder_in, TellsMatches};
-ghost use Rattle.c8_judge.specs.PrintedJson.{IsJsonAsked, AreGivenNames, TellsAs, TellsVerdicts, TellsRefusal};
+ghost use Rattle.c8_judge.specs.PrintedJson.{IsJsonAsked, AreGivenNames, TellsAs, TellsVerdicts};
 
 use crate::arguments::{JSON, MATCHES};
 use crate::evidence::{Evidence, Unjudged, evidence_of};
 use crate::json::write_json;
+use crate::lines::tell_refusal;
 use crate::matches::audit_matches;
 use c8_audit::{AuditFault, JournalError, laws, write_audit};
 use c8_command::{Site, Status, Text, is_explained, word_of};
 use c8_files::{NO_TEXT, is_binary};
 use c8_game::GameError;
-use crate::lines::{refused_of, write_line};
 use c8_texts::game_site;
 use clap::ArgMatches;
 use std::alloc::Global;
@@ -48,6 +48,9 @@ pub fn audit_given<R: Files + Threads + AllocGlobal + Sync, W: Write, E: Write>(
     out: &mut W,
     refused: &mut E,
 ) -> io::Result<Status>
+where
+    R::File: Send,
+    R::Dir: Send,
     ensures audited { folder_in given.now ≡ None → IfOk result HasAudited }
     ensures printed { folder_in given.now ≡ None → IfOk result (λ status. (json : Bool) × (names : List (Bor (List ℕ)))
         × IsJsonAsked given.now json × AreGivenNames given.now names
@@ -91,7 +94,7 @@ fn audit_files<R: Files + AllocGlobal, W: Write, E: Write>(
     match evidence_of(rt, path, files) {
         Ok(evidence) => judge_all(alloc, &evidence, files, asked, out, refused),
         Err(why) => {
-            tell_json(alloc, &why, asked.json, out)?;
+            tell_refusal(alloc, why.fault().refusal(), asked.json, out)?;
             refuse(alloc, path, files, &why, asked.explain, refused)
         }
     }
@@ -136,16 +139,6 @@ fn write_as<W: Write>(
     match json {
         true => write_json(alloc, evidence, files, out),
         false => write_audit(&evidence.game, &evidence.gathered, files, out),
-    }
-}
-
-/// Writes the object of a refusal, if JSON is asked for.
-fn tell_json<W: Write>(alloc: Global, why: &Unjudged, json: bool, out: &mut W) -> io::Result<()>
-    ensures { OnOk result (TellsRefusal json (W.contents out.old) (W.contents out.new)) }
-{
-    match json {
-        true => write_line(alloc, &refused_of(alloc, why.fault().refusal())?, out),
-        false => Ok(()),
     }
 }
 

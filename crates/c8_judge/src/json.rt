@@ -18,12 +18,12 @@ ghost use Rattle.c8_judge.specs.PrintedJson.{listed, HasListed, journal_at, give
 ghost use Rattle.c8_judge.specs.Lines.{data_line};
 
 use crate::evidence::Evidence;
+use crate::lines::{number_of, write_line};
 use c8_audit::{
     Answer, AuditFault, Fault, Journal, Short, Verdicts, check_of, conclusion_of, cut_of,
     digest_of, fault_of, is_dropped, judge, name_of,
 };
 use c8_game::{Game, Player};
-use crate::lines::{number_of, write_line};
 use serde_json::{Value, json};
 use std::alloc::{AllocError, Global};
 use std::io;
@@ -160,7 +160,7 @@ fn players_of(
 }
 
 /// Adds a value, if there is one.
-fn add(list: &mut Vec<Value>, value: Option<Value>) -> Result<(), AllocError>
+pub(crate) fn add(list: &mut Vec<Value>, value: Option<Value>) -> Result<(), AllocError>
     ensures { OnOk result ((values : ℕ → Option Data) (place : ℕ) → HasListed values place list.old.items
         → option_map view value ≡ values place → IfSome value (λ v. has_float (view v) ≡ false)
         → HasListed values (place + 1) list.new.items) }

@@ -5,7 +5,7 @@ ghost use Rattle.std.specs.Prelude.{◌≡◌, ℕ, List, false, string_bytes, I
 ghost use Rattle.std.specs.Io.KnownBytes.{Appends};
 ghost use Rattle.serde_json.specs.View.{view};
 ghost use Rattle.serde_json.specs.Written.{has_float};
-ghost use Rattle.c8_judge.specs.Lines.{number_data, refused_data, data_line};
+ghost use Rattle.c8_judge.specs.Lines.{number_data, refused_data, data_line, TellsRefusal};
 
 use c8_command::Refusal;
 use serde_json::{Value, json};
@@ -56,4 +56,19 @@ pub fn write_line<W: Write>(alloc: Global, object: &Value, out: &mut W) -> io::R
 {
     let line = line_of(alloc, object)?;
     write!(out, "{line}")
+}
+
+/// Writes the object of a refusal, if JSON is asked for.
+pub fn tell_refusal<W: Write>(
+    alloc: Global,
+    refusal: Refusal,
+    json: bool,
+    out: &mut W,
+) -> io::Result<()>
+    ensures { OnOk result (TellsRefusal json (W.contents out.old) (W.contents out.new)) }
+{
+    match json {
+        true => write_line(alloc, &refused_of(alloc, refusal)?, out),
+        false => Ok(()),
+    }
 }

@@ -16,10 +16,10 @@ ghost use Rattle.c8_judge.specs.Matches.{IsFound, IsLine, match_data, worse, wor
 use crate::arguments::MOST_JOURNALS;
 use crate::evidence::{Evidence, Unjudged, evidence_of};
 use crate::json::object_of;
+use crate::lines::{line_of as text_of, refused_of};
 use c8_audit::{AuditFault, fault_of, judge};
 use c8_command::{Part, Refusal, Site, Status};
 use c8_files::is_program;
-use crate::lines::{line_of as text_of, refused_of};
 use serde_json::{Value, json};
 use std::alloc::{AllocError, Global};
 use std::io;
@@ -55,6 +55,9 @@ pub(crate) fn audit_matches<R: Files + Threads + AllocGlobal + Sync, W: Write, E
     out: &mut W,
     refused: &mut E,
 ) -> io::Result<Status>
+where
+    R::File: Send,
+    R::Dir: Send,
     ensures { IfOk result (λ status. TellsMatches (W.contents out.old) (W.contents out.new) status) }
 {
     let site = explain.then_some(Site::File(folder));
@@ -132,15 +135,17 @@ fn audit_all<R: Files + Threads + AllocGlobal + Sync, W: Write>(
     names: &[String],
     out: &mut W,
 ) -> io::Result<Status>
+where
+    R::File: Send,
+    R::Dir: Send,
     ensures { IfOk result (λ status. TellsLines names.now statuses.Done (W.contents out.old) (W.contents out.new) status) }
 {
-    let folder = Folder { rt, path: folder };
     let batch = batch_of(rt);
     let mut worst = Status::Done;
     let mut done = 0;
     while done < names.len() {
         let end = names.len().min(done.saturating_add(batch));
-        let lines = lines_of(rt, rt.alloc(), &folder, &names[done..end])?;
+        let lines = lines_of(rt, folder, &names[done..end])?;
         worst = write_lines(&lines, worst, out)?;
         done = end;
     }
@@ -158,39 +163,23 @@ fn batch_of<R: Threads>(rt: &R) -> usize
     SHARE * processors.min(MOST_PROCESSORS)
 }
 
-/// What audits the match with a name.
-trait Audits {
-    /// Returns the line of the match. The error is that memory ran out.
-    fn line(&self, name: &str) -> Result<Line, AllocError>
-        ensures { IfOk result (λ line. IsLine name.now line) };
-}
-
-/// A folder of matches.
-struct Folder<'a, R> {
-    rt: &'a R,
-    path: &'a str,
-}
-
-impl<R: Files + AllocGlobal> Audits for Folder<'_, R> {
-    fn line(&self, name: &str) -> Result<Line, AllocError> {
-        line_of(self.rt, self.path, name)
-    }
-}
-
 /// Audits matches, each in a thread of its own, and returns their lines.
-fn lines_of<R: Threads + Sync, A: Audits + Sync>(
+fn lines_of<R: Files + Threads + AllocGlobal + Sync>(
     rt: &R,
-    alloc: Global,
-    audits: &A,
+    folder: &str,
     names: &[String],
 ) -> Result<Vec<Line>, AllocError>
+where
+    R::File: Send,
+    R::Dir: Send,
     ensures { IfOk result (λ lines. AllZip (λ name line. IsLine (string_bytes name) line) names.now lines.items) }
 {
     let work = |place: usize| -> Result<Line, AllocError>
         requires { place < length names.now }
         ensures { (name : String Global) → slice_get names.entry.now place ≡ Some name
             → IfOk result (λ line. IsLine (string_bytes name) line) }
-    { audits.line(&names[place]) };
+    { line_of(rt, folder, &names[place]) };
+    let alloc = rt.alloc();
     let made = map_indices(rt, alloc, names.len(), &work)?;
     all_of(alloc, made)
 }

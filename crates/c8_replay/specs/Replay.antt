@@ -1,5 +1,5 @@
 -- What `replay` answers to the text of a game and the bytes of a journal.
-use Rattle.std.specs.Prelude.{◌≡◌, ◌⊎◌, ◌<◌, ◌≤◌, ℕ, List, length, Option, Some, None, Result, Ok, Err}
+use Rattle.std.specs.Prelude.{◌≡◌, ◌⊎◌, ◌<◌, ◌≤◌, ℕ, List, length, Option, Some, None, Result, Ok, Err, Bool, true, false}
 use Rattle.std.specs.Io.KnownBytes.{Appends}
 use Rattle.c8_command.specs.declared.status.Status.{Status}
 use Rattle.c8_command.specs.declared.status.Status.TheVariants.{Done, Refused}
@@ -17,6 +17,8 @@ use Rattle.c8_log.specs.Slots.{kept}
 use Rattle.c8_machine.specs.Serial.{serial}
 use Rattle.c8_machine.specs.State.{state}
 use Rattle.c8_audit.specs.Journal.{IsJournalOf, IsRefusalOfJournal}
+use Rattle.c8_judge.specs.Lines.{data_line, TellsRefusal}
+use Rattle.c8_judge.specs.PrintedReport.{played_data}
 use Rattle.c8_replay.specs.KeyText.{keys_text, SpellRows}
 use Rattle.c8_replay.specs.declared.arguments.Form.{Form}
 use Rattle.c8_replay.specs.declared.arguments.Form.TheVariants as forms
@@ -72,21 +74,26 @@ IsOutcome game image wish outcome =
     ((rules : Rules) × Spells game rules × IsOutcomeOfRead (Ok rules) image wish outcome)
     ⊎ ((error : GameError) × ((error ≡ games.Memory) ⊎ IsRefused game error) × (outcome ≡ Err (Game error)))
 
--- the command is done, and has written the key lines or the report
-abbrev pub IsPrinted : Shown → Option (List ℕ) → Option (List ℕ) → Status → Type 0
-IsPrinted (Report played) old new status = (status ≡ Done) × Reports old new played
-IsPrinted (Keys text) old new status = (status ≡ Done) × Appends old new text.items
-IsPrinted (Page played page) old new status = (status ≡ Done) × Reports old new played
+-- the report is added as lines, or as one object of JSON
+abbrev pub TellsPlayed : Bool → Option (List ℕ) → Option (List ℕ) → Played → Type 0
+TellsPlayed false old new played = Reports old new played
+TellsPlayed true old new played = Appends old new (data_line (played_data played))
 
--- what is shown is printed; a refusal leaves the output as it was
-abbrev pub IsTold : Result Shown ReplayFault → Option (List ℕ) → Option (List ℕ) → Status → Type 0
-IsTold (Ok shown) old new status = IsPrinted shown old new status
-IsTold (Err fault) old new status = (status ≡ Refused) × (new ≡ old)
+-- the command is done, and has written the key lines or the report
+abbrev pub IsPrinted : Bool → Shown → Option (List ℕ) → Option (List ℕ) → Status → Type 0
+IsPrinted json (Report played) old new status = (status ≡ Done) × TellsPlayed json old new played
+IsPrinted json (Keys text) old new status = (status ≡ Done) × Appends old new text.items
+IsPrinted json (Page played page) old new status = (status ≡ Done) × TellsPlayed json old new played
+
+-- what is shown is printed; a refusal leaves the output as it was, or with JSON adds its object
+abbrev pub IsTold : Bool → Result Shown ReplayFault → Option (List ℕ) → Option (List ℕ) → Status → Type 0
+IsTold json (Ok shown) old new status = IsPrinted json shown old new status
+IsTold json (Err fault) old new status = (status ≡ Refused) × TellsRefusal json old new
 
 -- the command ends with the outcome for this game, journal and wish
 abbrev pub HasReplayed : List ℕ → List ℕ → Wish → Option (List ℕ) → Option (List ℕ) → Status → Type 0
 HasReplayed game image wish old new status =
-    (outcome : Result Shown ReplayFault) × IsOutcome game image wish outcome × IsTold outcome old new status
+    (outcome : Result Shown ReplayFault) × IsOutcome game image wish outcome × IsTold wish.json outcome old new status
 
 -- if the command is done, it has replayed this journal
 abbrev pub EndsReplayOf : List ℕ → List ℕ → Wish → Option (List ℕ) → Option (List ℕ) → Status → Type 0

@@ -13,6 +13,8 @@ pub struct Wish {
     /// How many confirmed rows are shown; `None` for all.
     pub to: Option<u64>,
     pub form: Form,
+    /// Whether the report, or a refusal, is one object of JSON.
+    pub json: bool,
 }
 
 /// The form in which `replay` shows rows.
@@ -74,6 +76,12 @@ pub static REPLAY: Outline = Outline {
             ..Argument::FLAG
         },
         Argument {
+            name: "json",
+            help: "Prints one line of JSON instead: an object with the report's lines as its fields",
+            excludes: &["keys"],
+            ..Argument::FLAG
+        },
+        Argument {
             name: "page",
             help: "Also writes one HTML page that shows the match in a browser",
             excludes: &["keys"],
@@ -111,6 +119,7 @@ pub(crate) fn asked_of<'a>(given: &ArgMatches<'a>) -> Asked<'a> {
             room: given.get_one::<u64>("room"),
             to: given.get_one::<u64>("to"),
             form,
+            json: given.get_flag("json"),
         },
         page,
         screen: match given.get_flag("screen") {

@@ -1,9 +1,9 @@
 //! `c8play replay`: shows the match that a journal confirms.
 
-ghost use Rattle.std.specs.Prelude.{◌≡◌, ◌≢◌, IfOk};
+ghost use Rattle.std.specs.Prelude.{◌≡◌, ◌≢◌, IfOk, OnOk};
 ghost use Rattle.c8_command.specs.declared.status.Status.TheVariants as statuses;
-ghost use Rattle.c8_texts.specs.Report.{Reports};
-ghost use Rattle.c8_replay.specs.Replay.{EndsReplay, EndsReplayOf, HasReplayed, IsPrinted};
+ghost use Rattle.c8_judge.specs.Lines.{TellsRefusal};
+ghost use Rattle.c8_replay.specs.Replay.{EndsReplay, EndsReplayOf, HasReplayed, IsPrinted, TellsPlayed};
 
 use crate::arguments::{Asked, asked_of};
 use crate::error::ReplayFault;
@@ -13,6 +13,7 @@ use c8_audit::{JournalError, read_image};
 use c8_command::{Refusal, Site, Status, System, Text, TextsError, both, is_same_file, read_file};
 use c8_files::{NO_TEXT, ProgramError, is_binary, is_program, text_of};
 use c8_game::GameError;
+use c8_judge::{tell_refusal, write_played};
 use c8_play::Terminal;
 use c8_texts::{Played, game_site, write_report};
 use clap::ArgMatches;
@@ -38,11 +39,11 @@ where
     let asked = asked_of(given);
     let (bytes, image) = match both(read_file(rt, asked.game), read_image(rt, asked.journal)) {
         Ok(files) => files,
-        Err(error) => return refuse_files(&asked, error, refused),
+        Err(error) => return refuse_files(rt.alloc(), &asked, error, out, refused),
     };
     match text_of(rt.alloc(), is_program(asked.game), bytes) {
         Ok(text) => replay_files(rt, &asked, &text, &image, out, refused),
-        Err(why) => refuse_program(&asked, why, refused),
+        Err(why) => refuse_program(rt.alloc(), &asked, why, out, refused),
     }
 }
 
@@ -68,15 +69,16 @@ where
     };
     let shown = match show_journal(rt.alloc(), game, image, &asked.wish) {
         Ok(shown) => shown,
-        Err(fault) => return refuse(rt.alloc(), asked, game, fault, refused),
+        Err(fault) => return refuse(rt.alloc(), asked, game, fault, out, refused),
     };
     if let Shown::Page(_, page) = &shown
         && let Some(why) = write_page(rt, asked, path, page)
     {
+        tell_refusal(rt.alloc(), Refusal::DISK, asked.wish.json, out)?;
         let site = asked.explain.then_some(Site::File(path));
         return Refusal::DISK.tell_at(site, &why, refused);
     }
-    print(shown, out)
+    print(rt.alloc(), shown, asked.wish.json, out)
 }
 
 /// Shows the match on the terminal of the process, and then prints the report. Without a terminal it refuses the
@@ -101,7 +103,7 @@ where
     };
     match screen_journal(rt.alloc(), game, image, &asked.wish, rate.max(1), console) {
         Ok(()) => replay(rt.alloc(), asked, game, image, out, refused),
-        Err(fault) => refuse(rt.alloc(), asked, game, fault, refused),
+        Err(fault) => refuse(rt.alloc(), asked, game, fault, out, refused),
     }
 }
 
@@ -123,11 +125,30 @@ where
 }
 
 /// Writes why the two files were not read.
-fn refuse_files<E: Write>(
+fn refuse_files<W: Write, E: Write>(
+    alloc: Global,
     asked: &Asked<'_>,
     error: TextsError,
+    out: &mut W,
     refused: &mut E,
 ) -> io::Result<Status>
+    ensures { IfOk result (λ status. status ≢ statuses.Done) }
+{
+    tell_refusal(alloc, refusal_of(error), asked.wish.json, out)?;
+    tell_files(asked, error, refused)
+}
+
+/// Returns the words of the line that says why the two files were not read.
+fn refusal_of(error: TextsError) -> Refusal {
+    match error {
+        TextsError::FirstFailed | TextsError::SecondFailed => Refusal::DISK,
+        TextsError::FirstMemory => ReplayFault::Game(GameError::Memory).refusal(),
+        TextsError::SecondMemory => ReplayFault::Journal(JournalError::Memory).refusal(),
+    }
+}
+
+/// Writes the lines that say why the two files were not read.
+fn tell_files<E: Write>(asked: &Asked<'_>, error: TextsError, refused: &mut E) -> io::Result<Status>
     ensures { IfOk result (λ status. status ≢ statuses.Done) }
 {
     let site = asked
@@ -148,7 +169,7 @@ fn refuse_files<E: Write>(
 
 /// Shows the journal that the bytes of an image keep, for the game that a text spells. Writes the report of the machine
 /// or the key lines to `out`; it writes no page. A refusal is one line on `refused`; `--explain` adds a second line,
-/// and `out` does not change. The error is a writer's.
+/// and `out` does not change, or with `--json` it gets the object of the refusal. The error is a writer's.
 pub fn replay<W: Write, E: Write>(
     alloc: Global,
     asked: &Asked<'_>,
@@ -161,13 +182,29 @@ pub fn replay<W: Write, E: Write>(
         (HasReplayed game.now image.now asked.now.wish (W.contents out.old) (W.contents out.new)) }
 {
     match show_journal(alloc, game, image, &asked.wish) {
-        Ok(shown) => print(shown, out),
-        Err(fault) => refuse(alloc, asked, game, fault, refused),
+        Ok(shown) => print(alloc, shown, asked.wish.json, out),
+        Err(fault) => refuse(alloc, asked, game, fault, out, refused),
     }
 }
 
 /// Writes why nothing is shown.
-fn refuse<E: Write>(
+fn refuse<W: Write, E: Write>(
+    alloc: Global,
+    asked: &Asked<'_>,
+    game: &[u8],
+    fault: ReplayFault,
+    out: &mut W,
+    refused: &mut E,
+) -> io::Result<Status>
+    ensures { IfOk result (λ status. (status ≡ statuses.Refused)
+        × TellsRefusal asked.now.wish.json (W.contents out.old) (W.contents out.new)) }
+{
+    tell_refusal(alloc, fault.refusal(), asked.wish.json, out)?;
+    tell(alloc, asked, game, fault, refused)
+}
+
+/// Writes the lines of a refusal.
+fn tell<E: Write>(
     alloc: Global,
     asked: &Asked<'_>,
     game: &[u8],
@@ -185,24 +222,28 @@ fn refuse<E: Write>(
 }
 
 /// Writes why a program makes no game.
-fn refuse_program<E: Write>(
+fn refuse_program<W: Write, E: Write>(
+    alloc: Global,
     asked: &Asked<'_>,
     why: ProgramError,
+    out: &mut W,
     refused: &mut E,
 ) -> io::Result<Status>
     ensures { IfOk result (λ status. status ≡ statuses.Refused) }
 {
+    let fault = ReplayFault::Game(GameError::from(why));
+    tell_refusal(alloc, fault.refusal(), asked.wish.json, out)?;
     let site = asked.explain.then_some(Site::File(asked.game));
-    ReplayFault::Game(GameError::from(why)).tell_why(site, &why, refused)
+    fault.tell_why(site, &why, refused)
 }
 
 /// Writes the key lines, or the report of the machine. Of a page it writes the report too.
-fn print<W: Write>(shown: Shown, out: &mut W) -> io::Result<Status>
-    ensures { IfOk result (IsPrinted shown (W.contents out.old) (W.contents out.new)) }
+fn print<W: Write>(alloc: Global, shown: Shown, json: bool, out: &mut W) -> io::Result<Status>
+    ensures { IfOk result (IsPrinted json shown (W.contents out.old) (W.contents out.new)) }
 {
     match shown {
-        Shown::Report(played) => print_report(&played, out),
-        Shown::Page(played, _) => print_report(&played, out),
+        Shown::Report(played) => print_played(alloc, &played, json, out),
+        Shown::Page(played, _) => print_played(alloc, &played, json, out),
         Shown::Keys(text) => {
             out.write_all(&text)?;
             Ok(Status::Done)
@@ -210,12 +251,28 @@ fn print<W: Write>(shown: Shown, out: &mut W) -> io::Result<Status>
     }
 }
 
-fn print_report<W: Write>(played: &Played, out: &mut W) -> io::Result<Status>
+/// Writes the report of the machine, as lines or as JSON.
+fn print_played<W: Write>(
+    alloc: Global,
+    played: &Played,
+    json: bool,
+    out: &mut W,
+) -> io::Result<Status>
     ensures { IfOk result (λ status. (status ≡ statuses.Done)
-        × Reports (W.contents out.old) (W.contents out.new) played.now) }
+        × TellsPlayed json (W.contents out.old) (W.contents out.new) played.now) }
 {
-    write_report(out, played)?;
+    write_as(alloc, played, json, out)?;
     Ok(Status::Done)
+}
+
+/// Writes the report of the machine, as lines or as JSON.
+fn write_as<W: Write>(alloc: Global, played: &Played, json: bool, out: &mut W) -> io::Result<()>
+    ensures { OnOk result (TellsPlayed json (W.contents out.old) (W.contents out.new) played.now) }
+{
+    match json {
+        true => write_played(alloc, played, out),
+        false => write_report(out, played),
+    }
 }
 
 /// Returns where a fault is.

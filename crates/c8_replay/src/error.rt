@@ -1,6 +1,7 @@
 //! Why the command `replay` refuses, and the line that says so.
 
 ghost use Rattle.std.specs.Prelude.{◌≡◌, IfOk};
+ghost use Rattle.c8_command.specs.Status.{status_of};
 ghost use Rattle.c8_command.specs.declared.status.Status.TheVariants as statuses;
 
 use c8_audit::JournalError;
@@ -43,11 +44,18 @@ impl ReplayFault {
     ) -> io::Result<Status>
         ensures { IfOk result (λ status. status ≡ statuses.Refused) }
     {
+        self.refusal().tell_at(site, why, out)
+    }
+
+    /// Returns the words of the refusal's line.
+    pub(crate) fn refusal(self) -> Refusal
+        ensures { status_of result.part ≡ statuses.Refused }
+    {
         let (part, number, name) = match self {
             ReplayFault::Game(error) => (Part::Game, error.number(), error.name()),
             ReplayFault::Journal(error) => (Part::Open, error.number(), error.name()),
             ReplayFault::Beyond(_) => (Part::Replay, 1, "Beyond"),
         };
-        Refusal { part, number, name }.tell_at(site, why, out)
+        Refusal { part, number, name }
     }
 }

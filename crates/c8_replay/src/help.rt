@@ -6,6 +6,10 @@ pub const REPLAY_ENDING: &str =
 without a lock, and what it keeps at that moment counts. The machine is run from the first frame on,
 whatever checkpoints the journal has.
 
+With --json standard output is one object on one line, with the fields frames, pc, i, v, timer, tone,
+draws, stack, state and screen; after a refusal it is an object with the field refused, as
+'replay 1 Beyond'. docs/FORMATS.md lists what they have. Standard error and the exit status are the same.
+
 What --keys prints is a file of keys for the command run, which then prints the same machine:
   ./c8play replay games/duel.game one.journal --keys > one.keys
   ./c8play run games/duel.game one.keys

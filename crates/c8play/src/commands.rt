@@ -31,6 +31,7 @@ pub fn answer<R, I, W: Write, E: Write + Send>(
 ) -> Status
 where
     R: Threaded + RandomSource + Clone + Drop,
+    R::Dir: Send,
     I: Read + Drop,
 {
     let ended = obey(rt, args, input, out, terminals, explains, refused);
@@ -49,6 +50,7 @@ fn obey<R, I, W: Write, E: Write + Send>(
 ) -> io::Result<Status>
 where
     R: Threaded + RandomSource + Clone + Drop,
+    R::Dir: Send,
     I: Read + Drop,
 {
     let Some(words) = words_in(rt.alloc(), args, refused)? else {
@@ -101,6 +103,7 @@ fn carry_out<R, I, W: Write, E: Write + Send>(
 ) -> io::Result<Status>
 where
     R: Threaded + RandomSource + Clone + Drop,
+    R::Dir: Send,
     I: Read + Drop,
 {
     let Some((name, given)) = matches.subcommand() else {
@@ -122,6 +125,7 @@ fn carry_out_alone<R, W: Write, E: Write + Send>(
 ) -> io::Result<Status>
 where
     R: Threaded + RandomSource + Clone + Drop,
+    R::Dir: Send,
 {
     match name {
         "run" => {
