@@ -14,7 +14,7 @@ returns g c =
     let made = c.in_ok-made.made.items in
     IfOk-weaker c.all_of.result _ _ (λ lines same.
     zip_by (λ name line. IsLine (string_bytes name) line) names lines.items
-    (sym (length-map lines.items Ok) ∙ ap length same ∙ c.in_ok-made.ensures.len)
+    (sym (length-map lines.items Ok) ∙ ap length same ∙ sym c.in_ok-made.made.ok.0 ∙ c.in_ok-made.ensures.len)
     (λ i name line at there.
     let call = (c.in_ok-made.ensures.each i (Ok line) (some_within names i name at)).1 in
     subst (λ one. IfOk one (λ l. IsLine (string_bytes name) l))
