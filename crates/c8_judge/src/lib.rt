@@ -26,6 +26,6 @@ mod summary;
 pub use arguments::{AUDIT, JOURNAL};
 pub use command::audit_given;
 pub use journal_command::journal_given;
-pub use lines::{MOST_EXACT, line_of, number_of, refused_of, write_line};
+pub use lines::{MOST_EXACT, line_of, number_of, refused_of, tell_refusal, write_line};
 pub use report::write_played;
 pub use summary::{Summary, summary_of};
