@@ -4,6 +4,7 @@ ghost use Rattle.std.specs.Prelude.{◌≡◌, ◌<◌, ◌^◌, []};
 use crate::folder::pages_in;
 use crate::hub::Hub;
 use crate::page::Pages;
+use crate::progress::Progress;
 use crate::serving::serve;
 use crate::site::Site;
 use c8_command::{Argument, Form, Outline, Part, Refusal, Status, word_of};
@@ -58,7 +59,7 @@ pub static RELAY_COMMAND: Outline = Outline {
     ..TAKEN
 };
 
-/// What both take: `LOCAL`, `--pages`, `--rooms`, `--origin` and `--progress`.
+/// What both take: `LOCAL`, `--pages`, `--rooms`, `--origin`, `--progress` and `--json`.
 const TAKEN: Outline = Outline {
     name: "",
     about: "Carries the datagrams of matches between players who cannot reach each other",
@@ -92,6 +93,11 @@ const TAKEN: Outline = Outline {
         Argument {
             name: "progress",
             help: "Prints a line each second: rooms, seats, connections, datagrams, and what was dropped",
+            ..Argument::FLAG
+        },
+        Argument {
+            name: "json",
+            help: "Prints this line as JSON, an object with the same words as its fields, with or without --progress",
             ..Argument::FLAG
         },
     ],
@@ -130,7 +136,18 @@ where
             return refusal_of(SocketError::Failed(SocketFault::of(&error))).tell(refused);
         }
     };
-    run(rt, limits, &mut hub, given.get_flag("progress"), out)
+    run(rt, limits, &mut hub, progress_of(given), out)
+}
+
+/// Returns which lines the command line asks for.
+fn progress_of(given: &ArgMatches<'_>) -> Progress {
+    if given.get_flag("json") {
+        Progress::Json
+    } else if given.get_flag("progress") {
+        Progress::Words
+    } else {
+        Progress::Nothing
+    }
 }
 
 /// Reads what is to be served.
@@ -155,7 +172,7 @@ fn run<R, W>(
     rt: &R,
     limits: Limits,
     hub: &mut Hub,
-    has_progress: bool,
+    progress: Progress,
     out: &mut W,
 ) -> io::Result<Status>
 where
@@ -179,15 +196,7 @@ where
     }
     out.flush()?;
     honest_at_first();
-    serve(
-        rt,
-        &mut relay,
-        hub,
-        &mut poll,
-        &mut events,
-        has_progress,
-        out,
-    )?;
+    serve(rt, &mut relay, hub, &mut poll, &mut events, progress, out)?;
     Ok(Status::Done)
 }
 

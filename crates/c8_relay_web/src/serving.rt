@@ -4,11 +4,10 @@ ghost use Rattle.c8_relay.specs.Honest.{IsHonest};
 
 use crate::hub::Hub;
 use crate::numbers::MOST_CONNECTIONS;
-use arrayvec::ArrayString;
+use crate::progress::Progress;
 use c8_relay::{Relay, leave};
 use c8_udp::{Counts, batch};
 use mio::{Events, Poll, Registry};
-use std::fmt::Write as _;
 use std::io;
 use std::io::Write;
 use std::sync::Wait;
@@ -16,9 +15,6 @@ use std::time::{Clock, Duration};
 
 /// How many microseconds a second has.
 const SECOND: u64 = 1_000_000;
-
-/// The most bytes of a line of progress: its words, and eleven numbers of 20 digits.
-const LONGEST_LINE: usize = 400;
 
 /// Frees the seats of all connections that have ended.
 fn dismiss(relay: &mut Relay, hub: &mut Hub)
@@ -41,7 +37,7 @@ pub fn serve<R, W>(
     hub: &mut Hub,
     poll: &mut Poll,
     events: &mut Events,
-    has_progress: bool,
+    progress: Progress,
     out: &mut W,
 ) -> io::Result<()>
 where
@@ -52,7 +48,7 @@ where
 {
     let mut counts = Counts::default();
     let mut seconds = Seconds {
-        has_progress,
+        progress,
         last: micros(rt)?,
     };
     for _ in rt.forever() {
@@ -71,8 +67,8 @@ where
 /// What happens once a second.
 #[derive(Drop)]
 struct Seconds {
-    /// Whether a line is written.
-    has_progress: bool,
+    /// Which line is written.
+    progress: Progress,
     /// When the last second passed, in microseconds.
     last: u64,
 }
@@ -97,23 +93,11 @@ impl Seconds {
         }
         self.last = now;
         hub.sweep(registry);
-        self.has_progress = self.has_progress && report(relay, hub, counts, out).is_ok();
+        if self.progress.tell(relay, hub, counts, out).is_err() {
+            self.progress = Progress::Nothing;
+        }
         SECOND
     }
-}
-
-/// Writes a line of progress, in one call of the writer.
-fn report<W: Write>(relay: &Relay, hub: &Hub, counts: &Counts, out: &mut W) -> io::Result<()> {
-    let (rooms, seats) = (relay.rooms(), relay.seats());
-    let (connections, lost) = (hub.connections(), hub.lost());
-    let mut line = ArrayString::<LONGEST_LINE>::new();
-    // It fits, so nothing is left out.
-    let _ = writeln!(
-        line,
-        "rooms {rooms} seats {seats} connections {connections} {counts} slow {lost}"
-    );
-    out.write_all(line.as_bytes())?;
-    out.flush()
 }
 
 /// The time, in microseconds.
