@@ -1,13 +1,17 @@
-"""A cast in the page live.html: its files as docs/FORMATS.md has them, written here once a second as `c8play watch --cast` would."""
+"""A cast in the page live.html: its files as docs/FORMATS.md has them, written here once a second as `c8play watch --cast` would; and one of
+`watch` itself, beside the pictures that `watch --screen` draws."""
 import http.server
 import json
 import os
 import random
+import re
+import shutil
 import struct
 import threading
 import time
 
-from bench import check, says
+from bench import check, free_port, says
+from programs import Terminal, program_of
 
 CHUNK, RATE = 600, 60
 GAME = "players 2\nipf 10\nframes {}\ndelay 2\nwindow 8\nseed 7\nwire 1\nmask1 0012\nmask2 8000\ncode {}\n"
@@ -188,3 +192,88 @@ def damaged(bench, site, caster, rows):
     says(started(bench, site, "other"), "state", "The files are damaged: a tail without rows.")
     late = started(bench, site, "none")
     says(late, "state", "The match has not begun.")
+
+
+# What `watch --screen` writes: a row of text with two rows of points in each cell, and below them which frame it is.
+CELLS = {" ": "..", "\u2580": "#.", "\u2584": ".#", "\u2588": "##"}
+WRITTEN = re.compile("\x1b\\[(\\d+);1H(?:\x1b\\[K)?([ \u2580\u2584\u2588]{64}|\\d+ of \\d+ frames)")
+
+
+def pictures(shown):
+    """The pictures that a watcher drew as it named a frame, by the number of the frame."""
+    lines, found = {}, {}
+    for row, text in WRITTEN.findall(shown.decode("utf-8", "replace")):
+        if int(row) <= 16:
+            lines[int(row)] = text
+        elif len(lines) == 16:
+            cells = [CELLS[it] for place in range(1, 17) for it in lines[place]]
+            found[int(text.split()[0])] = "".join(cell[half] for y in range(16) for half in (0, 1) for cell in cells[64 * y:64 * y + 64])
+    return found
+
+
+def beside(bench):
+    """A match of two programs that a third one watches and casts. That one is killed and started twice. The page shows the match live; its
+    picture of each frame that `watch --screen` names is the one that stands there; and what it loads is never wrong, nor loaded twice."""
+    program, _ = program_of(bench)
+    if not program:
+        return
+    frames, folder = 1800, f"{bench.pages}/beside"
+    game = f"{bench.folder}/beside.game"
+    bench.page.write(game, re.sub(r"(?m)^frames \d+$", f"frames {frames}", bench.page.read(f"{bench.pages}/rally.game")))
+    one, two, five = (f"127.0.0.1:{free_port()}" for _ in range(3))
+    play = [program, "play", game]
+    more = ["--room", "91", "--mute"]
+    players = [Terminal([*play, "1", f"{bench.folder}/beside.1", one, two, "--watch5", five, *more], [b"1", b"q", b"a", b"1"]),
+               Terminal([*play, "2", f"{bench.folder}/beside.2", two, one, *more], [b"4", b"r", b"f", b"r"])]
+    watchers, site = [], Site(bench.pages)
+
+    def watch():
+        watchers.append(Terminal([program, "watch", game, "5", five, one, "--room", "91", "--cast", folder, "--screen"], [b" "]))
+    try:
+        watch()
+        check("a cast is there", comes(lambda: os.path.exists(f"{folder}/tail.bin"), 20))
+        page = started(bench, site, "beside")
+        says(page, "state", "Live.", 20)
+        said, begun, kills = set(), time.monotonic(), [8, 16]
+        while time.monotonic() - begun < 90 and page.value(WHERE) < frames:
+            said.add(page.text("state").partition(":")[0])
+            if kills and time.monotonic() - begun > kills[0]:
+                kills.pop(0)
+                watchers[-1].run_of.kill()
+                watchers[-1].run_of.wait()
+                watch()
+            time.sleep(0.3)
+        check("the page shows the end", page.value(WHERE) == frames, page.text("where"), page.text("state"))
+        check("no file was damaged", "The files are damaged" not in said, said)
+        compare(page, watchers, frames)
+        chunks = {it: times for it, times in site.asked.items() if "/rows/" in it}
+        check("each chunk was loaded once", set(chunks.values()) == {1} and len(chunks) == frames // CHUNK, chunks)
+    finally:
+        site.end()
+        for it in [*players, *watchers]:
+            it.run_of.kill()
+            it.run_of.wait()
+        shutil.rmtree(folder, ignore_errors=True)
+
+
+def comes(holds, seconds):
+    """Whether something holds before long."""
+    end = time.monotonic() + seconds
+    while not holds() and time.monotonic() < end:
+        time.sleep(0.1)
+    return holds()
+
+
+def compare(page, watchers, frames):
+    """Looks in the page at each frame whose picture a watcher drew."""
+    named = {}
+    for it in watchers:
+        named |= pictures(it.shown)
+    named.pop(0, None)
+    check("watchers drew many frames", len(named) > 10 and max(named) <= frames, sorted(named))
+    differ = []
+    for frame, picture in sorted(named.items()):
+        page.value(f"document.getElementById('seek').value = {frame}; document.getElementById('seek').oninput()")
+        if (page.value(WHERE), page.value(POINTS)) != (frame, picture):
+            differ.append(frame)
+    check("the page has the pictures of watch --screen", not differ, differ)

@@ -49,7 +49,7 @@ fn played_of(alloc: Global, played: &Played) -> Result<Value, AllocError>
     let screen = screen_of(alloc, machine.screen())?;
     let stack = stack_of(alloc, machine.stack())?;
     let state = state_of(alloc, machine.stopped(), machine.waits())?;
-    let registers = registers_of(alloc, machine.registers())?;
+    let registers = registers_of(alloc, machine.registers().as_slice())?;
     let fields = Fields {
         draws,
         screen,
@@ -93,7 +93,7 @@ fn joined(
 }
 
 /// Makes the list of the registers.
-fn registers_of(alloc: Global, values: &[u8; 16]) -> Result<Value, AllocError>
+fn registers_of(alloc: Global, values: &[u8]) -> Result<Value, AllocError>
     ensures list { IfOk result (λ v. view v ≡ numbers values.now) }
     ensures exact { IfOk result (λ v. has_float (view v) ≡ false) }
 {
@@ -105,7 +105,7 @@ fn registers_of(alloc: Global, values: &[u8; 16]) -> Result<Value, AllocError>
 }
 
 /// Makes the number of a register, if there is one at the place.
-fn register_at(values: &[u8; 16], place: usize) -> Option<Value>
+fn register_at(values: &[u8], place: usize) -> Option<Value>
     ensures value { option_map view result ≡ number_at values.now place }
     ensures exact { IfSome result (λ v. has_float (view v) ≡ false) }
 {

@@ -15,7 +15,7 @@ returns-clause-object c =
     (c.in_ok-stack.ensures.list ∙ ap numbers c.stack.ensures.value)
     (c.in_ok-state.ensures.state ∙ ap (λ stop. state_data stop c.waits.result) c.stopped.ensures
     ∙ ap (state_data (state c.args.played.now.machine).stop) c.waits.ensures.value)
-    (c.in_ok-registers.ensures.list ∙ ap numbers c.registers.ensures)
+    (c.in_ok-registers.ensures.list ∙ ap numbers (c.as_slice.ensures ∙ c.registers.ensures))
 
 pub returns-clause-exact : goal.returns-clause-exact
 returns-clause-exact c =
