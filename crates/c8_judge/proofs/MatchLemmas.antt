@@ -1,5 +1,6 @@
 -- The lines of matches, one batch after another, and the worst of their statuses.
-use Rattle.std.proofs.Common.{◌≡◌, ◌+◌, ◌-◌, ◌≤◌, ◌<◌, ℕ, zero, suc, ◌⊎◌, inl, inr, List, [], ◌∷◌, ◌++◌, take, drop, map, length, pred, Some, Option, Result, Ok, Err, refl, sym, ap, subst, ◌∙◌, arith}
+use Rattle.std.proofs.Common.{◌≡◌, ◌+◌, ◌-◌, ◌≤◌, ◌<◌, ℕ, zero, suc, ◌⊎◌, inl, inr, List, [], ◌∷◌, ◌++◌, take}
+use Rattle.std.proofs.Common.{drop, map, length, pred, Some, Option, Result, Ok, Err, refl, sym, ap, subst, ◌∙◌, arith}
 use Rattle.std.specs.Prelude.{String, string_bytes, slice_range, slice_get, option_map, IfOk}
 use Rattle.std.specs.declared.alloc.Global.{Global}
 use Rattle.std.specs.Io.KnownBytes.{Appends}
@@ -106,7 +107,8 @@ zip_by R (x ∷ xs) (y ∷ ys) same each = (
 -- what was made of a line
 pub made_at : {B E : Type 0} (lines : List B) (made : List (Result B E)) (i : ℕ) (line : B) → map Ok lines ≡ made → slice_get lines i ≡ Some line
     → slice_get made i ≡ Some (Ok line)
-made_at {B} {E} lines made i line same at = sym (ap (λ (rs : List (Result B E)). slice_get rs i) same) ∙ slice_get-map Ok lines i ∙ ap (option_map Ok) at
+made_at {B} {E} lines made i line same at =
+    sym (ap (λ (rs : List (Result B E)). slice_get rs i) same) ∙ slice_get-map Ok lines i ∙ ap (option_map Ok) at
 
 pub some_within : {X : Type 0} (xs : List X) (i : ℕ) (x : X) → slice_get xs i ≡ Some x → i < length xs
 some_within [] i x at = absurd cc

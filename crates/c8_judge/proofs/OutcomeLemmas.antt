@@ -185,7 +185,16 @@ module _ (names : List (Bor (List ℕ))) (old new : Option (List ℕ)) where
       λ done. tells_yes old new verdicts (yes_status (fault_in verdicts) (sym same ∙ done)) tells
   tells_verdicts true rules journals empty verdicts status evidence are same tells = (
     audit_data rules journals names empty verdicts,
-    inl (record { rules = rules; journals = journals; empty = empty; evidence = evidence; verdicts = verdicts; are = are; object = refl; status_is = same }),
+    inl (record {
+      rules = rules;
+      journals = journals;
+      empty = empty;
+      evidence = evidence;
+      verdicts = verdicts;
+      are = are;
+      object = refl;
+      status_is = same;
+    }),
     tells,
   )
 

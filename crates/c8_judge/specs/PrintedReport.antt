@@ -32,12 +32,14 @@ screen_data lit = array (items_of (listed (row_at lit) height))
 
 -- a machine that has stopped, and why
 abbrev pub stopped_data : Stop → Data
-stopped_data stop = object (member (codes "name") (string (codes "stop")) (member (codes "number") (number (unsigned (number_of stop))) no_members))
+stopped_data stop =
+    object (member (codes "name") (string (codes "stop")) (member (codes "number") (number (unsigned (number_of stop))) no_members))
 
 -- one that waits for a key for a register, or runs
 abbrev pub waiting_data : Option ℕ → Data
 waiting_data None = object (member (codes "name") (string (codes "runs")) no_members)
-waiting_data (Some register) = object (member (codes "name") (string (codes "waits")) (member (codes "register") (number (unsigned register)) no_members))
+waiting_data (Some register) =
+    object (member (codes "name") (string (codes "waits")) (member (codes "register") (number (unsigned register)) no_members))
 
 abbrev pub state_data : Option Stop → Option ℕ → Data
 state_data None waits = waiting_data waits
@@ -52,7 +54,8 @@ machine_data frames s draws screen stack condition registers = object (member (c
     (member (codes "tone") (number (unsigned s.tone)) (member (codes "v") registers no_members))))))))))
 
 abbrev pub state_object : ℕ → State → Data
-state_object frames s = machine_data frames s (number_data s.draws) (screen_data s.screen) (numbers s.stack) (state_data s.stop s.waits) (numbers s.registers)
+state_object frames s =
+    machine_data frames s (number_data s.draws) (screen_data s.screen) (numbers s.stack) (state_data s.stop s.waits) (numbers s.registers)
 
 -- the object of what was played
 abbrev pub played_data : Played → Data

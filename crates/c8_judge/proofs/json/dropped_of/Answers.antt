@@ -4,4 +4,6 @@ use Rattle.c8_judge.specs.PrintedJson.{dropped_player}
 use Rattle.c8_judge.proofs.json.dropped_of.Goals as goal
 
 pub loop-place-preserved : goal.loop-place-preserved
-loop-place-preserved c = c.in_ok-add.ensures (dropped_player (all_seen c.args.journals.now)) c.loop-place.place c.loop-place.invariant c.in_ok-value.ensures.value c.in_ok-value.ensures.exact
+loop-place-preserved c =
+    c.in_ok-add.ensures (dropped_player (all_seen c.args.journals.now)) c.loop-place.place c.loop-place.invariant
+    c.in_ok-value.ensures.value c.in_ok-value.ensures.exact

@@ -4,4 +4,5 @@ use Rattle.c8_judge.proofs.report.stack_of.Goals as goal
 
 pub loop-place-preserved : goal.loop-place-preserved
 loop-place-preserved c =
-    c.in_ok-add.ensures (number_at c.args.places.now) c.loop-place.place c.loop-place.invariant c.address_at.ensures.value c.address_at.ensures.exact
+    c.in_ok-add.ensures (number_at c.args.places.now) c.loop-place.place c.loop-place.invariant
+    c.address_at.ensures.value c.address_at.ensures.exact
