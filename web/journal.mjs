@@ -5,7 +5,7 @@
  * wait for `saved` before they are sent.
  * @module
  */
-import { LOCKED, Refusal } from './c8.mjs';
+import { DISK, LOCKED, Refusal } from './c8.mjs';
 
 /** @typedef {import('./c8.mjs').JournalFile} JournalFile */
 
@@ -26,8 +26,10 @@ const PART = 4096;
 const MONTH = 30 * 24 * 3600 * 1000;
 
 const TAKEN = 'Another window has this match open. Close it, or play there.';
+const UNREAD = 'The journal of this match cannot be opened. Reload the page to try again, or begin a new match.';
 
-/** Opens a journal; null if this browser can keep none.
+/** Opens a journal; null if this browser can keep none. A journal that was begun in a file and cannot be opened is refused: without it the
+ * player would begin again, with inputs that differ from those that the others hold.
  * @param {string} name
  * @returns {Promise<Journal | null>}
  */
@@ -88,7 +90,22 @@ async function openFile(name) {
   await removeOldFiles(folder);
   const keeper = new Keeper(), opened = await keeper.ask({ name });
   if (opened.taken) throw new Refusal(LOCKED, TAKEN);
-  return opened.bytes ? new Kept(keeper, opened.bytes) : null;
+  if (opened.bytes) return new Kept(keeper, opened.bytes);
+  if (await isBegun(folder, name)) throw new Refusal(DISK, UNREAD);
+  return null;
+}
+
+/** Whether a journal's file has bytes. A worker that fails leaves a new one empty.
+ * @param {FileSystemDirectoryHandle} folder
+ * @param {string} name
+ */
+async function isBegun(folder, name) {
+  try {
+    const file = await (await folder.getFileHandle(name)).getFile();
+    return file.size > 0;
+  } catch {
+    return false;
+  }
 }
 
 /** The worker that has a journal's file: it waits for the disk, so that no frame does. It answers each message, in order. */

@@ -1,4 +1,4 @@
-"""How a page keeps a journal in a file: what a crash leaves of it, at any moment."""
+"""How a page keeps a journal in a file: what a crash leaves of it, at any moment; and a file that cannot be opened."""
 import json
 
 from bench import check
@@ -112,3 +112,31 @@ def saves(bench):
         check("a save waits twice", first == 2 + closes and set(more) <= {0, 2} and sum(more) > 10, came["waits"])
         check("an opening closes the gate first", (came["first"][1:] == [0]) == closes, came["first"])
         check("a save has several records", came["longest"] > 3 * SLOT, came["longest"])
+
+
+# What becomes of a journal whose file has some bytes, or is not there (-1), when the keeper answers this.
+OPENINGS = """
+    const { openJournal } = await import('/journal.mjs');
+    let answer = {}, size = 0;
+    const getFileHandle = async () => {
+        if (size < 0) throw new DOMException('', 'NotFoundError');
+        return { getFile: async () => ({ size }) };
+    };
+    navigator.storage.getDirectory = async () => ({ async *values() {}, getFileHandle });
+    globalThis.Worker = class { postMessage() { this.onmessage({ data: answer }); } };
+    const came = [];
+    for ([size, answer] of %s)
+        came.push(await openJournal('begun').then(it => it ? 'kept' : 'none', error => [error.name, error.number].join(' ')));
+    return came;
+"""
+FAILS: dict = {"failed": "The worker failed."}
+CANNOT: dict = {}
+IS_TAKEN: dict = {"taken": True}
+BEGUN = [((200, FAILS), "Refusal 1301"), ((200, CANNOT), "Refusal 1301"), ((1, FAILS), "Refusal 1301"), ((200, IS_TAKEN), "Refusal 1303"),
+         ((0, FAILS), "kept"), ((0, CANNOT), "kept"), ((-1, FAILS), "kept"), ((-1, CANNOT), "kept")]
+
+
+def begun(bench):
+    """A journal that was begun in a file and cannot be opened now is refused. Where no file was begun, a database keeps it."""
+    came = bench.told(OPENINGS % json.dumps([case for case, _ in BEGUN]))
+    check("openings without a file", came == [wanted for _, wanted in BEGUN], came)
