@@ -1,15 +1,15 @@
 // @ts-check
 /**
  * Where a browser keeps the journal of a match: in the private files of the page's origin; or, for a page that is not secure and has
- * none, in a database of the browser (IndexedDB). Neither lets a frame wait for the disk. A write counts once it is saved, so packets
+ * none, in a database of the browser (IndexedDB). Neither lets a frame wait long for the disk. A write counts once it is saved, so packets
  * wait for `saved` before they are sent.
  * @module
  */
 import { DISK, LOCKED, Refusal } from './c8.mjs';
+import { open, take } from './disk.mjs';
 
 /** @typedef {import('./c8.mjs').JournalFile} JournalFile */
-
-/** @typedef {import('./keeper.mjs').Step} Step */
+/** @typedef {import('./disk.mjs').Step} Step */
 /** @typedef {import('./keeper.mjs').Asked} Asked */
 /** @typedef {import('./keeper.mjs').Answer} Answer */
 
@@ -86,16 +86,16 @@ class Held {
 /** @param {string} name @returns {Promise<Journal | null>} */
 async function openFile(name) {
   const folder = await navigator.storage?.getDirectory?.().catch(() => null);
-  if (!folder || !globalThis.Worker) return null;
+  if (!folder) return null;
   await removeOldFiles(folder);
-  const keeper = new Keeper(), opened = await keeper.ask({ name });
-  if (opened.taken) throw new Refusal(LOCKED, TAKEN);
-  if (opened.bytes) return new Kept(keeper, opened.bytes);
+  const { file, taken } = await open(name).catch(() => ({ file: undefined, taken: false }));
+  if (taken) throw new Refusal(LOCKED, TAKEN);
+  if (file) return new Kept(name, file);
   if (await isBegun(folder, name)) throw new Refusal(DISK, UNREAD);
   return null;
 }
 
-/** Whether a journal's file has bytes. A worker that fails leaves a new one empty.
+/** Whether a journal's file has bytes. An opening that fails leaves a new one empty.
  * @param {FileSystemDirectoryHandle} folder
  * @param {string} name
  */
@@ -108,20 +108,27 @@ async function isBegun(folder, name) {
   }
 }
 
-/** The worker that has a journal's file: it waits for the disk, so that no frame does. It answers each message, in order. */
+/** A save that takes longer than this, in milliseconds, makes a frame late. A keeper gets the file once more than six saves were slow; one
+ * that is not makes up for a twentieth of a slow one, since any disk is slow now and then. */
+const SHORT = 12, MOST_SLOW = 6, MADE_UP = 1 / 20;
+
+/** The worker that has a journal's file once the disk has shown to be slow. It answers each message, in order. */
 class Keeper {
   constructor() {
     /** @type {((answer: Answer) => void)[]} */
     this.asked = [];
+    this.failed = '';
     this.worker = new Worker(new URL('keeper.mjs', import.meta.url), { type: 'module' });
     this.worker.onmessage = ({ data }) => this.asked.shift()?.(data);
     this.worker.onerror = ({ message }) => {
-      for (const it of this.asked.splice(0)) it({ failed: message || 'The browser has no modules in workers.' });
+      this.failed = message || 'The browser has no modules in workers.';
+      for (const it of this.asked.splice(0)) it({ failed: this.failed });
     };
   }
 
   /** @param {Asked} message @returns {Promise<Answer>} */
-  ask(message) {
+  async ask(message) {
+    if (this.failed) return { failed: this.failed };
     const bytes = message.steps?.map(it => it.bytes.buffer) ?? [];
     return new Promise(done => { this.asked.push(done); this.worker.postMessage(message, bytes); });
   }
@@ -129,16 +136,23 @@ class Keeper {
 
 /**
  * A journal in a file. A session appends a record by two writes, each with a wait after it: the body with the closed gate behind it, and then
- * the open gate in front of it (docs/FORMATS.md, Journal slots). Here both are one step of the keeper. Records that are appended one after
- * another before they are saved are one step too: the first gate is opened last, so a crash keeps either all of them or none, and the
- * disk is waited for twice.
+ * the open gate in front of it (docs/FORMATS.md, Journal slots). Here both are one step. Records that are appended one after another before
+ * they are saved are one step too: the first gate is opened last, so a crash keeps either all of them or none, and the disk is waited for
+ * twice. Where that is fast, it is waited for here, since a keeper's messages take more of a processor than the waiting.
  * @implements {Journal}
  */
 class Kept extends Held {
-  /** @param {Keeper} keeper @param {Uint8Array} bytes */
-  constructor(keeper, bytes) {
+  /** @param {string} name @param {JournalFile} file */
+  constructor(name, file) {
+    const bytes = new Uint8Array(file.getSize());
+    file.read(bytes, { at: 0 });
     super(bytes);
-    this.keeper = keeper;
+    this.name = name;
+    this.file = file;
+    /** @type {Keeper | null} */
+    this.keeper = null;
+    /** How many saves were slow. */
+    this.slow = 0;
     /** Where the last body ended.
      * @type {number} */
     this.end = 0;
@@ -163,13 +177,41 @@ class Kept extends Held {
   }
 
   close() {
-    this.keeper.ask({ steps: this.steps.splice(0), closes: true });
+    if (this.keeper) return void this.keeper.ask({ steps: this.steps.splice(0), closes: true });
+    try {
+      this.take();
+    } finally {
+      this.file.close();
+    }
   }
 
   async saved() {
     if (!this.steps.length) return;
+    if (!this.keeper) return this.save();
     const { failed } = await this.keeper.ask({ steps: this.steps.splice(0) });
     if (failed) throw new Error(failed);
+  }
+
+  /** Saves the steps here. */
+  save() {
+    const begun = performance.now();
+    this.take();
+    const isSlow = performance.now() - begun > SHORT;
+    this.slow = Math.max(0, this.slow + (isSlow ? 1 : -MADE_UP));
+    if (this.slow > MOST_SLOW && globalThis.Worker) this.giveAway();
+  }
+
+  /** A step that fails stays, so that no later one is taken before it. */
+  take() {
+    for (; this.steps.length; this.steps.shift()) take(this.file, this.steps[0]);
+  }
+
+  /** Gives the file to a keeper. If that cannot open it, the next save fails. */
+  giveAway() {
+    const size = this.file.getSize();
+    this.file.close();
+    this.keeper = new Keeper();
+    this.keeper.ask({ name: this.name, size });
   }
 }
 

@@ -184,9 +184,10 @@ class There {
     return this.first.row();
   }
 
-  /** Sends what is due, once the journal is saved. */
+  /** Sends what is due, once the journal is saved. The frame is shown before that. */
   async send() {
     this.isSending = true;
+    await null;
     try {
       while (this.due.length) {
         const packets = this.due;

@@ -3,8 +3,8 @@ import json
 
 from bench import check
 
-# A match of which player 1 keeps the journal, on a disk that notes each write and each wait (null), and begins with a part of a journal. The
-# page's keeper runs in this page. Then the journal is opened again from what a crash may leave: all that was waited for, and of the
+# A match of which player 1 keeps the journal, on a disk that notes each write and each wait (null), and begins with a part of a journal. A wait
+# takes so many milliseconds of a clock. The page's keeper runs in this page. Then the journal is opened again from what a crash may leave: all that was waited for, and of the
 # writes after it any, whole or in part.
 MATCH = """
     const C = await import('/c8.mjs'), L = await import('/link.mjs'), {{ Match }} = await import('/match.mjs');
@@ -38,12 +38,19 @@ MATCH = """
     if ({least} >= 0) await play(before, () => {{}});
     const start = before.bytes.slice(0, {cut});
 
-    // the page's keeper over a disk
-    const calls = [], saves = [];
-    const write = (bytes, {{ at }}) => {{ calls.push({{ at, bytes: bytes.slice() }}); return bytes.length; }};
-    const handle = {{ ...fileOf(start), write, flush: () => calls.push(null) }};
-    navigator.storage.getDirectory = async () => ({{
-        async *values() {{}}, getFileHandle: async () => ({{ createSyncAccessHandle: async () => handle }}) }});
+    // a disk
+    const calls = [], saves = [], disk = fileOf(start);
+    let clock = 0, opened = 0, isOpen = false;
+    performance.now = () => clock;
+    const write = (bytes, options) => {{ calls.push({{ at: options.at, bytes: bytes.slice() }}); return disk.write(bytes, options); }};
+    const handle = {{ ...disk, write, flush() {{ calls.push(null), clock += {wait}; }}, close() {{ isOpen = false; }} }};
+    const createSyncAccessHandle = async () => {{
+        if (isOpen) throw new DOMException('', 'NoModificationAllowedError');
+        opened++, isOpen = true;
+        return handle;
+    }};
+    navigator.storage.getDirectory = async () => ({{ async *values() {{}}, getFileHandle: async () => ({{ createSyncAccessHandle }}) }});
+    // the page's keeper
     let worker;
     globalThis.Worker = class {{
         constructor() {{ worker = this; }}
@@ -92,7 +99,7 @@ MATCH = """
         if (call) open.push(call);
         else safe = open.reduce(written, safe), open = [];
     }}
-    return {{ wrong: wrong.slice(0, 3), crashes, waits: saves.map(it => it.waits), first: [calls[0].at, ...calls[0].bytes.slice(0, 2)],
+    return {{ wrong: wrong.slice(0, 3), crashes, opened, isOpen, waits: saves.map(it => it.waits), first: [calls[0].at, ...calls[0].bytes.slice(0, 2)],
         longest: Math.max(...calls.map(it => it?.bytes.length ?? 0)) }};
 """
 SLOT = 144
@@ -100,43 +107,87 @@ SLOT = 144
 # close the gate there. The slot there has no gate, or an open one, or with it a part of a body. The first journal is new, the last one whole.
 CUTS = [("0", -1, True), (f"{SLOT} * RECORDS", 6, True), (f"{SLOT} * RECORDS + 1", 6, True), (f"{SLOT} * RECORDS + 70", 6, True),
         ("before.bytes.length", 22, False)]
+# How long a disk is waited for, in milliseconds, and how often the file is opened: a keeper gets that of a slow disk.
+FAST, SLOW = (4, 1), (20, 2)
 
 
 def saves(bench):
     """A crash keeps what was saved before it, whatever reached the disk of what was written since then. And a save waits for the disk twice,
-    however many records it has."""
+    however many records it has. Where the disk is slow, a keeper gets the file in the middle."""
     for cut, least, closes in CUTS:
-        came = bench.told(MATCH.format(cut=cut, least=least))
-        check(f"crashes after a cut at {cut}", not came["wrong"] and came["crashes"] > 100, json.dumps(came["wrong"]), came["crashes"])
-        first, *more = came["waits"]
-        check("a save waits twice", first == 2 + closes and set(more) <= {0, 2} and sum(more) > 10, came["waits"])
-        check("an opening closes the gate first", (came["first"][1:] == [0]) == closes, came["first"])
-        check("a save has several records", came["longest"] > 3 * SLOT, came["longest"])
+        for wait, opened in (FAST, SLOW):
+            saves_on(bench, cut, least, closes, wait, opened)
 
 
-# What becomes of a journal whose file has some bytes, or is not there (-1), when the keeper answers this.
+def saves_on(bench, cut, least, closes, wait, opened):
+    came = bench.told(MATCH.format(cut=cut, least=least, wait=wait))
+    check(f"crashes after a cut at {cut}", not came["wrong"] and came["crashes"] > 100, json.dumps(came["wrong"]), came["crashes"])
+    check("a keeper has a slow file", (came["opened"], came["isOpen"]) == (opened, False), wait, came["opened"], came["isOpen"])
+    first, *more = came["waits"]
+    check("a save waits twice", first == 2 + closes and set(more) <= {0, 2} and sum(more) > 10, came["waits"])
+    check("an opening closes the gate first", (came["first"][1:] == [0]) == closes, came["first"])
+    check("a save has several records", came["longest"] > 3 * SLOT, came["longest"])
+
+
+# What becomes of a journal whose file has some bytes, or is not there (-1), when its opening comes to this.
 OPENINGS = """
     const { openJournal } = await import('/journal.mjs');
-    let answer = {}, size = 0;
+    let size = 0, way = '', passed = 0;
+    performance.now = () => passed += 1000;
+    const named = name => async () => { throw new DOMException('', name); };
+    const ways = { fails: named('InvalidStateError'), 'is taken': named('NoModificationAllowedError'), 'is not offered': undefined };
     const getFileHandle = async () => {
         if (size < 0) throw new DOMException('', 'NotFoundError');
-        return { getFile: async () => ({ size }) };
+        return { getFile: async () => ({ size }), createSyncAccessHandle: ways[way] };
     };
     navigator.storage.getDirectory = async () => ({ async *values() {}, getFileHandle });
-    globalThis.Worker = class { postMessage() { this.onmessage({ data: answer }); } };
     const came = [];
-    for ([size, answer] of %s)
+    for ([size, way] of %s)
         came.push(await openJournal('begun').then(it => it ? 'kept' : 'none', error => [error.name, error.number].join(' ')));
     return came;
 """
-FAILS: dict = {"failed": "The worker failed."}
-CANNOT: dict = {}
-IS_TAKEN: dict = {"taken": True}
-BEGUN = [((200, FAILS), "Refusal 1301"), ((200, CANNOT), "Refusal 1301"), ((1, FAILS), "Refusal 1301"), ((200, IS_TAKEN), "Refusal 1303"),
-         ((0, FAILS), "kept"), ((0, CANNOT), "kept"), ((-1, FAILS), "kept"), ((-1, CANNOT), "kept")]
+BEGUN = [((200, "fails"), "Refusal 1301"), ((200, "is not offered"), "Refusal 1301"), ((1, "fails"), "Refusal 1301"),
+         ((200, "is taken"), "Refusal 1303"), ((0, "fails"), "kept"), ((0, "is not offered"), "kept"), ((-1, "fails"), "kept")]
 
 
 def begun(bench):
     """A journal that was begun in a file and cannot be opened now is refused. Where no file was begun, a database keeps it."""
     came = bench.told(OPENINGS % json.dumps([case for case, _ in BEGUN]))
     check("openings without a file", came == [wanted for _, wanted in BEGUN], came)
+
+
+# A journal on a slow disk, which becomes a keeper's; and what becomes of the saves after that.
+HANDED = """
+    const { openJournal } = await import('/journal.mjs');
+    let clock = 0, size = 0, worker;
+    performance.now = () => clock;
+    const handle = { getSize: () => size, read: () => 0, close() {}, flush() { clock += 10; },
+        write(bytes, { at }) { size = Math.max(size, at + bytes.length); return bytes.length; } };
+    navigator.storage.getDirectory = async () => ({ async *values() {}, getFileHandle: async () => ({ createSyncAccessHandle: async () => handle }) });
+    globalThis.postMessage = data => worker.onmessage({ data });
+    await import('/keeper.mjs');
+    const onKeeper = globalThis.onmessage, ways = [
+        data => onKeeper({ data: structuredClone(data) }),
+        data => { size++; onKeeper({ data: structuredClone(data) }); },
+        () => queueMicrotask(() => worker.onerror({}))];
+    globalThis.onmessage = null;
+    const came = [];
+    for (const way of ways) {
+        globalThis.Worker = class { constructor() { worker = this; } postMessage(data) { way(data); } };
+        const journal = await openJournal('x'), begin = size;
+        for (let slot = 0; slot < 10; slot++) {
+            journal.write(new Uint8Array(144), { at: begin + 144 * slot + 1 });
+            journal.write(Uint8Array.of(0xa5), { at: begin + 144 * slot });
+            came.push(await journal.saved().then(() => '', error => error.message));
+        }
+    }
+    return came;
+"""
+
+
+def handed(bench):
+    """A keeper takes over after seven slow saves. If it cannot have the file, or another page has written to it, all later saves fail."""
+    came = bench.told(HANDED)
+    fails = lambda sentence: [""] * 7 + [sentence] * 3
+    wanted = [""] * 10 + fails("Another window has opened this match.") + fails("The browser has no modules in workers.")
+    check("saves of a keeper", came == wanted, came)
