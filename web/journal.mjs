@@ -108,9 +108,9 @@ async function isBegun(folder, name) {
   }
 }
 
-/** A save that takes longer than this, in milliseconds, makes a frame late. A keeper gets the file once more than six saves were slow; one
- * that is not makes up for a twentieth of a slow one, since any disk is slow now and then. */
-const SHORT = 12, MOST_SLOW = 6, MADE_UP = 1 / 20;
+/** A save that takes longer than this, in milliseconds, makes a frame late. A keeper gets the file once more than six saves were slow; four that
+ * are not make up for a slow one, since any disk is slow now and then, and so is any worker beside busy programs. */
+const SHORT = 12, MOST_SLOW = 6, MADE_UP = 1 / 4;
 
 /** The worker that has a journal's file once the disk has shown to be slow. It answers each message, in order. */
 class Keeper {
