@@ -134,7 +134,7 @@ class Seat {
     this.picture.paint();
     this.drawStrip(row.ticked, row.confirmed);
     const does = row.waits ? `waits for player ${row.waits}` : 'plays';
-    const back = `${row.rollbacks} rollbacks in the last second, longest ${row.longest}`;
+    const count = `${row.rollbacks} rollback${row.rollbacks === 1 ? '' : 's'}`, back = `${count} in the last second, longest ${row.longest}`;
     this.said.textContent = `Frame ${row.ticked}, confirmed ${row.confirmed}: ${does}. ${back}. Deaths: ${session.epoch() - 1}.`;
   }
 

@@ -26,8 +26,10 @@ export function stateOf(row, relay) {
   if (row.lost) return 'The others hold inputs that this browser does not have, so you cannot go on. Player 1 can drop you; or begin a new match.';
   if (relay !== 'joined') return standingOf(relay, row.player);
   if (row.differs) return 'The machines differ: something is faulty, or player 1 dropped a player.';
-  if (row.waits) return waitOf(row);
-  if (row.confirmed === row.frames) return 'The game is over.';
+  // the first frames are ticked without the others
+  const areThere = row.others.every(it => it.met || it.dropped), isOver = row.confirmed === row.frames;
+  if (row.waits || !areThere && !isOver) return waitOf(row);
+  if (isOver) return 'The game is over.';
   const there = row.others.filter(it => !it.dropped).map(it => it.number);
   return there.length ? `Playing with ${playersOf(there)}.` : 'Playing alone.';
 }

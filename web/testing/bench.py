@@ -60,6 +60,15 @@ def free_port():
         return it.getsockname()[1]
 
 
+def page_with(bench, script, url):
+    """A page in which a script runs before its own."""
+    page = bench.browser.page("about:blank")
+    bench.shown.append(page)
+    page.call("Page.addScriptToEvaluateOnNewDocument", source=script)
+    page.go(url)
+    return page
+
+
 def is_playing(page, seconds=20):
     return page.until(f"{STATE}.startsWith('Playing')", seconds)
 

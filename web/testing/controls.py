@@ -5,7 +5,7 @@ import os
 import subprocess
 import time
 
-from bench import SECRET, check, is_playing, says, spelt
+from bench import SECRET, check, is_playing, page_with, says, spelt
 from programs import program_of
 
 # the keys that the page tells its worker
@@ -23,14 +23,6 @@ HTMLAnchorElement.prototype.click = function () { if (this.download) globalThis.
 GAME = "players 2\nipf 10\nframes 600\ndelay 0\nwindow 8\nseed 0\nmask1 0002\nmask2 1000\ncode {}\n"
 SOUNDS, IS_SILENT = "60fff0181200", "1200"
 CONTROL = 2
-
-
-def page_with(bench, script, url):
-    page = bench.browser.page("about:blank")
-    bench.shown.append(page)
-    page.call("Page.addScriptToEvaluateOnNewDocument", source=script)
-    page.go(url)
-    return page
 
 
 def keys(bench):

@@ -3,8 +3,8 @@ import json
 
 from bench import check
 
-# A match of which player 1 keeps the journal, on a disk that notes each write and each wait (null), and begins with a part of a journal. A wait
-# takes so many milliseconds of a clock. The page's keeper runs in this page. Then the journal is opened again from what a crash may leave: all that was waited for, and of the
+# A match of which player 1 keeps the journal, on a disk that notes each write and each wait (null), and begins with a part of a journal. A
+# wait takes so many milliseconds of a clock. The page's keeper runs in this page. Then the journal is opened again from what a crash may leave: all that was waited for, and of the
 # writes after it any, whole or in part.
 MATCH = """
     const C = await import('/c8.mjs'), L = await import('/link.mjs'), {{ Match }} = await import('/match.mjs');
@@ -99,7 +99,8 @@ MATCH = """
         if (call) open.push(call);
         else safe = open.reduce(written, safe), open = [];
     }}
-    return {{ wrong: wrong.slice(0, 3), crashes, opened, isOpen, waits: saves.map(it => it.waits), first: [calls[0].at, ...calls[0].bytes.slice(0, 2)],
+    return {{ wrong: wrong.slice(0, 3), crashes, opened, isOpen, waits: saves.map(it => it.waits),
+        first: [calls[0].at, ...calls[0].bytes.slice(0, 2)],
         longest: Math.max(...calls.map(it => it?.bytes.length ?? 0)) }};
 """
 SLOT = 144
@@ -163,7 +164,8 @@ HANDED = """
     performance.now = () => clock;
     const handle = { getSize: () => size, read: () => 0, close() {}, flush() { clock += 10; },
         write(bytes, { at }) { size = Math.max(size, at + bytes.length); return bytes.length; } };
-    navigator.storage.getDirectory = async () => ({ async *values() {}, getFileHandle: async () => ({ createSyncAccessHandle: async () => handle }) });
+    const createSyncAccessHandle = async () => handle;
+    navigator.storage.getDirectory = async () => ({ async *values() {}, getFileHandle: async () => ({ createSyncAccessHandle }) });
     globalThis.postMessage = data => worker.onmessage({ data });
     await import('/keeper.mjs');
     const onKeeper = globalThis.onmessage, ways = [

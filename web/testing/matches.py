@@ -8,7 +8,7 @@ import signal
 import struct
 import time
 
-from bench import FRAMES, KEYS, LONGEST, SECRET, check, is_playing, says
+from bench import FRAMES, KEYS, LONGEST, SECRET, check, is_playing, page_with, says
 from chromium import Chromium
 from firefox import PROGRAM, Firefox
 from native import JOINED, Seat, room_name, session_of
@@ -24,11 +24,21 @@ LAST = """(() => {
     return [...Array(32).keys()].map(y => [...points.slice(64 * y, 64 * y + 64)].map(it => it === lit ? '#' : '.').join('')).join('\\n'); })()"""
 
 
+# What a page has said so far of its match.
+STATES = """globalThis.states = [];
+new MutationObserver(() => {
+    const it = document.getElementById('state')?.textContent;
+    if (it && it !== states.at(-1)) states.push(it);
+}).observe(document, { subtree: true, childList: true, characterData: true });"""
+
+
 def match(bench):
     """Two pages, with delay and loss; and how soon the friend who has the link sees the first frame, and plays."""
     bench.next_room()
-    one = bench.open(1)
+    one = page_with(bench, STATES, bench.link(1))
     says(one, "state", "Waiting for player 2 to open the link.")
+    states = one.value("states.join('|')").split("|")
+    check("nobody plays without the friend", not any(it.startswith("Playing") for it in states), states)
     check("the link for the friend", one.value("document.querySelector('#links input').value") == bench.link(2))
     begun = time.monotonic()
     two = bench.open(2)
