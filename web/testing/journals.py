@@ -4,8 +4,8 @@ import json
 from bench import check
 
 # A match of which player 1 keeps the journal, on a disk that notes each write and each wait (null), and begins with a part of a journal. A
-# wait takes so many milliseconds of a clock. The page's keeper runs in this page. Then the journal is opened again from what a crash may leave: all that was waited for, and of the
-# writes after it any, whole or in part.
+# wait takes so many milliseconds of a clock. The page's keeper runs in this page. Then the journal is opened again from what a crash may
+# leave: all that was waited for, and of the writes after it any, whole or in part.
 MATCH = """
     const C = await import('/c8.mjs'), L = await import('/link.mjs'), {{ Match }} = await import('/match.mjs');
     const {{ openJournal }} = await import('/journal.mjs');

@@ -56,6 +56,12 @@
     if (it.closest('[aria-hidden=true]')) fault(it, 'it is hidden from screen readers');
   }
 
+  // what is wider than its place scrolls, by keys too
+  for (const it of all('body *')) {
+    const scrolls = /auto|scroll/.test(getComputedStyle(it).overflowX) && it.scrollWidth > it.clientWidth;
+    if (scrolls && it.getAttribute('tabindex') === null && !controls.includes(it)) fault(it, 'it scrolls, and keys do not reach it');
+  }
+
   // ---- nothing is cut or covered
   for (const it of [...controls, ...all('h1, h2, p, label, pre, summary')]) {
     const { left, right, width } = it.getBoundingClientRect();

@@ -25,6 +25,10 @@ class Looks:
                 self.count += 1
                 shade = "dark" if is_dark else "light"
                 faults = page.value(self.script)
+                if faults:
+                    # a busy machine lays out late
+                    time.sleep(1)
+                    faults = page.value(self.script)
                 for fault in faults if isinstance(faults, list) else [faults]:
                     # one fault is told once, not at each size
                     if fault not in self.found:

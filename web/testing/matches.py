@@ -17,6 +17,8 @@ from native import JOINED, Seat, room_name, session_of
 PLAIN = "page.invalid"
 # What a page may take: the seconds from a link to the first frame, and the part of a processor that plays with 200 ms of round trip.
 FIRST_FRAME, MOST_COST, RATE = 2, 10, 60
+# After how many seconds a browser has compiled what a page calls often.
+SETTLED = 5
 # the picture that a page shows at the end, as reports have it
 LAST = """(() => {
     const it = document.getElementById('last'), points = new Uint32Array(it.getContext('2d').getImageData(0, 0, 64, 32).data.buffer);
@@ -300,6 +302,7 @@ def cost(bench):
         two = other.page(bench.link(2, "paddles"))
         one = bench.open(1, "paddles")
         check("both play", is_playing(one) and is_playing(two))
+        time.sleep(SETTLED)
         was = left(one)
 
         def press():
@@ -311,8 +314,10 @@ def cost(bench):
         check("it plays 60 frames a second", abs(RATE * (was - left(one)) / passed - RATE) < 10, was, left(one), passed)
         check("a page takes little", 0 < page < MOST_COST, f"{page:.1f} %")
         print(f"  a page takes {page:.1f} % of a processor; all processes of its browser: {told}; {one.text('numbers')}")
+        print(f"  its journal is written by {'a keeper' if workers(parts) > 1 else 'the worker of its session'}")
         bench.close()
         bench.told(SHOWN)
+        time.sleep(SETTLED)
         print(f"  a page that only paints takes {part_of_page(measured(bench)[1]):.1f} %")
     finally:
         other.close()
@@ -332,6 +337,11 @@ def measured(bench, act=lambda: None, seconds=10):
 def part_of_page(parts):
     """What the page takes: the process that has a worker. A browser has processes in reserve for other pages."""
     return sum(part for (kind, pid), part in parts.items() if kind == "renderer" and "DedicatedWorker" in threads(pid))
+
+
+def workers(parts):
+    """How many workers the page has."""
+    return sum(threads(pid).count("DedicatedWorker") for kind, pid in parts if kind == "renderer")
 
 
 def threads(pid):
