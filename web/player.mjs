@@ -379,7 +379,7 @@ function helpOf(player, mask, offer, isOneOfSeveral, hasArrows) {
  * @param {string} link
  */
 function linkField(name, link) {
-  const id = `link ${name}`, field = make('input', { id, value: link, readOnly: true });
+  const id = `link-${name.replaceAll(' ', '-')}`, field = make('input', { id, value: link, readOnly: true });
   const copy = make('button', { type: 'button', className: 'main' }, 'Copy');
   field.onfocus = () => field.select();
   copy.onclick = () => copyFrom(field, copy);
