@@ -104,7 +104,8 @@ fn mistake_in(
     if asked.has_relay && given.get_str("REMOTE").is_some() {
         return Some("--relay stands for player 1's address: give no REMOTE beside it");
     }
-    if !asked.has_relay && asked.remote.is_empty() {
+    let has_remote = given.contains_id("REMOTE") || !asked.remote.is_empty();
+    if !asked.has_relay && !has_remote {
         return Some("give LOCAL and REMOTE, or --relay");
     }
     if !asked.has_relay && is_same_place(asked.local, asked.remote) {
