@@ -221,8 +221,16 @@ module _ (found : Option (Bor (List ℕ))) (value : Option (List ℕ)) (is : opt
   pub is_missing : found ≡ None → value ≡ None
   is_missing none = sym is ∙ ap (option_map (λ (s : Bor (List ℕ)). s.now)) none
 
-pub names_by : (found : Option (Bor (List (Bor (List ℕ))))) (none : Bor (List (Bor (List ℕ)))) (values : Option (List (List ℕ)))
+names_by : (found : Option (Bor (List (Bor (List ℕ))))) (none : Bor (List (Bor (List ℕ)))) (values : Option (List (List ℕ)))
     → none.now ≡ [] → option_map (λ (s : Bor (List (Bor (List ℕ)))). map (λ (v : Bor (List ℕ)). v.now) s.now) found ≡ values
     → map (λ (v : Bor (List ℕ)). v.now) (unwrap_or found none).now ≡ unwrap_or values []
 names_by None none values empty is = ap (map (λ (v : Bor (List ℕ)). v.now)) empty ∙ ap (λ (o : Option (List (List ℕ))). unwrap_or o []) is
 names_by (Some names) none values empty is = ap (λ (o : Option (List (List ℕ))). unwrap_or o []) is
+
+-- the names that are found, or none
+pub names_are : (found : Option (Bor (List (Bor (List ℕ))))) (none names : Bor (List (Bor (List ℕ)))) (values : Option (List (List ℕ)))
+    → names ≡ unwrap_or found none → none.now ≡ []
+    → option_map (λ (s : Bor (List (Bor (List ℕ)))). map (λ (v : Bor (List ℕ)). v.now) s.now) found ≡ values
+    → map (λ (v : Bor (List ℕ)). v.now) names.now ≡ unwrap_or values []
+names_are found none names values are empty is =
+    ap (λ (b : Bor (List (Bor (List ℕ)))). map (λ (v : Bor (List ℕ)). v.now) b.now) are ∙ names_by found none values empty is

@@ -1,16 +1,17 @@
 -- The marks of a row, one by one; and none of the values in the object of a report has a float, so that its text is known.
-use Rattle.std.proofs.Common.{◌≡◌, ◌+◌, ℕ, zero, suc, List, [], ◌∷◌, ◌++◌, map, Bool, Result, Ok, Err, IfOk, false, refl, sym, ap, ◌∙◌, arith}
+use Rattle.std.proofs.Common.{◌≡◌, ◌≤◌, ◌+◌, ℕ, zero, suc, List, [], ◌∷◌, ◌++◌, map, Bool, Result, Ok, Err, IfOk, false, refl, sym, ap, ◌∙◌, arith}
 use Rattle.std.specs.List.{range_with_len}
 use Rattle.std.proofs.lemmas.List.{map-append}
 use Rattle.std.proofs.lemmas.Result.{IfOk-weaker}
-use Rattle.serde_json.specs.Data.{Data}
-use Rattle.serde_json.specs.View.{view}
+use Rattle.serde_json.specs.Data.{Data, array}
+use Rattle.serde_json.specs.View.{view, items_of}
 use Rattle.serde_json.specs.Written.{has_float}
 use Rattle.serde_json.specs.declared.value.Value.{Value}
 use Rattle.c8_machine.specs.State.{State}
-use Rattle.c8_screen.specs.Points.{Points}
+use Rattle.c8_screen.specs.Points.{Points, height}
 use Rattle.c8_texts.specs.Report.{mark_of}
-use Rattle.c8_judge.specs.PrintedReport.{machine_data}
+use Rattle.c8_judge.specs.PrintedJson.{listed, HasListed}
+use Rattle.c8_judge.specs.PrintedReport.{machine_data, row_at, screen_data}
 
 range_suc : (a n : ℕ) → range_with_len a (suc n) ≡ range_with_len a n ++ (a + n) ∷ []
 range_suc a zero = let same : a ≡ a + 0 = omega arith in ap (λ (m : ℕ). m ∷ []) same
@@ -31,6 +32,13 @@ marks_more lit y x before after here so_far is longer =
     let mark : ℕ → ℕ = λ k. mark_of (lit k y) in
     longer ∙ ap (λ (b : Bool). before ++ mark_of b ∷ []) is ∙ ap (λ (text : List ℕ). text ++ mark x ∷ []) so_far
     ∙ sym (map-append mark (range_with_len 0 x) (x ∷ [])) ∙ ap (map mark) (sym (range_next x))
+
+-- a list of all rows is that of the screen
+pub all_rows : (lit : Points) (y : ℕ) (values : List Value) → y ≤ 32 → 32 ≤ y → HasListed (row_at lit) y values
+    → array (items_of (map view values)) ≡ screen_data lit
+all_rows lit y values most least (are, exact) =
+    let all : y ≡ height = omega (arith, most, least) in
+    ap (λ (rows : List Data). array (items_of rows)) are ∙ ap (λ (n : ℕ). array (items_of (listed (row_at lit) n))) all
 
 module _ {E : Type 0} (told : Result Value E) (frames : ℕ) (s : State) (draws screen stack condition registers : Data)
     (is : IfOk told (λ v. view v ≡ machine_data frames s draws screen stack condition registers)) where

@@ -1,7 +1,7 @@
 -- What was printed is what the command line asked for: one match, or the matches of a folder.
 use Rattle.std.proofs.Common.{refl}
 use Rattle.std.proofs.lemmas.Result.{IfOk-weaker}
-use Rattle.c8_judge.proofs.OutcomeLemmas.{is_there, is_missing, names_by}
+use Rattle.c8_judge.proofs.OutcomeLemmas.{is_there, is_missing, names_are}
 use Rattle.c8_judge.proofs.command.audit_given.Goals as goal
 
 pub returns-in-Some-clause-audited : goal.returns-in-Some-clause-audited
@@ -21,7 +21,7 @@ returns-in-None-clause-printed g c = λ none. IfOk-weaker c.audit_files.result _
   c.asked_of.result.json,
   c.unwrap_or-names.result.now,
   c.asked_of.ensures,
-  names_by c.get_strs.result _ _ refl c.get_strs.ensures,
+  names_are c.get_strs.result _ c.unwrap_or-names.result _ c.unwrap_or-names.ensures refl c.get_strs.ensures,
   told,
 )) c.audit_files.ensures.printed
 

@@ -1,8 +1,13 @@
--- One more row is added.
+-- One more row is added; at the end these are all rows.
 use Rattle.c8_screen.specs.Points.{points_of}
 use Rattle.c8_judge.specs.PrintedReport.{row_at}
+use Rattle.c8_judge.proofs.ReportLemmas.{all_rows}
 use Rattle.c8_judge.proofs.report.screen_of.Goals as goal
 
 pub loop-y-preserved : goal.loop-y-preserved
 loop-y-preserved c =
     c.in_ok-add.ensures (row_at (points_of c.args.screen.now)) c.loop-y.y c.loop-y.invariant c.in_ok-value.ensures.value c.in_ok-value.ensures.exact
+
+pub returns-clause-list : goal.returns-clause-list
+returns-clause-list c =
+    all_rows (points_of c.args.screen.now) c.loop-y.y c.loop-y.list.items c.loop-y.auto.y-end c.loop-y-test.false c.loop-y.invariant
