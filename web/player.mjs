@@ -181,7 +181,7 @@ class Shown {
     return WATCHERS.includes(this.link.seat);
   }
 
-  /** Whether this match was begun here without a journal. */
+  /** Whether this match was begun here before. Then it does not begin again without a journal. */
   wasBegun() {
     const { seat, room } = this.link;
     return this.isPlayer && recall(`begun ${room} ${seat}`) !== null;
@@ -216,7 +216,7 @@ class Shown {
     this.offer = offer;
     this.kept = kept;
     this.rules = rules;
-    if (!kept) remember(`begun ${room} ${seat}`, '');
+    if (this.isPlayer) remember(`begun ${room} ${seat}`, '');
     part('title').textContent = document.title = offer?.title ?? 'A game';
     const alone = this.isWatcher ? 'You are watching.' : 'All players are here.';
     part('who').textContent = this.isPlayer ? `You are player ${seat} of ${rules.players}.` : alone;

@@ -246,7 +246,12 @@ def plain(bench):
 
 
 def unkept(bench):
-    """A browser that keeps nothing: the page warns, asks before one leaves, and does not begin a match a second time."""
+    """A browser that keeps nothing: the page warns, asks before one leaves, and does not begin a match a second time; also one that it kept
+    before."""
+    bench.next_room()
+    kept, journaled = bench.room, bench.open(1)
+    says(journaled, "state", "Waiting for player 2")
+    journaled.go("about:blank")
     path = f"{bench.pages}/journal.mjs"
     text = bench.page.read(path)
     bench.page.write(path, "export const openJournal = async () => null;\n")
@@ -267,6 +272,9 @@ def unkept(bench):
     one.until("!!document.getElementById('who').textContent")
     one = bench.open(1)
     says(one, "then", "This browser keeps no files")
+    again = bench.browser.page(bench.link(1, room=kept))
+    bench.shown.append(again)
+    says(again, "then", "This browser keeps no files")
 
 
 # A worker that paints a ball on a canvas as often as a match does, and nothing else: what a picture costs whoever shows it.
