@@ -5,10 +5,11 @@
  * missing inputs, rolls back when a real one differs, and agrees with the others on every confirmed frame. This is
  * proved; docs/PROOFS.md says what exactly, and under which premises.
  *
- * Link with the library of your system: docs/EMBEDDING.md has a line for each. Only the opening of a session takes
- * memory, by malloc or c8_memory. No call starts a thread, and none calls back but for memory. A call needs up to 140 KB
- * of stack, an opening most: give a thread 256 KB. With a journal in memory none waits; with one in a file an opening, a
- * tick, a delivery and a turn wait for the disk.
+ * Link with the library of your system (Linux, Windows, macOS, iOS, Android, or a web page): docs/EMBEDDING.md has a
+ * line for each, and says which of them were run. Only the opening of a session takes memory, by malloc or c8_memory.
+ * No call starts a thread, and none calls back but for memory. A call needs up to 140 KB of stack, an opening most:
+ * give a thread 256 KB. With a journal in memory none waits; with one in a file an opening, a tick, a delivery and a
+ * turn wait for the disk.
  *
  * example.c is a whole program, game.c a game over UDP, docs/EMBEDDING.md an overview.
  *
@@ -16,15 +17,15 @@
  * - A session starts as {0}. Never change `at`, and keep one live copy: pass pointers.
  * - One call at a time on a session. Sessions share nothing, so each may be used by a thread of its own. After fork() a
  *   child uses none of its parent's sessions, and closes none; no thread forks while another opens a session.
- * - A pointer is not null (but for c8_deliver of no bytes), and points to as many bytes as its length or array bound says. Two pointers of one call that
- *   the call writes to do not overlap each other or what it reads.
+ * - A pointer is not null (but for c8_deliver of no bytes), and points to as many bytes as its length or array bound says.
+ *   Two pointers of one call that the call writes to do not overlap each other or what it reads.
  *
  * A call whose answer is a c8_answer says 0 for done (some say 1 or 2 for more than that), and from 101 on a refusal:
  * each has one number, the same in all calls, and c8_explain tells its name and sentence. A refused call changes
  * nothing, with two exceptions: after 1301 or 1302 of an open session that session is down and sends nothing more (close
  * it and open it again), and 814 means that another player's CHIP-8 machine differs. Nothing compares an engine's own
- * machine: its players may exchange a hash of the state at a confirmed frame. All other calls that return a number
- * never refuse: at a closed session it is 0.
+ * machine: its players may exchange a hash of the state at a confirmed frame, in messages of their own. All other calls
+ * that return a number never refuse: at a closed session it is 0.
  */
 #ifndef C8_H
 #define C8_H
@@ -131,8 +132,9 @@ enum {
  *
  * Only player 1 drops players, and nobody drops player 1: a match without it waits, and ends there if it does not come
  * back. Player 1 drops a player who was silent for `patience` turns after its link opened, or milliseconds if c8_clock tells
- * the time; 0 never. After each opening it waits for ever for a player's first link, also if that player was here before:
- * c8_patience changes both. At the sessions of other players `patience` does nothing.
+ * the time; 0 never. For a player's first link it waits for ever: c8_patience changes both. Over a journal `patience` counts from
+ * the opening on for the players whose inputs the journal has: they were here before. At the sessions of other players `patience`
+ * does nothing.
  *
  * It reserves 144 bytes for each record of the journal: players times frames, 37 for each 3,600 frames, and 16,384 more: so
  * often a journal can be opened. That is 2.6 MB for two players and 600 frames, 154 MB for four and 262,144; what is not
@@ -167,8 +169,8 @@ c8_answer c8_replay_open(const uint8_t *text, size_t length, int32_t file, c8_se
 /* Opens the file at this path to read, as c8_journal_open does; but it makes no file. */
 int c8_journal_read(const char *path, int32_t *file);
 
-/* From now on player 1 drops a player who was silent for `later` turns, and one that was never heard over an open link for
- * `first` turns since the opening; 0 never. After an opening `first` is 0. Count them in turns of the present rate, or give
+/* From now on player 1 drops a player who was silent for `later` turns, and one that was never heard over an open link, in this
+ * opening or an earlier one of the journal, for `first` turns since the opening; 0 never. After an opening `first` is 0. Count them in turns of the present rate, or give
  * the session a clock: then they are milliseconds. Refused with C8_CLOSED. */
 c8_answer c8_patience(c8_session *, uint32_t first, uint32_t later);
 
@@ -271,7 +273,8 @@ c8_answer c8_status(c8_session *, uint32_t frame, uint8_t out[C8_ROW]);
 c8_answer c8_check(c8_session *, uint32_t depth);
 
 /* Writes the text of a game for an engine with a machine of its own: 2 to 4 players, 1 to 262,144 frames, an input delay
- * of 0 to 4 frames, and a window of 1 to 12 frames: so far c8_ticked may be ahead of c8_confirmed. `id` is the engine's:
+ * of 0 to 4 frames, and a window of 1 to 12 frames: so far c8_ticked may be ahead of c8_confirmed. A match of unknown length
+ * takes the most frames, and ends by c8_end. `id` is the engine's:
  * its version, its level; players with different ids do not meet. Returns the length; 0 for more than 4 players, or if
  * the text does not fit (C8_RULES bytes suffice). Openings refuse the text if another number is out of its range (202). */
 uint32_t c8_rules(uint8_t players, uint32_t frames, uint8_t delay, uint8_t window, const uint8_t id[32], uint8_t *out,

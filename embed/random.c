@@ -246,7 +246,7 @@ static void tell(c8_session *s) {
     for (int i = 0; c8_event(s, &event); i++) {
         if (!s->at || event.kind < C8_EVENT_LINKED || event.kind > C8_EVENT_RESTARTED || event.player > 4) fail("an event", event.kind);
         if ((event.player == 0) != (event.kind == C8_EVENT_ENDED)) fail("about nobody", event.player);
-        if (i > 24) fail("too many events", event.kind);
+        if (i > 28) fail("too many events", event.kind);
     }
     if (c8_wait(s) > (s->at ? 1 : 0)) fail("a wait", 2);
     answered(c8_status(s, (uint32_t)roll(2100), clear()));

@@ -80,8 +80,6 @@ export class Match {
     this.player = player;
     this.send = send;
     this.others = rules.masks.map((_, place) => place + 1).filter(it => it !== player);
-    /** Frames in a row in which the player was ahead. */
-    this.ahead = 0;
     this.waits = 0;
     this.stepped = 0;
     this.rollbacks = new Rollbacks();
@@ -123,7 +121,7 @@ export class Match {
    */
   frame(keys) {
     const { session } = this;
-    if (keys === null || this.leavesOut()) this.waits = 0;
+    if (keys === null || session.wait()) this.waits = 0;
     else this.enter(session.tick(keys));
     this.note(session.turn());
     for (const { to, bytes } of session.packets()) this.send(to, bytes);
@@ -133,17 +131,7 @@ export class Match {
   /** @param {number} answer of a tick */
   enter(answer) {
     this.note(answer);
-    if (answer) this.ahead = 0;
     this.waits = answer && this.session.confirmed() < this.rules.frames ? this.hindmost()?.number ?? 0 : 0;
-  }
-
-  /** Counts the frames in which the player is ahead, and says whether its tick is left out: one a second. */
-  leavesOut() {
-    const last = this.hindmost(), isAhead = last && this.session.ticked() - last.held > this.rules.window >> 1;
-    this.ahead = isAhead ? this.ahead + 1 : 0;
-    if (this.ahead < RATE) return false;
-    this.ahead = 0;
-    return true;
   }
 
   /** The other player with the fewest known inputs, among those who were not dropped. */

@@ -95,6 +95,16 @@ class Tests(unittest.TestCase):
             play(both, 110)
             self.assertTrue(one.is_over())
 
+    def test_restarted(self) -> None:
+        with tempfile.TemporaryDirectory() as folder, Session(TEXT, 1, 7) as one:
+            restarted = Event(EventKind.RESTARTED, 2, 0)
+            for opening in (1, 2, 3):
+                with Session(TEXT, 2, 7, journal=f"{folder}/two") as two:
+                    play({1: one, 2: two}, 5)
+                    linked = Event(EventKind.LINKED, 2, 0)
+                    self.assertEqual(list(one.events()), [linked] if opening == 1 else [restarted, linked])
+                    self.assertEqual(list(two.events()), [Event(EventKind.LINKED, 1, 0)])
+
     def test_desync(self) -> None:
         with Session(TEXT, 1, 7) as one, Session(TEXT, 2, 7) as two:
             greet(one, two)
@@ -131,6 +141,18 @@ class Tests(unittest.TestCase):
             self.assertFalse(one.player(2).dropped)
             play({1: one}, 2)
             self.assertTrue(one.player(2).dropped)
+
+    def test_patience_after_a_restart(self) -> None:
+        with tempfile.TemporaryDirectory() as folder:
+            for plays in (False, True):
+                path = f"{folder}/{plays}"
+                with Session(TEXT, 1, 7, 5, journal=path) as one, Session(TEXT, 2, 7) as two:
+                    play({1: one, 2: two} if plays else {1: one}, 10)
+                with Session(TEXT, 1, 7, 5, journal=path) as one:
+                    play({1: one}, 4)
+                    self.assertFalse(one.player(2).dropped)
+                    play({1: one}, 40)
+                    self.assertEqual(one.player(2).dropped, plays)
 
     def test_wait(self) -> None:
         with Session(rules(2, 1000, 0, 12, b"test 3"), 1, 7) as one, Session(rules(2, 1000, 0, 12, b"test 3"), 2, 7) as two:

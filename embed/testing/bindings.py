@@ -37,7 +37,7 @@ def cpp(bench):
     bench.run("c++", "-std=c++20", *warnings, f"{EMBED}/example.cpp", STATIC, "-o", "example-cpp")
     same("the example in C++", bench.run(f"{bench.folder}/example-cpp"), example_out())
     bench.run("c++", "-std=c++20", *warnings, f"{EMBED}/testing/calls.cpp", STATIC, "-o", "calls")
-    bench.run(f"{bench.folder}/calls", "calls.journal")
+    bench.run(f"{bench.folder}/calls", "calls.journal", "other.journal")
     return ""
 
 

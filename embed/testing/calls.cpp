@@ -1,4 +1,4 @@
-// The calls of c8.hpp that example.cpp does not make: calls JOURNAL. Its status is 0, or it prints the line that fails.
+// The calls of c8.hpp that example.cpp does not make: calls JOURNAL OTHER. Its status is 0, or it prints the line that fails.
 #include "c8.hpp"
 
 #include <cstdio>
@@ -116,8 +116,26 @@ int journals(const char *path) {
     }
 }
 
+// Player 2 is opened again over its journal: player 1 is told so, once.
+int restarts(const char *path) {
+    c8::Session one(text, 1, 7);
+    for (int opening = 0; opening < 2; opening++) {
+        c8::Session two(text, 2, 7, 0, c8::Journal(path));
+        int restarted = 0;
+        for (int turn = 0; turn < 5; turn++)
+            for (c8::Session *session : {&one, &two}) {
+                session->tick(1);
+                session->turn();
+                while (auto packet = session->next()) (packet->to == 1 ? one : two).deliver(packet->bytes());
+            }
+        while (auto event = one.event()) restarted += event->kind == C8_EVENT_RESTARTED && event->player == 2;
+        MUST(restarted == opening);
+    }
+    return 0;
+}
+
 } // namespace
 
 int main(int count, char **words) {
-    return count != 2 || frame() || handles() || refusals() || secrets() || journals(words[1]);
+    return count != 3 || frame() || handles() || refusals() || secrets() || journals(words[1]) || restarts(words[2]);
 }

@@ -184,37 +184,28 @@ PACE = """
     }
     const nothing = { rows: new Uint16Array(0), from: 0 };
     const session = {
-        now: 0, held: 0, answer: 0,
-        tick() { ticks.push(frame); this.now++; return this.answer; }, turn: () => 0, packets: () => [], step: () => nothing, confirmed: () => 0,
-        ticked() { return this.now; }, player() { return { held: this.held, dropped: false, linked: true, silent: 0 }; },
+        tick() { ticks.push(frame); return 0; }, turn: () => 0, packets: () => [], step: () => nothing, confirmed: () => 0, ticked: () => 0,
+        player: () => ({ held: 0, dropped: false, linked: true, silent: 0 }), wait() { asked.push(frame); return frame === 3 ? 1 : 0; },
     };
     let frame = 0;
     const rules = { window: 8, frames: 9999, masks: [1, 2] }, match = new Match(session, rules, 1, () => {});
-    const left = [];
-    // how many inputs it is ahead of the other in each frame: half of the window, and more
-    for (const ahead of [4, 5])
-        for (let it = 0; it < 130; it++, frame++) {
-            const count = ticks.length;
-            session.held = session.now - ahead;
-            match.frame(0);
-            if (ticks.length === count) left.push(frame);
-        }
-    const paused = ticks.length;
+    const asked = [];
+    for (; frame < 6; frame++) match.frame(0);
     match.frame(null);
-    return { due, late, left, isPaused: paused === ticks.length };
+    return { due, late, ticks, asked };
 """
 
 
 def pace(bench):
-    """When frames are due; and which ticks a player leaves out that is ahead of the others."""
+    """When frames are due; and that a player leaves out the ticks that its session says."""
     came = bench.told(PACE)
     frame = 1000 / 60
     near = lambda one, other: len(one) == len(other) and all(abs(a - b) < 0.001 for a, b in zip(one, other))
     check("when frames are due", near(came["due"], [100 + it * frame for it in range(4)]), came)
     # after the late one the clock begins again where it was begun
     check("frames that are late", near(came["late"], [frame, 6.5 * frame]), came["late"])
-    check("which ticks are left out", came["left"] == [189, 249], came["left"])
-    check("no tick without keys", came["isPaused"] is True, came["isPaused"])
+    check("in which frames it asks", came["asked"] == [0, 1, 2, 3, 4, 5], came["asked"])
+    check("which ticks are left out, and none without keys", came["ticks"] == [0, 1, 2, 4, 5], came["ticks"])
 
 
 def draws(bench):

@@ -106,6 +106,45 @@ settled_first k s from is first =
       | inr past ↦ past
     ]
 
+-- The rows of confirmed frames that a step gave are the best rows still if the confirmed ones stay, so the next step begins after them.
+pub step_first : (k j : KnownValue) (most from count more since given n : ℕ) (before after later : List Row)
+    → IsStepped k most before after from count → IsStepped j more after later since given
+    → n ≤ confirmed k → n ≤ confirmed j → n ≤ length after → rows_below k n ≡ rows_below j n → n ≤ since
+step_first k j most from count more since given n before after later is next known there long same =
+    let all : length after ≡ from + count = ap (λ (rows : List Row). length rows) is.given ∙ best_length k (from + count) in
+    let front : take n after ≡ best_rows_below k n = ap (take n) is.given ∙ best_take k n (from + count) (omega (arith, all, long)) in
+    let s : StepsValue = record { given = after; settled = n; room = length after } in
+    settled_first j s since (record {
+      confirmed_is = there;
+      within = long;
+      settled_is = front ∙ best_confirmed k n known ∙ same ∙ sym (best_confirmed j n there);
+    }) next.first
+
+rows_take : (k : KnownValue) (n m : ℕ) → n ≤ m → take n (rows_below k m) ≡ rows_below k n
+rows_take k n m within = take-map-range_with_len (row k) 0 m n within
+
+-- so it goes back by a window at most
+pub window_suffices : (k j : KnownValue) (window most from count more since given : ℕ) (before after later : List Row)
+    → IsStepped k most before after from count → IsStepped j more after later since given
+    → k.ticks ≤ confirmed k + window → confirmed k ≤ confirmed j → rows_below k (confirmed k) ≡ rows_below j (confirmed k)
+    → length after ≤ since + window
+window_suffices k j window most from count more since given before after later is next ahead rises same =
+    let all : length after ≡ from + count = ap (λ (rows : List Row). length rows) is.given ∙ best_length k (from + count) in
+    let ticked = is.ticked in
+    elim (cases_lt (length after) (confirmed k)) [
+      | inl less ↦
+          let known : length after ≤ confirmed k = omega (arith, less) in
+          let there : length after ≤ confirmed j = omega (arith, known, rises) in
+          let rows : rows_below k (length after) ≡ rows_below j (length after) =
+          sym (rows_take k (length after) (confirmed k) known) ∙ ap (take (length after)) same
+          ∙ rows_take j (length after) (confirmed k) known in
+          let back = step_first k j most from count more since given (length after) before after later is next known there (omega arith) rows in
+          omega (arith, back)
+      | inr past ↦
+          let back = step_first k j most from count more since given (confirmed k) before after later is next (omega arith) rises past same in
+          omega (arith, back, ahead, ticked, all)
+    ]
+
 pub ticked : (rules : Rules) (me : ℕ) (journal : List Record) → ticks journal ≡ (known_of rules me journal).ticks
 unfolding known_of
 ticked rules me journal = refl

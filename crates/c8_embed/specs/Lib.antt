@@ -5,4 +5,6 @@ pub mod Lead
 pub mod Engine
 pub mod Journal
 pub mod Endpoint
+pub mod Watch
+pub mod Any
 pub mod Head

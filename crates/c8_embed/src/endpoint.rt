@@ -148,7 +148,7 @@ fn heard(answer: Result<Heard, Refused>) -> Result<Heard, Undelivered>
 }
 
 /// The datagram of received bytes, lent: the bytes themselves, or what a sealer takes of them, with its sender.
-fn open<'a>(
+pub(crate) fn open<'a>(
     sealer: &mut Option<Sealer>,
     bytes: &'a [u8],
 ) -> Result<(&'a [u8], Option<Sender>), NotTaken>
@@ -177,7 +177,7 @@ fn sender_of(taken: &Taken<'_>) -> Sender
 }
 
 /// Writes the packet of a datagram to the front of `out`: the datagram itself, or sealed.
-fn wrap(
+pub(crate) fn wrap(
     sealer: &mut Option<Sealer>,
     datagram: &[u8],
     out: &mut [u8; LONGEST_SEALED],

@@ -16,7 +16,7 @@ use crate::events::Event;
 use crate::laws::what_was_given_stays;
 use crate::lead::Lead;
 use crate::news::News;
-use crate::patience::{Clock, End, Patience};
+use crate::patience::{Clock, End, Opening, Patience};
 use crate::steps::{Stepped, Steps};
 use c8_disk::{Disk, DiskError};
 use c8_game::{Game, Keys, Player};
@@ -44,8 +44,7 @@ pub struct Engine<'g, D: Disk> {
     lead: Lead,
     patience: Patience,
     clock: Clock,
-    /// How many turns have begun.
-    turns: u64,
+    opening: Opening,
     end: End,
 }
 
@@ -97,6 +96,7 @@ impl<'g, D: Disk> Engine<'g, D> {
             return Err((OpenError::Memory, disk));
         };
         let peer = Peer::open(alloc, disk, game, me, room)?;
+        let opening = Opening::new(&peer, game.delay());
         let mut session = Session::new(peer, game, None, interval);
         session.begin();
         Ok(Engine {
@@ -111,7 +111,7 @@ impl<'g, D: Disk> Engine<'g, D> {
                 later: patience,
             },
             clock: Clock::new(),
-            turns: 1,
+            opening,
             end: End::new(),
         })
     }
@@ -253,7 +253,12 @@ impl<'g, D: Disk> Engine<'g, D> {
         peers_run_on::<D>();
         self.session.is_sound();
         self.is_told = false;
-        let answer = make_turn(&mut self.session, &self.patience, self.turns, &self.clock);
+        let answer = make_turn(
+            &mut self.session,
+            &self.patience,
+            &self.opening,
+            &self.clock,
+        );
         self.news
             .look(&self.session, is_over(&self.session, &self.end));
         answer
@@ -293,7 +298,7 @@ impl<'g, D: Disk> Engine<'g, D> {
         if self.session.end() {
             self.end.rest(self.session.peer());
             self.session.begin();
-            self.turns = self.turns.saturating_add(1);
+            self.opening.turn();
         }
     }
 
@@ -396,12 +401,11 @@ impl<'g, D: Disk> Engine<'g, D> {
     }
 }
 
-/// Makes the part of a turn between ticking and speaking, `turns` turns after the opening. First it gives up the players who
-/// were silent for too long.
+/// Makes the part of a turn between ticking and speaking. First it gives up the players who were silent for too long.
 fn make_turn<D: Disk>(
     session: &mut Session<'_, D>,
     patience: &Patience,
-    turns: u64,
+    opening: &Opening,
     clock: &Clock,
 ) -> Result<(), DiskError>
     ensures turned { HasTurned D.Disk session.old.peer session.new.peer }
@@ -409,7 +413,7 @@ fn make_turn<D: Disk>(
     ensures due { IfOk result (λ done. left_to_say session.new
         ≡ said_in_turn session.new.peer session.new.schedule.greeters session.new.is_shown) }
 {
-    patience.give_up(session, turns, clock);
+    patience.give_up(session, opening, clock);
     session.turn()
 }
 

@@ -21,8 +21,10 @@ use c8_session::laws::peers_run_on;
 /// - `now`: after a step that gave all, the last one is the run of the best rows.
 /// - `stays`: its state at each frame that is confirmed is the run of the confirmed rows, which never change.
 /// - `same`: so it is equal to that of each other engine whose peer agrees about these rows.
-/// - `back`: no step goes back before what was confirmed when the last one gave its rows, and a peer ticks at most `window`
-///   frames beyond that, so `window` + 1 states suffice.
+/// - `back`: once a step has given rows of confirmed frames, the next step does not go back before the end of these. It then
+///   gives them too, so this holds of all later steps.
+/// - `window`: a peer ticks at most `window` frames beyond what is confirmed. So the state to which the next step goes back is
+///   one of the last `window` + 1.
 pub fn an_engine_has_the_run<S>()
     ensures kept { (step : S → Row → S) (start : S) (k : KnownValue) (most from count : ℕ)
         (before after : List Row)
@@ -43,8 +45,17 @@ pub fn an_engine_has_the_run<S>()
         → n ≤ confirmed k → n ≤ length after → n ≤ confirmed j → n ≤ length later
         → rows_below k n ≡ rows_below j n
         → slice_get (states step start after) n ≡ slice_get (states step start later) n }
-    ensures back { (k : KnownValue) (s : StepsValue) (most from count : ℕ) (after : List Row)
-        → IsTrueTo k s → IsStepped k most s.given after from count → s.settled ≤ from }
+    ensures back { (k j : KnownValue) (most from count more since given n : ℕ)
+        (before after later : List Row)
+        → IsStepped k most before after from count → IsStepped j more after later since given
+        → n ≤ confirmed k → n ≤ confirmed j → n ≤ length after
+        → rows_below k n ≡ rows_below j n → n ≤ since }
+    ensures window { (k j : KnownValue) (window most from count more since given : ℕ)
+        (before after later : List Row)
+        → IsStepped k most before after from count → IsStepped j more after later since given
+        → k.ticks ≤ confirmed k + window → confirmed k ≤ confirmed j
+        → rows_below k (confirmed k) ≡ rows_below j (confirmed k)
+        → length after ≤ since + window }
 {}
 
 /// The rows that an engine was given as confirmed stay true, whatever call its peer makes (`call`), and however it runs on

@@ -13,31 +13,34 @@ const REST: u32 = 120;
 /// After how many silent turns player 1 drops a player, or with a clock after how many milliseconds; `None` for never.
 #[derive(Clone, Copy)]
 pub struct Patience {
-    /// A player who was never heard over an open link.
+    /// A player who was never heard over an open link, in this opening or an earlier one of the journal.
     pub first: Option<u64>,
     /// A player who was.
     pub later: Option<u64>,
 }
 
 impl Patience {
-    /// Drops the players who were silent for too long in the next turn of player 1's session, `turns` turns after its
-    /// opening.
-    pub(crate) fn give_up<D: Disk>(&self, session: &mut Session<'_, D>, turns: u64, clock: &Clock)
+    /// Drops the players who were silent for too long in the next turn of player 1's session.
+    pub(crate) fn give_up<D: Disk>(
+        &self,
+        session: &mut Session<'_, D>,
+        opening: &Opening,
+        clock: &Clock,
+    )
         ensures { session.new.peer ≡ session.old.peer }
     {
         for number in 1..session.peer().players() + 1 {
             if let Some(player) = Player::new(number)
-                && self.is_over(session.silent(player), turns, player, clock)
+                && self.is_over(session.silent(player), opening, player, clock)
             {
                 session.give_up(player);
             }
         }
     }
 
-    /// Returns whether a player was silent for too long, after so many silent turns. One that was never heard was silent for
-    /// all turns.
-    fn is_over(&self, silent: u64, turns: u64, player: Player, clock: &Clock) -> bool {
-        let patience = if silent < turns {
+    /// Returns whether a player was silent for too long, after so many silent turns.
+    fn is_over(&self, silent: u64, opening: &Opening, player: Player, clock: &Clock) -> bool {
+        let patience = if opening.was_heard(player, silent) {
             self.later
         } else {
             self.first
@@ -46,6 +49,49 @@ impl Patience {
             Some(patience) => clock.silence(player, silent) >= patience,
             None => false,
         }
+    }
+}
+
+/// What an engine knows of its opening.
+#[derive(Clone, Copy)]
+pub(crate) struct Opening {
+    /// How many turns have begun since then.
+    turns: u64,
+    /// Whose inputs the journal had, by place: these players were linked before.
+    known: [bool; MOST_PLAYERS],
+}
+
+impl Opening {
+    /// The first turn after the opening of a peer, in a game with this delay.
+    pub fn new<D: Disk>(peer: &Peer<'_, D>, delay: u8) -> Opening {
+        Opening {
+            turns: 1,
+            known: [
+                is_known(peer, 1, delay),
+                is_known(peer, 2, delay),
+                is_known(peer, 3, delay),
+                is_known(peer, 4, delay),
+            ],
+        }
+    }
+
+    /// The next turn begins.
+    pub fn turn(&mut self) {
+        self.turns = self.turns.saturating_add(1);
+    }
+
+    /// Returns whether a player was ever heard that has been silent for so many turns: in this opening, or before it. One that
+    /// was not heard in this opening was silent for all turns.
+    fn was_heard(&self, player: Player, silent: u64) -> bool {
+        silent < self.turns || self.known[player.place()]
+    }
+}
+
+/// Returns whether a peer has inputs of a player beside the empty ones of the delay.
+fn is_known<D: Disk>(peer: &Peer<'_, D>, number: u8, delay: u8) -> bool {
+    match Player::new(number) {
+        Some(player) => peer.count(player) > u32::from(delay),
+        None => false,
     }
 }
 

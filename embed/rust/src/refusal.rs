@@ -3,6 +3,7 @@
 use crate::sys;
 use std::error::Error;
 use std::fmt;
+use std::io;
 use std::str;
 
 /// The longest name with its sentence.
@@ -155,6 +156,13 @@ impl fmt::Display for Refusal {
 }
 
 impl Error for Refusal {}
+
+/// For programs whose errors are those of the system: the kind is `Other`, and the refusal is inside.
+impl From<Refusal> for io::Error {
+    fn from(refusal: Refusal) -> io::Error {
+        io::Error::new(io::ErrorKind::Other, refusal)
+    }
+}
 
 #[cfg(test)]
 mod tests {

@@ -352,7 +352,7 @@ impl Session {
     }
 
     /// For a test of an engine's machine: from now on each step goes back by `depth` frames, as far as they were not
-    /// confirmed. [`Steps`] then need room for 16 rows or more. 0 ends the test.
+    /// confirmed. 0 ends the test.
     pub fn check(&mut self, depth: u32) {
         self.handle.check(depth);
     }
@@ -498,9 +498,10 @@ pub struct Steps {
 }
 
 impl Steps {
-    /// Room for this many rows. 16 suffice for a step in each frame.
+    /// Room for this many rows, and at least 16: these suffice for a step in each frame, also under a
+    /// [`check`](Session::check).
     pub fn new(room: usize) -> Steps {
-        Steps { rows: vec![[0; 4]; room.max(1)], from: 0, count: 0 }
+        Steps { rows: vec![[0; 4]; room.max(16)], from: 0, count: 0 }
     }
 
     /// The first frame whose row changed: go back to the state before it.

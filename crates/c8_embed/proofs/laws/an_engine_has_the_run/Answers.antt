@@ -2,7 +2,7 @@
 use Rattle.std.proofs.Common.{◌≡◌, ◌+◌, List, length, Some, ap, sym, ◌∙◌, arith}
 use Rattle.c8_game.specs.declared.row.Row.{Row}
 use Rattle.c8_embed.specs.Steps.{run}
-use Rattle.c8_embed.proofs.StepsLemmas.{best_length, best_confirmed, step_resumes, state_now, settled_first}
+use Rattle.c8_embed.proofs.StepsLemmas.{best_length, best_confirmed, step_resumes, state_now, step_first, window_suffices}
 use Rattle.c8_embed.proofs.laws.an_engine_has_the_run.Goals as goal
 
 pub returns-clause-kept : goal.returns-clause-kept
@@ -27,4 +27,9 @@ returns-clause-same g c step start k j most from count more since given n before
     ∙ sym (returns-clause-stays g c step start j more since given n earlier later other there far)
 
 pub returns-clause-back : goal.returns-clause-back
-returns-clause-back g c k s most from count after is stepped = settled_first k s from is stepped.first
+returns-clause-back g c k j most from count more since given n before after later is next known there long same =
+    step_first k j most from count more since given n before after later is next known there long same
+
+pub returns-clause-window : goal.returns-clause-window
+returns-clause-window g c k j window most from count more since given before after later is next ahead rises same =
+    window_suffices k j window most from count more since given before after later is next ahead rises same

@@ -1,0 +1,81 @@
+//! What a handle for C owns.
+ghost use Rattle.std.specs.Prelude.{◌≡◌, ◌≢◌, true, false};
+ghost use Rattle.std.specs.Borrow.{sem};
+ghost use Rattle.c8_embed.specs.Any.{role_of, watches, LendsPlayer, LendsWatcher};
+ghost use Rattle.c8_embed.specs.declared.any.Side.TheVariants as sides;
+ghost use Rattle.c8_embed.specs.declared.any.Role.TheVariants as roles;
+
+use crate::endpoint::Endpoint;
+use crate::watch::WatchEndpoint;
+
+/// A player's or a watcher's. The types are parameters, since the proof of what is written through a lent variant needs one that
+/// names no lifetime.
+#[derive(Drop)]
+pub enum Side<P, W> {
+    Player(P),
+    Watcher(W),
+}
+
+/// The endpoint of a player, or of a watcher.
+pub type AnyEndpoint = Side<Endpoint, WatchEndpoint>;
+
+/// What an endpoint is for.
+#[derive(Clone, Copy, Debug, PartialEq, Eq)]
+pub enum Role {
+    /// It plays.
+    Player,
+    /// It reads a journal.
+    Replay,
+    /// It watches.
+    Watcher,
+}
+
+impl<P, W> Side<P, W> {
+    /// Lends what a player has.
+    pub fn player(&mut self) -> &mut P
+        requires { watches self.old ≡ false }
+        ensures* writes_back { sem 𝓛 (LendsPlayer P.row W.row self.entry result) }
+        ensures value { self.old ≡ sides.Player result.now }
+    {
+        match self {
+            Side::Player(player) => player,
+            Side::Watcher(_) => unreachable!(),
+        }
+    }
+
+    /// Lends what a watcher has.
+    pub fn watcher(&mut self) -> &mut W
+        requires { watches self.old ≡ true }
+        ensures* writes_back { sem 𝓛 (LendsWatcher P.row W.row self.entry result) }
+        ensures value { self.old ≡ sides.Watcher result.now }
+    {
+        match self {
+            Side::Watcher(watcher) => watcher,
+            Side::Player(_) => unreachable!(),
+        }
+    }
+}
+
+/// Returns what an endpoint is for.
+pub fn role_of(endpoint: &AnyEndpoint) -> Role
+    ensures role { result ≡ role_of endpoint.now }
+    ensures plays { result ≡ roles.Player → watches endpoint.now ≡ false }
+    ensures reads { result ≡ roles.Replay → watches endpoint.now ≡ false }
+    ensures shows { result ≡ roles.Watcher → watches endpoint.now ≡ true }
+{
+    match endpoint {
+        Side::Watcher(_) => Role::Watcher,
+        Side::Player(player) => role_of_player(player),
+    }
+}
+
+fn role_of_player(player: &Endpoint) -> Role
+    ensures role { result ≡ role_of (sides.Player player.now) }
+    ensures plays { result ≢ roles.Watcher }
+{
+    if player.is_replay {
+        Role::Replay
+    } else {
+        Role::Player
+    }
+}
