@@ -36,6 +36,7 @@ marks_more lit y x before after here so_far is longer =
 -- a list of all rows is that of the screen
 pub all_rows : (lit : Points) (y : ℕ) (values : List Value) → y ≤ 32 → 32 ≤ y → HasListed (row_at lit) y values
     → array (items_of (map view values)) ≡ screen_data lit
+unfolding screen_data
 all_rows lit y values most least (are, exact) =
     let all : y ≡ height = omega (arith, most, least) in
     ap (λ (rows : List Data). array (items_of rows)) are ∙ ap (λ (n : ℕ). array (items_of (listed (row_at lit) n))) all

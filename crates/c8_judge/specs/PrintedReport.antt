@@ -27,7 +27,7 @@ abbrev pub row_at : Points → ℕ → Option Data
 row_at lit y = Some (string (row_marks lit y))
 
 -- all rows of a screen, from the top
-abbrev pub screen_data : Points → Data
+unfoldable pub screen_data : Points → Data
 screen_data lit = array (items_of (listed (row_at lit) height))
 
 -- a machine that has stopped, and why
@@ -58,5 +58,5 @@ state_object frames s =
     machine_data frames s (number_data s.draws) (screen_data s.screen) (numbers s.stack) (state_data s.stop s.waits) (numbers s.registers)
 
 -- the object of what was played
-abbrev pub played_data : Played → Data
+unfoldable pub played_data : Played → Data
 played_data played = state_object played.frames (state played.machine)

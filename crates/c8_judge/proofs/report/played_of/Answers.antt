@@ -3,11 +3,12 @@ use Rattle.std.proofs.Common.{◌≡◌, ◌∙◌, ap, refl}
 use Rattle.serde_json.specs.View.{view}
 use Rattle.c8_machine.specs.State.{state}
 use Rattle.c8_judge.specs.Lines.{number_data}
-use Rattle.c8_judge.specs.PrintedReport.{numbers, screen_data, state_data}
+use Rattle.c8_judge.specs.PrintedReport.{numbers, played_data, screen_data, state_data}
 use Rattle.c8_judge.proofs.ReportLemmas.{report_by, report_exact}
 use Rattle.c8_judge.proofs.report.played_of.Goals as goal
 
 pub returns-clause-object : goal.returns-clause-object
+unfolding played_data
 returns-clause-object c =
     report_by c.joined.result c.args.played.now.frames (state c.args.played.now.machine) (view c.in_ok-draws.draws) (view c.in_ok-screen.screen)
     (view c.in_ok-stack.stack) (view c.in_ok-state.state) (view c.in_ok-registers.registers) c.joined.ensures (state c.args.played.now.machine)
