@@ -1,4 +1,6 @@
 -- One more row is added; at the end these are all rows.
+use Rattle.std.proofs.Common.{◌∙◌}
+use Rattle.serde_json.proofs.Views.{view-Array}
 use Rattle.c8_screen.specs.Points.{points_of}
 use Rattle.c8_judge.specs.PrintedReport.{row_at}
 use Rattle.c8_judge.proofs.ReportLemmas.{all_rows}
@@ -10,4 +12,5 @@ loop-y-preserved c =
 
 pub returns-clause-list : goal.returns-clause-list
 returns-clause-list c =
-    all_rows (points_of c.args.screen.now) c.loop-y.y c.loop-y.list.items c.loop-y.auto.y-end c.loop-y-test.false c.loop-y.invariant
+    view-Array c.loop-y.list
+    ∙ all_rows (points_of c.args.screen.now) c.loop-y.y c.loop-y.list.items c.loop-y.auto.y-end c.loop-y-test.false c.loop-y.invariant
