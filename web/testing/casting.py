@@ -10,7 +10,7 @@ import struct
 import threading
 import time
 
-from bench import check, free_port, says
+from bench import LONGEST, check, free_port, says
 from programs import Terminal, program_of
 
 CHUNK, RATE = 600, 60
@@ -207,7 +207,9 @@ def pictures(shown):
             lines[int(row)] = text
         elif len(lines) == 16:
             cells = [CELLS[it] for place in range(1, 17) for it in lines[place]]
-            found[int(text.split()[0])] = "".join(cell[half] for y in range(16) for half in (0, 1) for cell in cells[64 * y:64 * y + 64])
+            # each sixtieth picture has the row of the last change once more
+            picture = "".join(cell[half] for y in range(16) for half in (0, 1) for cell in cells[64 * y:64 * y + 64])
+            found.setdefault(int(text.split()[0]), picture)
     return found
 
 
@@ -217,7 +219,7 @@ def beside(bench):
     program, _ = program_of(bench)
     if not program:
         return
-    frames, folder = 1800, f"{bench.pages}/beside"
+    frames, folder = 1260, f"{bench.pages}/beside"
     game = f"{bench.folder}/beside.game"
     bench.page.write(game, re.sub(r"(?m)^frames \d+$", f"frames {frames}", bench.page.read(f"{bench.pages}/rally.game")))
     one, two, five = (f"127.0.0.1:{free_port()}" for _ in range(3))
@@ -234,8 +236,8 @@ def beside(bench):
         check("a cast is there", comes(lambda: os.path.exists(f"{folder}/tail.bin"), 20))
         page = started(bench, site, "beside")
         says(page, "state", "Live.", 20)
-        said, begun, kills = set(), time.monotonic(), [8, 16]
-        while time.monotonic() - begun < 90 and page.value(WHERE) < frames:
+        said, begun, kills = set(), time.monotonic(), [6, 12]
+        while time.monotonic() - begun < LONGEST and page.value(WHERE) < frames:
             said.add(page.text("state").partition(":")[0])
             if kills and time.monotonic() - begun > kills[0]:
                 kills.pop(0)
@@ -272,6 +274,7 @@ def compare(page, watchers, frames):
     named.pop(0, None)
     check("watchers drew many frames", len(named) > 10 and max(named) <= frames, sorted(named))
     differ = []
+    page.click("play") if page.text("play") == "Pause" else None
     for frame, picture in sorted(named.items()):
         page.value(f"document.getElementById('seek').value = {frame}; document.getElementById('seek').oninput()")
         if (page.value(WHERE), page.value(POINTS)) != (frame, picture):
