@@ -66,6 +66,7 @@ enum {
     C8_BAD_SECRET = 105,     /* the watchers' secret is that of the players, or not 32 bytes */
     C8_SEALED_ALREADY = 106, /* the session has a secret already */
     C8_REPLAY = 107,         /* the session is a replay: it only reads */
+    C8_WATCHER = 108,        /* the session is a watcher's: it only watches */
     C8_THRESHOLD = 401,      /* too far ahead of what is confirmed: tick this input again later */
     C8_END = 402,            /* the last frame was ticked */
     C8_DROPPED = 403,        /* player 1 has dropped this player */
@@ -75,7 +76,9 @@ enum {
     C8_DESYNC = 814,         /* another player's CHIP-8 machine differs */
     C8_DISK = 1301,          /* the journal's disk failed */
     C8_FULL = 1302,          /* the journal is full */
-    C8_LOCKED = 1303         /* of an opening: another session has the journal open */
+    C8_LOCKED = 1303,        /* of an opening: another session has the journal open */
+    C8_SHOWN_GAP = 1403,     /* at a watcher: rows that come before those that it lacks; they come again */
+    C8_SHOWN_DIFFERS = 1404  /* at a watcher: another row than it has: player 1 lost its journal, or two play as player 1 */
 };
 
 /* A session; {0} is a closed one. */
@@ -168,6 +171,22 @@ c8_answer c8_replay_open(const uint8_t *text, size_t length, int32_t file, c8_se
 
 /* Opens the file at this path to read, as c8_journal_open does; but it makes no file. */
 int c8_journal_read(const char *path, int32_t *file);
+
+/* Opens a watcher's session, 5 or 6, with the text and the room of the match. Player 1 shows it the confirmed rows, once c8_watched has
+ * named it there. Its frame is deliver, turn, next, step: c8_deliver takes what player 1 sends, and answers 1 if there are new rows;
+ * after c8_turn c8_next gives one packet, for player 1, which says how many rows the watcher has; c8_step gives each row once, from
+ * frame 0 on, and none changes: `from` is where the last step ended. c8_ticked and c8_confirmed are how many rows it has, and
+ * c8_is_over is true once these are all of the game. CHIP-8's own machine is the one after these rows. Rows do not say who was
+ * dropped: an input of 0 may be that of a player who is gone.
+ *
+ * It plays nothing: c8_tick, c8_say, c8_leave, c8_decide, c8_checkpoint, c8_check, c8_watched, c8_patience, c8_clock, c8_end, c8_player
+ * and c8_status are refused with C8_WATCHER; c8_event gives nothing, c8_wait and c8_epoch are 0, c8_is_lost is false.
+ *
+ * A match with a secret has one for watchers: c8_secret(session, secret_of_watchers, NULL), after the opening and before c8_next.
+ * `begun` is the time in milliseconds since 1970; the packets are numbered from there on. A watcher that starts again needs a
+ * later one than before, or player 1 refuses its packets as repeated. Without a secret it means nothing. An opening takes 8 bytes a
+ * frame. It is refused with 102 for another number than 5 or 6. */
+c8_answer c8_watch_open(const uint8_t *text, size_t length, uint8_t watcher, uint64_t room, uint64_t begun, c8_session *);
 
 /* From now on player 1 drops a player who was silent for `later` turns, and one that was never heard over an open link, in this
  * opening or an earlier one of the journal, for `first` turns since the opening; 0 never. After an opening `first` is 0. Count them in turns of the present rate, or give

@@ -102,6 +102,12 @@ public:
     }
     // A replay of a journal: it only reads. Calls that play throw C8_REPLAY, or answer it.
     Session(std::string_view text, const Recording &recording) { done(c8_replay_open(start(text), text.size(), recording.file, &handle)); }
+    // A watcher's session, 5 or 6: deliver, turn, next and step, no tick. `begun` is the time in milliseconds since 1970.
+    static Session watch(std::string_view text, std::uint8_t watcher, std::uint64_t room, std::uint64_t begun) {
+        Session session;
+        done(c8_watch_open(start(text), text.size(), watcher, room, begun, &session.handle));
+        return session;
+    }
     Session(Session &&other) noexcept : handle(std::exchange(other.handle, c8_session{})) {}
     Session &operator=(Session &&other) noexcept {
         std::swap(handle, other.handle);
@@ -194,6 +200,7 @@ public:
     }
 
 private:
+    Session() = default;
     static const std::uint8_t *start(std::string_view text) { return reinterpret_cast<const std::uint8_t *>(text.data()); }
     template <std::size_t Size> std::array<std::uint8_t, Size> read(c8_answer call(c8_session *, std::uint8_t *)) const {
         std::array<std::uint8_t, Size> out;

@@ -58,6 +58,8 @@ static uint32_t replay_opened(const char *path, c8_session *s) {
     return c8_replay_open(text, length, file, s);
 }
 
+static uint32_t watch_opened(uint8_t seat, c8_session *s) { return c8_watch_open(text, length, seat, 7, 0, s); }
+
 /* Each refusal leaves a closed handle closed, and an open one open. */
 static void refusals(const char *path, c8_session *s) {
     int64_t before = held;
@@ -70,22 +72,24 @@ static void refusals(const char *path, c8_session *s) {
     must("a folder in place of a file", journal_opened(".", 1, 7, s), NO_FILE);
     must("no descriptor", c8_open_journal(text, length, 1, 7, 0, -1, -1, s), C8_DISK);
     must("no descriptor of a replay", c8_replay_open(text, length, -1, s), C8_DISK);
+    must("a player's seat", watch_opened(4, s), C8_NOBODY);
+    must("no such game to watch", c8_watch_open(text, 3, 5, 7, 0, s), 201);
     must("blocks after refusals", held, before);
     must("the handle after refusals", s->at == at, true);
 }
 
 /* Each request for memory is refused in turn. */
-static void without_memory(c8_session *s) {
+static void without_memory(uint32_t (*open)(uint8_t, c8_session *), uint8_t seat, c8_session *s) {
     int64_t before = held, request = 0;
     uint32_t answer;
     do {
         left = request;
-        answer = opened(1, s);
+        answer = open(seat, s);
         left = -1;
         must("no memory", answer == 0 || answer == 206 || answer == 305, true);
         must("blocks without memory", held == before || answer == 0, true);
     } while (answer && request++ < MOST);
-    must("an opening takes some memory, and ends", request > 3 && request < MOST, true);
+    must("an opening takes some memory, and ends", request > 1 && request < MOST, true);
     c8_close(s);
 }
 
@@ -115,10 +119,16 @@ int main(int count, char **words) {
     must("ticked", c8_ticked(&one), TICKS);
     must("a session over a replay", opened(2, &other), 0);
     must("blocks of two", held, 2 * size);
+    must("a watcher over a session", watch_opened(5, &other), 0);
+    must("blocks of a watcher", held > size && held < 2 * size, true);
+    refusals(words[1], &third);
+    must("a session over a watcher", opened(2, &other), 0);
+    must("blocks of two again", held, 2 * size);
     c8_close(&other);
     c8_close(&one);
     must("blocks in the end", held, 0);
-    without_memory(&one);
+    without_memory(opened, 1, &one);
+    without_memory(watch_opened, 5, &one);
     must("blocks in the very end", held, 0);
     return failed;
 }

@@ -4,7 +4,7 @@
  *     random [CALLS [SEED [JOURNAL]]]
  *
  * Three players of one match deliver each other's packets, whole or damaged, in every second match with a secret; a
- * fourth session plays some match, and a fifth is mostly closed. At the end two players of a match with a secret refuse
+ * fourth session plays some match, reads a journal or watches, and a fifth is mostly closed. At the end two players of a match with a secret refuse
  * all repeated and altered packets, and (not on Windows) a journal's disk fails. JOURNAL is the path of a file that the
  * program makes and removes. */
 #define _POSIX_C_SOURCE 200809L
@@ -127,9 +127,23 @@ static void open_replay(c8_session *s) {
     if (c8_epoch(s) < 2 || c8_tick(s, 1) != C8_REPLAY) fail("a replay plays", c8_epoch(s));
 }
 
+/* A watcher of the match of the first three: it ticks nothing, and has a secret if they have. */
+static void open_watcher(c8_session *s) {
+    static uint64_t begun;
+    openings++;
+    if (answered(c8_watch_open(text, text_length, (uint8_t)(4 + roll(4)), 1, ++begun, s))) return;
+    is_sealed[s - sessions] = has_secret;
+    if (has_secret && c8_secret(s, watchers, NULL)) fail("no secret of a watcher", 0);
+    if (c8_ticked(s) || c8_tick(s, 1) != C8_WATCHER) fail("a watcher plays", c8_ticked(s));
+}
+
 static void open_one(int i) {
     if (i == 3 && roll(3) == 0) {
         open_replay(&sessions[i]);
+        return;
+    }
+    if (i == 3 && roll(2) == 0) {
+        open_watcher(&sessions[i]);
         return;
     }
     uint8_t player = i < 4 && roll(16) ? (uint8_t)(i % 3 + 1) : (uint8_t)roll(7);
@@ -176,7 +190,7 @@ static void deliver(c8_session *s) {
     if (kind < 14 && mail[place].length) {
         length = mail[place].length;
         memcpy(bytes, mail[place].bytes, length);
-        if (kind > 1) s = &sessions[mail[place].to - 1];
+        if (kind > 1) s = &sessions[mail[place].to > 3 ? 3 : mail[place].to - 1];
         /* seldom, because a damaged input makes the players disagree for the rest of the match */
         if (kind == 2 && !roll(20)) bytes[roll(length)] ^= (uint8_t)(1 << roll(8));
         if (kind == 3) length = roll(length + 1);
@@ -204,7 +218,7 @@ static void next(c8_session *s) {
     uint8_t to = 0;
     uint32_t length = c8_next(s, clear(), &to);
     at_most(length, is_sealed[s - sessions] ? C8_PACKET : C8_DATAGRAM);
-    if (length && (to < 1 || to > 4)) fail("to nobody", to);
+    if (length && (to < 1 || to > 6)) fail("to nobody", to);
     keep(length, to);
 }
 
@@ -229,8 +243,10 @@ static void step(c8_session *s) {
 static void read_all(c8_session *s) {
     c8_player_state state = {0};
     uint32_t ticked = c8_ticked(s), confirmed = c8_confirmed(s), epoch = c8_epoch(s);
-    if (confirmed > ticked || (ticked && !epoch)) fail("confirmed", confirmed);
-    bool is_closed = c8_player(s, 1, &state) == C8_CLOSED;
+    uint32_t answer = c8_player(s, 1, &state);
+    bool is_closed = answer == C8_CLOSED, watches = answer == C8_WATCHER;
+    if (confirmed > ticked || (ticked && !epoch && !watches)) fail("confirmed", confirmed);
+    if (watches && (epoch || confirmed != ticked)) fail("a watcher", ticked);
     if (is_closed != (s->at == NULL)) fail("open or closed", is_closed);
     if (is_closed && (ticked || confirmed || epoch || c8_tone(s) || !c8_is_over(s))) fail("closed", ticked);
     if (is_closed && c8_is_lost(s)) fail("closed and lost", 0);
@@ -302,7 +318,7 @@ static void change(c8_session *s) {
     case 0: what = "c8_leave"; if (!roll(200)) answered(c8_leave(s, (uint8_t)roll(6))); break;
     case 1: what = "c8_decide"; if (!roll(20)) answered(c8_decide(s, (uint8_t)roll(6))); break;
     case 2: what = "c8_checkpoint"; answered(c8_checkpoint(s)); break;
-    case 3: what = "c8_check"; answered(c8_check(s, depths[roll(6)])); break;
+    case 3: what = "c8_check"; answered(roll(20) ? c8_check(s, depths[roll(6)]) : c8_watched(s, (uint8_t)roll(8))); break;
     case 4: case 5: case 6: what = "c8_turn"; answered(c8_turn(s)); break;
     case 7: case 8: case 9: what = "c8_tick"; ticks += !answered(c8_tick(s, (uint16_t)roll(65536))); break;
     default: what = "c8_deliver"; deliver(s);
@@ -415,13 +431,33 @@ static void play_sealed(void) {
     openings += 2;
 }
 
+/* A turn of a watcher: one packet, for player 1, which seldom comes there, and its rows, each once and in order. */
+static void watch(c8_session *watcher, c8_session *one, bool is_sealed_match) {
+    uint8_t packet[C8_PACKET], to = 0;
+    uint16_t words[4 * 5];
+    uint32_t before = c8_confirmed(watcher), length, from, count, next = 0;
+    static uint32_t given;
+    if (!before) given = 0;
+    if (c8_turn(watcher)) fail("no turn of a watcher", 0);
+    length = c8_next(watcher, packet, &to);
+    if (length != (is_sealed_match ? 52u : 28u) || to != 1) fail("not an acknowledgement", length);
+    if (roll(3) == 0 && c8_deliver(one, packet, length) > 1) fail("an acknowledgement is refused", length);
+    if (c8_next(watcher, packet, &to)) fail("a second acknowledgement", length);
+    do {
+        count = c8_step(watcher, &from, words, 4 * 5);
+        if (count > 5 || from != given) fail("rows out of order", from);
+        given += count, next++;
+    } while (count == 5);
+    if (given != before || c8_ticked(watcher) != before) fail("rows", given);
+}
+
 /* Two players, both asked to show watcher 5 the rows: player 1 does so in each turn, player 2 never. Without a secret of the
- * watchers a match with a secret shows nothing, and ends as any other. */
+ * watchers a match with a secret shows nothing, and ends as any other. The watcher has all rows in the end, though packets are lost. */
 static void play_watched(bool has_secret, const uint8_t *of_watchers) {
     enum { FRAMES = 300 };
-    c8_session two[2] = {{0}, {0}};
-    uint8_t packet[C8_PACKET], id[32] = {3}, to;
-    uint32_t length, shown = 0, turns = 0;
+    c8_session two[2] = {{0}, {0}}, watcher = {0};
+    uint8_t packet[C8_PACKET], id[32] = {3}, to, marks[2][8];
+    uint32_t length, shown = 0, turns = 0, answer;
     what = "watchers";
     text_length = c8_rules(2, FRAMES, 0, 12, id, text, sizeof text);
     if (c8_watched(&two[0], 5) != C8_CLOSED) fail("a closed session is watched", 0);
@@ -430,22 +466,35 @@ static void play_watched(bool has_secret, const uint8_t *of_watchers) {
         if (has_secret && c8_secret(&two[i], secret, of_watchers)) fail("no secret", i);
         if (c8_watched(&two[i], 4) != 102 || c8_watched(&two[i], 7) != 102 || c8_watched(&two[i], 5)) fail("seats", i);
     }
-    for (; turns < 4 * FRAMES && !(c8_is_over(&two[0]) && c8_is_over(&two[1])); turns++)
+    if (c8_watch_open(text, text_length, 4, 6, 1, &watcher) != C8_NOBODY) fail("a player watches", 4);
+    if (c8_watch_open(text, text_length, 5, 6, 1, &watcher)) fail("no watcher", 5);
+    if (has_secret && c8_secret(&watcher, of_watchers ? of_watchers : secret, secret) != C8_BAD_SECRET) fail("two secrets of a watcher", 0);
+    if (has_secret && of_watchers && c8_secret(&watcher, of_watchers, NULL)) fail("no secret of a watcher", 0);
+    for (; turns < 4 * FRAMES && !(c8_is_over(&two[0]) && c8_is_over(&two[1])); turns++) {
+        if (!has_secret || of_watchers) watch(&watcher, &two[0], has_secret);
         for (uint8_t i = 0; i < 2; i++) {
             c8_tick(&two[i], (uint16_t)roll(65536));
             if (c8_turn(&two[i])) fail("no turn", i);
             while ((length = c8_next(&two[i], packet, &to)) > 0) {
                 if (to == 5 && i) fail("player 2 shows rows", length);
                 if (to == 5) shown++;
-                else if (to == 3 - (i + 1)) c8_deliver(&two[to - 1], packet, length);
-                else fail("to nobody", to);
+                if (to == 5 && roll(3)) continue;
+                if (to == 5 && (answer = c8_deliver(&watcher, packet, length)) > 1 && answer != C8_SHOWN_GAP) fail("rows are refused", answer);
+                if (to == 5) continue;
+                if (to != 3 - (i + 1)) fail("to nobody", to);
+                c8_deliver(&two[to - 1], packet, length);
             }
         }
+    }
     for (int i = 0; i < 2; i++)
         if (c8_confirmed(&two[i]) != FRAMES) fail("no end", c8_confirmed(&two[i]));
     if (shown != (has_secret && !of_watchers ? 0 : turns)) fail("not one packet a turn", shown);
-    c8_close(&two[0]), c8_close(&two[1]);
-    openings += 2;
+    if (c8_mark(&two[0], marks[0]) || c8_mark(&watcher, marks[1])) fail("no mark", 0);
+    if (shown && (!c8_is_over(&watcher) || c8_confirmed(&watcher) != FRAMES)) fail("not all rows", c8_confirmed(&watcher));
+    if (shown && memcmp(marks[0], marks[1], sizeof marks[0])) fail("another machine", 0);
+    if (!shown && (c8_is_over(&watcher) || c8_confirmed(&watcher))) fail("rows without a secret", c8_confirmed(&watcher));
+    c8_close(&two[0]), c8_close(&two[1]), c8_close(&watcher);
+    openings += 3;
 }
 
 int main(int count, char **words) {

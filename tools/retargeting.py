@@ -23,7 +23,7 @@ MEMORY = frozenset(("rattle_alloc", "rattle_realloc", "rattle_dealloc"))
 FILES = frozenset(("rattle_errno", "pread", "pwrite", "lseek", "fsync", "fdatasync", "flock", "posix_fadvise", "close"))
 BYTES = frozenset(("memcpy", "memmove", "memset", "memcmp"))
 # Of these exports embed/native/memory.c has those that others call.
-OPENINGS = frozenset(("c8_open", "c8_open_journal", "c8_replay_open", "c8_close"))
+OPENINGS = frozenset(("c8_open", "c8_open_journal", "c8_replay_open", "c8_watch_open", "c8_close"))
 # Assembly and intrinsics belong to a processor. The rest are conventions that systems have in different forms.
 REFUSED = re.compile(r"\basm\b|@llvm\.(?:x86|aarch64)\.|\b(?:byval|sret|inalloca|thread_local|preallocated)\b")
 # An export that returns fewer than 32 bits. JavaScript, and C on macOS for ARM, take the bits above for zeros; other callers ignore them.

@@ -23,7 +23,7 @@ export const VERSION = '0.2.2';
 export const DATAGRAM = 174, PACKET = 198, PICTURE = 256, STATE = 4419, RULES = 256, ROW = 4, ROWS = 16;
 
 /** Answers that a program may test for. */
-export const CLOSED = 101, NOT_SEALED = 103, SEEN_BEFORE = 104, BAD_SECRET = 105, SEALED_ALREADY = 106, REPLAY = 107,
+export const CLOSED = 101, NOT_SEALED = 103, SEEN_BEFORE = 104, BAD_SECRET = 105, SEALED_ALREADY = 106, REPLAY = 107, WATCHER = 108,
   THRESHOLD = 401, END = 402, DROPPED = 403, DESYNC = 814, DISK = 1301, FULL = 1302, LOCKED = 1303;
 
 /** The kinds of `say`. */
@@ -194,6 +194,16 @@ export class C8 {
   openReplay(text, file) {
     const number = this.files.add(file);
     return this.opened((at, size, handle) => this.exports.c8_replay_open(at, size, number, handle), text);
+  }
+
+  /** Opens a watcher's session, which player 1 shows the confirmed rows. What plays answers `WATCHER`. Throws a `Refusal`.
+   * @param {Uint8Array} text
+   * @param {number} watcher 5 or 6
+   * @param {bigint} room
+   * @param {number} [begun] the time in milliseconds since 1970: packets of a watcher with a secret are numbered from there on
+   */
+  watch(text, watcher, room, begun = Date.now()) {
+    return this.opened((at, size, handle) => this.exports.c8_watch_open(at, size, watcher, room, BigInt(begun), handle), text);
   }
 
   /** The text of a game for an engine with a machine of its own; empty if the numbers are out of range.

@@ -107,6 +107,7 @@ c8_answer c8os_c8_open(const uint8_t *text, size_t length, uint8_t player, uint6
 c8_answer c8os_c8_open_journal(const uint8_t *text, size_t length, uint8_t player, uint64_t room, uint32_t patience, int32_t file, int32_t folder,
                                c8_session *);
 c8_answer c8os_c8_replay_open(const uint8_t *text, size_t length, int32_t file, c8_session *);
+c8_answer c8os_c8_watch_open(const uint8_t *text, size_t length, uint8_t watcher, uint64_t room, uint64_t begun, c8_session *);
 void c8os_c8_close(c8_session *);
 
 /* Marks in two rings: of what an opening takes, and of the session that is open before. */
@@ -157,6 +158,13 @@ c8_answer c8_replay_open(const uint8_t *text, size_t length, int32_t file, c8_se
     opening it;
     begin(&it, session);
     return ended(&it, c8os_c8_replay_open(text, length, file, session));
+}
+
+EXPORT(c8_watch_open)
+c8_answer c8_watch_open(const uint8_t *text, size_t length, uint8_t watcher, uint64_t room, uint64_t begun, c8_session *session) {
+    opening it;
+    begin(&it, session);
+    return ended(&it, c8os_c8_watch_open(text, length, watcher, room, begun, session));
 }
 
 EXPORT(c8_close)

@@ -7,7 +7,7 @@ import unittest
 
 import example
 from c8play import (Closed, Desync, DiskLocked, Dropped, Event, EventKind, Kind, NotSealed, ReadOnly, Refusal, SealedAlready, SeenBefore,
-                    Session, Status, Threshold, calls, explain, rules, version)
+                    Session, Status, Threshold, WatchesOnly, calls, explain, rules, version)
 
 HERE = os.path.dirname(os.path.realpath(__file__))
 TEXT = rules(2, 100, 1, 8, b"test 1")
@@ -25,7 +25,8 @@ def play(sessions: dict[int, Session], frames: int) -> None:
     """Plays frames of a match with those players alone: what is for others is lost."""
     for _ in range(frames):
         for session in sessions.values():
-            session.tick(session.ticked())
+            with contextlib.suppress(WatchesOnly):
+                session.tick(session.ticked())
             session.turn()
             for to, packet in list(session.packets()):
                 if to in sessions:
@@ -104,6 +105,29 @@ class Tests(unittest.TestCase):
                     linked = Event(EventKind.LINKED, 2, 0)
                     self.assertEqual(list(one.events()), [linked] if opening == 1 else [restarted, linked])
                     self.assertEqual(list(two.events()), [Event(EventKind.LINKED, 1, 0)])
+
+    def test_watch(self) -> None:
+        text = rules(2, 100, 1, 8, b"test 5")
+        with Session(text, 1, 7) as one, Session(text, 2, 7) as two, Session.watch(text, 5, 7) as watcher:
+            one.watched(5)
+            one.secret(SECRET, WATCHERS)
+            two.secret(SECRET)
+            watcher.secret(WATCHERS)
+            rows: list[tuple[int, tuple[int, ...]]] = []
+            for _ in range(300):
+                play({1: one, 2: two, 5: watcher}, 1)
+                rows += watcher.rows()
+                self.assertEqual((watcher.ticked(), watcher.confirmed()), (len(rows), len(rows)))
+            self.assertEqual(watcher.sender(), (1, True))
+            self.assertTrue(watcher.is_over())
+            self.assertEqual(rows, list(one.rows()))
+            self.assertEqual((watcher.state(), watcher.mark(), watcher.tone()), (one.state(), one.mark(), one.tone()))
+            self.assertEqual((watcher.epoch(), watcher.wait(), watcher.is_lost(), list(watcher.events())), (0, 0, False, []))
+            self.assertRaises(WatchesOnly, watcher.tick, 1)
+            self.assertRaises(WatchesOnly, watcher.player, 1)
+            self.assertRaises(WatchesOnly, watcher.status, 1)
+        for seat in (0, 1, 4, 7):
+            self.assertRaises(Refusal, Session.watch, text, seat, 7)
 
     def test_desync(self) -> None:
         with Session(TEXT, 1, 7) as one, Session(TEXT, 2, 7) as two:

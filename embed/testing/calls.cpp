@@ -134,8 +134,35 @@ int restarts(const char *path) {
     return 0;
 }
 
+// A watcher is shown the rows of a match with a secret.
+int watchers() {
+    const std::array<std::uint8_t, 32> secret{1}, shown{2};
+    c8::Session one(text, 1, 7), two(text, 2, 7), watcher = c8::Session::watch(text, 5, 7, 1000);
+    std::vector<c8::Row> rows;
+    one.secret(secret, shown);
+    two.secret(secret);
+    watcher.secret(shown);
+    one.watched(5);
+    for (int turn = 0; turn < 300; turn++) {
+        one.tick(3);
+        two.tick(5);
+        for (c8::Session *session : {&one, &two, &watcher}) {
+            session->turn();
+            while (auto packet = session->next()) (packet->to == 1 ? one : packet->to == 2 ? two : watcher).deliver(packet->bytes());
+        }
+        watcher.run([&](std::uint32_t frame, const c8::Row &row) { if (frame == rows.size()) rows.push_back(row); });
+        MUST(rows.size() == watcher.confirmed() && rows.size() == watcher.ticked());
+    }
+    MUST(watcher.is_over() && rows.size() == 100 && rows[50] == c8::Row{3, 5, 0, 0});
+    MUST(watcher.epoch() == 0 && watcher.wait() == 0 && !watcher.event() && !watcher.is_lost());
+    MUST(watcher.tick(1) == C8_WATCHER && refused([&] { watcher.player(1); }) == C8_WATCHER && refused([&] { watcher.status(1); }) == C8_WATCHER);
+    MUST(watcher.state() == one.state() && watcher.sender() && watcher.sender()->seat == 1);
+    MUST(refused([] { c8::Session::watch(text, 4, 7, 0); }) == C8_NOBODY);
+    return 0;
+}
+
 } // namespace
 
 int main(int count, char **words) {
-    return count != 3 || frame() || handles() || refusals() || secrets() || journals(words[1]) || restarts(words[2]);
+    return count != 3 || frame() || handles() || refusals() || secrets() || journals(words[1]) || restarts(words[2]) || watchers();
 }

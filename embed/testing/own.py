@@ -1,11 +1,12 @@
-"""The game of three players with a machine of its own, games/own: over UDP, with loss, kills, returns, a drop, and a machine that differs."""
+"""The game of three players with a machine of its own, games/own: over UDP, with loss, kills, returns, a drop, a broken path, a machine that
+differs, and a spectator."""
 import re
 import signal
 import time
 
 from bench import C, LINUX, TOP, Failed, free_ports, lacking, read, same
 
-FRAMES, PLAYERS = 900, (1, 2, 3)
+FRAMES, PLAYERS, WATCHER = 900, (1, 2, 3), 5
 # In milliseconds: longer than a return takes, and shorter than a test.
 PATIENCE = 4000
 # Player 3 leaves at this tick. Its last inputs are 0, so its end changes no row: the machines of the others go back to it by themselves.
@@ -19,12 +20,17 @@ class Match:
 
     def __init__(self, bench, program, what):
         self.bench, self.program, self.what = bench, program, what
-        self.addresses = [f"127.0.0.1:{it}" for it in [*free_ports(), *free_ports()][:3]]
+        *self.addresses, self.watcher = [f"127.0.0.1:{it}" for it in [*free_ports(), *free_ports()]]
         self.running = {}
 
     def start(self, player, *options):
         words = [*self.program, str(player), str(FRAMES), *self.addresses, "--script", str(player), "--lose", "15", "--patience", str(PATIENCE)]
         self.running[player] = self.bench.begin([*words, "--journal", self.journal(player), *options], self.bench.environment)
+
+    def watch(self, *options):
+        """Starts a spectator, which player 1 has to show the match by --watcher."""
+        words = [*self.program, "watch", str(FRAMES), self.addresses[0], "--watcher", self.watcher, "--script", "0", "--lose", "15", *options]
+        self.running[WATCHER] = self.bench.begin(words, self.bench.environment)
 
     def journal(self, player):
         return f"{self.what.replace(' ', '-')}.{player}.journal"
@@ -53,7 +59,9 @@ def own(bench):
     plays(bench, [program])
     returns(bench, [program])
     leaves(bench, [program])
+    breaks(bench, [program])
     differs(bench, [program])
+    watches(bench, [program])
     return ""
 
 
@@ -127,6 +135,23 @@ def leaves(bench, program):
         raise Failed(f"a drop: at frame {gone[1][1]}")
 
 
+def breaks(bench, program):
+    """The path of player 2 breaks for a while, and the match waits: both sides say so, and nobody is dropped."""
+    match = Match(bench, program, "a broken path")
+    for player in PLAYERS:
+        match.start(player, *(("--break", "300") if player == 2 else ()))
+    ends = {}
+    for player in PLAYERS:
+        said, events = match.ended(player)
+        ends[player] = end_of(said)
+        for other in (1, 3) if player == 2 else (2,):
+            if f"event interrupted player {other}" not in events or f"event resumed player {other}" not in events:
+                raise Failed(f"{match.what}: player {player} about {other}: {events}")
+        if "event dropped" in events:
+            raise Failed(f"{match.what}: player {player}: {events}")
+    same(f"{match.what}: ends", set(ends.values()), {ends[1]})
+
+
 def differs(bench, program):
     """The machine of player 3 is spoilt: the others find that, and it finds the others, each at the next frame that is compared."""
     match = Match(bench, program, "a machine that differs")
@@ -138,3 +163,23 @@ def differs(bench, program):
         wanted = ["1", "2"] if player == 3 else ["3"]
         if [it for it, _ in found] != wanted or any(int(frame) < 540 or int(frame) > 900 for _, frame in found):
             raise Failed(f"{match.what}: player {player}: {said}")
+
+
+def watches(bench, program):
+    """A spectator is killed, and starts again while player 3 leaves and player 1 is killed and goes on: it ends as the players do."""
+    match = Match(bench, program, "a spectator")
+    shown = ("--watcher", match.watcher)
+    match.watch("--die", "200")
+    match.start(1, *shown)
+    match.start(2)
+    match.start(3, "--leave", str(LEAVES))
+    match.ended(WATCHER, -signal.SIGKILL)
+    match.watch()
+    match.running[1].kill()
+    match.ended(1, -signal.SIGKILL)
+    match.start(1, *shown)
+    match.ended(3)
+    ends = {player: match.ended(player)[0] for player in (1, 2, WATCHER)}
+    same("a spectator: ends", set(ends.values()), {ends[1]})
+    if not re.search(r"(?m)^player 3 is gone since frame \d+$", ends[WATCHER]):
+        raise Failed(f"a spectator: nobody is gone: {ends[WATCHER]}")

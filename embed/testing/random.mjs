@@ -1,6 +1,6 @@
 // random.mjs MODULE [CALLS]: calls at random over the module of a page, beside c8.mjs, as random.c makes them over a library; in node, or in a
 // page by `random`. No call fails, each answer has a meaning, and only an opening takes memory.
-import { BAD_SECRET, CLOSED, load, NOT_SEALED, PACKET, ROW, SEEN_BEFORE } from './c8.mjs';
+import { BAD_SECRET, CLOSED, load, NOT_SEALED, PACKET, ROW, SEEN_BEFORE, WATCHER } from './c8.mjs';
 
 const OPENING = 10000, MAIL = 64, PLAYERS = 3;
 // This number of calls has each kind of answer.
@@ -54,7 +54,7 @@ class Memory {
 
 class Calls {
   constructor(c8) {
-    Object.assign(this, { c8, memory: new Memory(c8), sessions: [], sealed: [], mail: [], kept: 0, counts: {} });
+    Object.assign(this, { c8, memory: new Memory(c8), sessions: [], sealed: [], mail: [], kept: 0, begun: 0, counts: {} });
   }
 
   count(what) {
@@ -79,10 +79,12 @@ class Calls {
     this.sessions[place]?.close();
     this.sessions[place] = null;
     try {
-      const session = this.c8.open(text, place < PLAYERS && roll(16) ? place + 1 : roll(7), place < PLAYERS ? 1n : BigInt(roll(3)), roll(8) ? 0 : 300);
+      const watches = place === PLAYERS && roll(2) === 1, session = watches ? this.c8.watch(text, 4 + roll(4), 1n, ++this.begun)
+        : this.c8.open(text, place < PLAYERS && roll(16) ? place + 1 : roll(7), place < PLAYERS ? 1n : BigInt(roll(3)), roll(8) ? 0 : 300);
       this.sessions[place] = session;
       this.sealed[place] = this.hasSecret;
-      if (this.hasSecret && session.secrets(SECRET, roll(2) ? WATCHERS : undefined)) throw new Error('no secret');
+      if (watches !== (session.check(0) === WATCHER)) throw new Error('a watcher plays');
+      if (this.hasSecret && (watches ? session.secrets(WATCHERS) : session.secrets(SECRET, roll(2) ? WATCHERS : undefined))) throw new Error('no secret');
     } catch (refusal) {
       if (!refusal.number) throw refusal;
       this.answered(refusal.number);
@@ -112,7 +114,7 @@ class Calls {
     let bytes = anyBytes(roll(301));
     if (kind < 14 && last) {
       bytes = last.bytes.slice();
-      if (kind > 1) place = last.to - 1;
+      if (kind > 1) place = Math.min(last.to - 1, PLAYERS);
       if (kind === 2 && !roll(20)) bytes[roll(bytes.length)] ^= 1 << roll(8);
       if (kind === 3) bytes = bytes.subarray(0, roll(bytes.length + 1));
     }

@@ -1,15 +1,20 @@
 /* Lanterns: a game of three players over UDP, with a machine of its own, from embed/c8.h.
  *
  *     own PLAYER FRAMES ADDRESS1 ADDRESS2 ADDRESS3 [--journal FILE] [--patience MILLISECONDS] [--script SEED]
- *         [--lose PERCENT] [--die TICK] [--leave TICK] [--wrong FRAME]
+ *         [--lose PERCENT] [--die TICK] [--leave TICK] [--break TICK] [--wrong FRAME] [--watcher ADDRESS]
+ *     own watch FRAMES ADDRESS1 --watcher ADDRESS [--script SEED] [--lose PERCENT] [--die FRAME]
  *     own replay FRAMES --journal FILE
  *
  * An ADDRESS is HOST:PORT, in the order of the players; PLAYER is 1, 2 or 3. The keys w, a, s and d move a player, q leaves. A
  * lantern wanders, and whoever stands where it is scores. With --journal a player that was killed goes on where it was. Player 1
- * drops a player who was silent for MILLISECONDS (10000); from then on that one is not on the field. A replay runs a journal, and prints
- * what its player saw in the end. For tests: --script takes the inputs of a seed, and does not wait for a clock; --lose drops this
- * share of the packets that it sends; --die kills the player before this tick, --leave ends it there; --wrong spoils the
- * machine's state once, after this frame. Prints what happened, and in the end the frames, a hash of the state, and the scores. */
+ * drops a player who was silent for MILLISECONDS (10000); from then on that one is not on the field. With --watcher player 1 shows
+ * the match to a spectator at that address, which `own watch` is. A replay runs a journal, and prints what its player saw in the end.
+ *
+ * For tests: --script takes the inputs of a seed, and does not wait for a clock; --lose drops this share of the packets that it
+ * sends; --die kills the player before this tick, or the spectator after as many frames; --leave ends the player there; --break
+ * breaks its path there for a second and a half; --wrong spoils the machine's state once, after this frame. Prints what happened,
+ * and in the end the frames, a hash of the state, and the scores.
+ */
 #define _POSIX_C_SOURCE 200809L
 #include "c8.h"
 
@@ -17,7 +22,7 @@
 
 #include <inttypes.h>
 
-enum { PLAYERS = 3, DELAY = 2, WINDOW = 10, RING = 16, MARK = 60, MARKS = 64, SECOND = 60 };
+enum { PLAYERS = 3, WATCHER = 5, SEATS = WATCHER, DELAY = 2, WINDOW = 10, RING = 16, MARK = 60, MARKS = 64, SECOND = 60 };
 enum { UP = 1, LEFT = 2, DOWN = 4, RIGHT = 8 };
 enum { WIDTH = 40, HEIGHT = 16 };
 
@@ -106,6 +111,21 @@ static void run(c8_session *session) {
     } while (count == C8_ROWS);
 }
 
+/* The same of a spectator, whose rows are final. They do not say who is gone: it runs no more frames than player 1 has told that of. */
+static void run_watched(c8_session *session, uint32_t told) {
+    uint16_t rows[C8_ROWS][C8_ROW];
+    uint32_t from, count;
+    do {
+        uint32_t most = told - machine.run < C8_ROWS ? told - machine.run : C8_ROWS;
+        count = c8_step(session, &from, rows[0], most * C8_ROW);
+        for (uint32_t i = 0; i < count; i++) {
+            memcpy(machine.rows[(from + i) % RING], rows[i], sizeof rows[i]);
+            run_frame(from + i);
+        }
+        machine.run += count;
+    } while (count == C8_ROWS);
+}
+
 static void happened(c8_session *session) {
     static const char *const names[] = {"", "linked", "interrupted", "resumed", "dropped", "desync", "ended", "restarted"};
     c8_event_state it;
@@ -121,11 +141,14 @@ static void happened(c8_session *session) {
 
 typedef struct {
     udp_socket udp;
-    struct sockaddr_in there[PLAYERS];
+    struct sockaddr_in there[SEATS];
+    bool has[SEATS]; /* whose address is known */
     unsigned lose;
+    uint64_t broken; /* a test: until then the path is broken */
 } network;
 
 enum { HASH = 'H', HASH_SIZE = 14 }; /* HASH, player, frame (4), hash (8) */
+enum { ENDS = 'E', ENDS_SIZE = 17 }; /* ENDS, frame (4), of each player from which frame on it is gone (4): all that are before that frame */
 
 static uint64_t mix(uint64_t x) {
     x += 0x9e3779b97f4a7c15;
@@ -134,9 +157,10 @@ static uint64_t mix(uint64_t x) {
     return x ^ x >> 31;
 }
 
-static void send_to(const network *n, uint8_t player, const uint8_t *bytes, size_t length) {
+static void send_to(const network *n, uint8_t seat, const uint8_t *bytes, size_t length) {
     static uint64_t sent;
-    if (player >= 1 && player <= PLAYERS && mix(++sent) % 100 >= n->lose) send_packet(n->udp, bytes, length, &n->there[player - 1]);
+    bool is_there = seat >= 1 && seat <= SEATS && n->has[seat - 1] && now_ns() >= n->broken;
+    if (is_there && mix(++sent) % 100 >= n->lose) send_packet(n->udp, bytes, length, &n->there[seat - 1]);
 }
 
 static uint64_t number(const uint8_t *bytes, int size) {
@@ -145,15 +169,18 @@ static uint64_t number(const uint8_t *bytes, int size) {
     return value;
 }
 
+static void put(uint8_t *bytes, uint64_t value, int size) {
+    for (int i = 0; i < size; i++) bytes[i] = (uint8_t)(value >> 8 * (size - 1 - i));
+}
+
 /* Tells the others the hash of the newest frame that is confirmed and has one. */
 static void tell_hash(const network *n, uint8_t me, uint32_t confirmed) {
     uint32_t frame = confirmed / MARK * MARK;
     uint64_t value = machine.marks[frame / MARK % MARKS];
     uint8_t bytes[HASH_SIZE] = {HASH, me};
     if (!frame) return;
-    for (int i = 0; i < 4; i++) bytes[2 + i] = (uint8_t)(frame >> (24 - 8 * i));
-    for (int i = 0; i < 8; i++) bytes[6 + i] = (uint8_t)(value >> (56 - 8 * i));
-    for (uint8_t to = 1; to <= PLAYERS; to++)
+    put(bytes + 2, frame, 4), put(bytes + 6, value, 8);
+    for (uint8_t to = 1; to <= SEATS; to++)
         if (to != me) send_to(n, to, bytes, sizeof bytes);
 }
 
@@ -162,6 +189,24 @@ static void hear_hash(const uint8_t *bytes) {
     if (player < 1 || player > PLAYERS || frame % MARK || frame <= machine.told[player - 1]) return;
     machine.told[player - 1] = frame;
     machine.theirs[player - 1][frame / MARK % MARKS] = number(bytes + 6, 8);
+}
+
+/* Player 1 tells its spectator who is gone, in the frames that are confirmed: the events before them are taken. */
+static void tell_ends(const network *n, uint32_t confirmed) {
+    uint8_t bytes[ENDS_SIZE] = {ENDS};
+    put(bytes + 1, confirmed, 4);
+    for (int i = 0; i < PLAYERS; i++) put(bytes + 5 + 4 * i, ends[i], 4);
+    send_to(n, WATCHER, bytes, sizeof bytes);
+}
+
+/* For how many frames a spectator knows who is gone. */
+static uint32_t ends_told;
+
+static void hear_ends(const uint8_t *bytes) {
+    uint32_t frame = (uint32_t)number(bytes + 1, 4);
+    if (frame < ends_told) return;
+    ends_told = frame;
+    for (int i = 0; i < PLAYERS; i++) ends[i] = (uint32_t)number(bytes + 5 + 4 * i, 4);
 }
 
 /* Compares what the others have told with the own hashes of frames that are confirmed. A machine that once differs does so on. */
@@ -181,8 +226,13 @@ static c8_answer receive_all(c8_session *session, network *n) {
     struct sockaddr_in from;
     int length;
     while ((length = receive(n->udp, bytes, sizeof bytes, &from)) >= 0) {
+        if (now_ns() < n->broken) continue;
         if (length == HASH_SIZE && bytes[0] == HASH) {
             hear_hash(bytes);
+            continue;
+        }
+        if (length == ENDS_SIZE && bytes[0] == ENDS) {
+            hear_ends(bytes);
             continue;
         }
         c8_answer answer = c8_deliver(session, bytes, (size_t)length);
@@ -230,8 +280,8 @@ static void draw(const state *s) {
 
 typedef struct {
     uint8_t me; /* 0 for a replay */
-    uint32_t frames, patience, die, leave, wrong;
-    const char *addresses[PLAYERS], *journal;
+    uint32_t frames, patience, die, leave, wrong, breaks;
+    const char *addresses[SEATS], *journal; /* an address may be missing */
     bool is_scripted;
     uint64_t seed;
     unsigned lose;
@@ -245,7 +295,8 @@ static void fail(const char *what, c8_answer why) {
 
 static void usage(void) {
     fprintf(stderr, "usage: own 1|2|3 FRAMES ADDRESS1 ADDRESS2 ADDRESS3 [--journal FILE] [--patience MILLISECONDS] [--script SEED]\n"
-                    "           [--lose PERCENT] [--die TICK] [--leave TICK] [--wrong FRAME]\n"
+                    "           [--lose PERCENT] [--die TICK] [--leave TICK] [--break TICK] [--wrong FRAME] [--watcher ADDRESS]\n"
+                    "       own watch FRAMES ADDRESS1 --watcher ADDRESS [--script SEED] [--lose PERCENT] [--die FRAME]\n"
                     "       own replay FRAMES --journal FILE\n");
     exit(2);
 }
@@ -253,11 +304,11 @@ static void usage(void) {
 static options read_options(int count, char **words) {
     options o = {.patience = 10000};
     if (count < 3) usage();
-    o.me = strcmp(words[1], "replay") ? (uint8_t)atoi(words[1]) : 0;
+    o.me = !strcmp(words[1], "replay") ? 0 : !strcmp(words[1], "watch") ? WATCHER : (uint8_t)atoi(words[1]);
     o.frames = (uint32_t)strtoul(words[2], NULL, 10);
-    int first = o.me ? 3 + PLAYERS : 3;
-    if (count < first || (count - first) % 2 || o.me > PLAYERS) usage();
-    for (int i = 0; o.me && i < PLAYERS; i++) o.addresses[i] = words[3 + i];
+    int addresses = o.me == 0 ? 0 : o.me == WATCHER ? 1 : PLAYERS, first = 3 + addresses;
+    if (count < first || (count - first) % 2 || (o.me > PLAYERS && o.me != WATCHER)) usage();
+    for (int i = 0; i < addresses; i++) o.addresses[i] = words[3 + i];
     for (int i = first; i < count; i += 2) {
         const char *name = words[i], *value = words[i + 1];
         uint32_t plain = (uint32_t)strtoul(value, NULL, 10);
@@ -268,11 +319,15 @@ static options read_options(int count, char **words) {
         else if (!strcmp(name, "--die")) o.die = plain;
         else if (!strcmp(name, "--leave")) o.leave = plain;
         else if (!strcmp(name, "--wrong")) o.wrong = plain;
+        else if (!strcmp(name, "--break")) o.breaks = plain;
+        else if (!strcmp(name, "--watcher")) o.addresses[WATCHER - 1] = value;
         else usage();
     }
-    if (!o.me && !o.journal) usage();
+    if ((!o.me && !o.journal) || (o.me == WATCHER && (!o.addresses[WATCHER - 1] || o.journal))) usage();
     return o;
 }
+
+static const uint64_t BREAK_NS = 1500000000;
 
 enum { ROOM = 1 }; /* all players of the match have the same, and each match another one */
 
@@ -286,6 +341,8 @@ static void open_session(const options *o, c8_session *session) {
     if (!o->me) {
         if (c8_journal_read(o->journal, &file)) perror(o->journal), exit(1);
         why = c8_replay_open(text, length, file, session);
+    } else if (o->me == WATCHER) {
+        why = c8_watch_open(text, length, WATCHER, ROOM, 0, session); /* the match has no secret: its time means nothing */
     } else if (o->journal) {
         why = C8_LOCKED;
         for (int tries = 0; why == C8_LOCKED && tries < 30; tries++) { /* a player that was just killed may still have it */
@@ -296,6 +353,7 @@ static void open_session(const options *o, c8_session *session) {
     } else {
         why = c8_open(text, length, o->me, ROOM, o->patience, session);
     }
+    if (!why && o->me == 1 && o->addresses[WATCHER - 1]) why = c8_watched(session, WATCHER);
     if (why) fail("not opened", why);
 }
 
@@ -307,12 +365,14 @@ static const char *port_of(const char *address) {
 
 static void open_network(const options *o, network *n) {
     n->lose = o->lose;
-    for (int i = 0; i < PLAYERS; i++) {
+    for (int i = 0; i < SEATS; i++) {
         char host[256];
+        if (!o->addresses[i]) continue;
         const char *address = o->addresses[i], *port = port_of(address);
         size_t length = (size_t)(port - address);
         if (!*port || length > sizeof host) usage();
         memcpy(host, address, length), host[length - 1] = 0;
+        n->has[i] = true;
         if (!find_address(host, port, &n->there[i])) fprintf(stderr, "own: no address: %s\n", address), exit(1);
     }
     if (open_udp(port_of(o->addresses[o->me - 1]), NULL, &n->udp)) return;
@@ -327,7 +387,7 @@ static void wait_for_frame(c8_session *session, network *n, bool is_scripted) {
     uint64_t now = now_ns();
     if (due + 5 * frame_ns < now) due = now;
     due += frame_ns;
-    c8_clock(session, now / 1000000); /* patience is one of milliseconds, whatever the rate of frames */
+    c8_clock(session, now / 1000000); /* patience is one of milliseconds, whatever the rate of frames; a spectator refuses it */
     do {
         wait_for_packet(n->udp, is_scripted ? 1 : now < due ? (int)((due - now + 999999) / 1000000) : 0);
         c8_answer why = receive_all(session, n);
@@ -342,6 +402,7 @@ static bool frame(const options *o, c8_session *session, network *n, uint32_t tu
     wait_for_frame(session, n, o->is_scripted);
     uint32_t ticked = c8_ticked(session);
     if (o->die && ticked >= o->die) die();
+    if (o->breaks && ticked >= o->breaks && !n->broken) n->broken = now_ns() + BREAK_NS;
     uint16_t keys = o->is_scripted ? scripted(o->seed, ticked) : typed(&quit);
     if (o->is_scripted || !c8_wait(session)) {
         c8_answer why = c8_tick(session, keys); /* a refused input is lost here; the next frame has its own */
@@ -355,13 +416,27 @@ static bool frame(const options *o, c8_session *session, network *n, uint32_t tu
     happened(session);
     run(session);
     if (turn % 15 == 0) tell_hash(n, o->me, c8_confirmed(session));
+    if (o->me == 1) tell_ends(n, c8_confirmed(session));
     compare(c8_confirmed(session));
     if (!o->is_scripted) draw(&machine.states[c8_ticked(session) % RING]);
     return quit || (o->leave && ticked >= o->leave);
 }
 
-static void report(c8_session *session) {
-    uint32_t frames = c8_confirmed(session);
+/* One frame of a spectator. Returns whether it leaves. */
+static bool watch_frame(const options *o, c8_session *session, network *n) {
+    bool quit = false;
+    uint8_t bytes[C8_PACKET], to;
+    wait_for_frame(session, n, o->is_scripted);
+    if (o->die && machine.run >= o->die) die();
+    c8_turn(session);
+    for (uint32_t length; (length = c8_next(session, bytes, &to)) > 0;) send_to(n, to, bytes, length);
+    run_watched(session, ends_told);
+    compare(machine.run);
+    if (!o->is_scripted) typed(&quit), draw(&machine.states[machine.run % RING]);
+    return quit;
+}
+
+static void report(uint32_t frames) {
     const state *s = &machine.states[frames % RING];
     for (int i = 0; i < PLAYERS; i++)
         if (ends[i] != C8_UNCUT) printf("player %d is gone since frame %" PRIu32 "\n", i + 1, ends[i]);
@@ -373,7 +448,7 @@ static void report(c8_session *session) {
 int main(int count, char **words) {
     const options o = read_options(count, words);
     c8_session session = {0};
-    network n;
+    network n = {.lose = 0};
     bool leaves = false;
     open_session(&o, &session);
     machine.wrong = o.wrong;
@@ -385,8 +460,9 @@ int main(int count, char **words) {
         if (o.is_scripted) end_after(90); /* a test does not hang */
         else open_terminal();
     }
-    for (uint32_t turn = 0; o.me && !leaves && !c8_is_over(&session); turn++) leaves = frame(&o, &session, &n, turn);
-    report(&session);
+    while (o.me == WATCHER && !leaves && machine.run < o.frames) leaves = watch_frame(&o, &session, &n);
+    for (uint32_t turn = 0; o.me && o.me != WATCHER && !leaves && !c8_is_over(&session); turn++) leaves = frame(&o, &session, &n, turn);
+    report(o.me == WATCHER ? machine.run : c8_confirmed(&session));
     c8_close(&session);
     if (o.me) closesocket(n.udp);
     return 0;

@@ -1,4 +1,4 @@
--- An open handle and its parts own what a `Box<Endpoint>` of the C library's heap owns, and a closed one the allocator alone.
+-- An open handle and its parts own what a `Box<AnyEndpoint>` of the C library's heap owns, and a closed one the allocator alone.
 use Rattle.std.proofs.Common.{◌≡◌, List, [], ◌∷◌, ◌++◌, refl, subst, lit<}
 use lib.Dec.{T}
 use seplogic.Ra.Ura.{Ura}
@@ -23,13 +23,17 @@ use Rattle.std.proofs.BoxSteps.Form.{Bx, D, B, P, box_ty, handle, owning}
 use Rattle.std.specs.contracts.alloc.Global as Heap
 use Rattle.std.specs.contracts.impls.GlobalAllocator.TheImpl.{ghosts, dict}
 use Rattle.std.proofs.alloc.Global.TheLaws as heap
+use Rattle.c8_embed.specs.contracts.endpoint.Endpoint as Endpoint
+use Rattle.c8_embed.specs.contracts.watch.WatchEndpoint as WatchEndpoint
+use Rattle.c8_embed.proofs.any.Side.TheLaws as any
 use Rattle.c8_embed.proofs.endpoint.Endpoint.TheLaws as endpoint
+use Rattle.c8_embed.proofs.watch.WatchEndpoint.TheLaws as watch
 use Rattle.c8_engine.specs.Held.{session_row}
 use Rattle.c8_engine.specs.contracts.parts.Parts as Parts
 use Rattle.c8_engine.specs.contracts.handle.Handle as Handle
 
 abbrev pub session_laws : Laws session_row
-session_laws = endpoint.the_row_laws
+session_laws = any.the_row_laws Endpoint.the_row WatchEndpoint.the_row endpoint.the_row_laws watch.the_row_laws
 
 abbrev pub E : Bx
 E = record {

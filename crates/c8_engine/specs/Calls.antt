@@ -11,7 +11,7 @@ use Rattle.c8_game.specs.declared.row.Row.{Row}
 use Rattle.c8_peer.specs.declared.check.Check.{Check}
 use Rattle.c8_peer.specs.declared.heard.Heard.{Heard}
 use Rattle.c8_peer.specs.Opened.{IsOpened}
-use Rattle.c8_peer.specs.Peer.{IsStep}
+use Rattle.c8_peer.specs.Peer.{IsStep, known_by, begun_by}
 use Rattle.c8_peer.specs.State.{Saying, Hello, Welcome, Data, Freeze, Frozen, Cut, Said, Tick, Say, Leave, Decide, Checkpoint, Ticked, Left}
 use Rattle.c8_peer.specs.State.{Decided, Checked}
 use Rattle.c8_refusals.specs.declared.error.TickError.{TickError}
@@ -20,6 +20,11 @@ use Rattle.c8_refusals.specs.declared.error.LeaveError.{LeaveError}
 use Rattle.c8_refusals.specs.declared.error.DecideError.{DecideError}
 use Rattle.c8_refusals.specs.declared.error.CheckError.{CheckError}
 use Rattle.c8_embed.specs.declared.medium.Medium.{Medium}
+use Rattle.c8_embed.specs.Any.{AnyEndpoint, role_of}
+use Rattle.c8_embed.specs.declared.any.Side.TheVariants as sides
+use Rattle.c8_embed.specs.declared.any.Role.{Role}
+use Rattle.c8_embed.specs.declared.any.Role.TheVariants as roles
+use Rattle.c8_embed.specs.declared.watch.WatchEndpoint.{WatchEndpoint}
 use Rattle.c8_embed.specs.declared.endpoint.Endpoint.{Endpoint}
 use Rattle.c8_embed.specs.declared.endpoint.Sender.{Sender}
 use Rattle.c8_session.specs.Runs.{IsStopped}
@@ -28,7 +33,10 @@ use Rattle.c8_embed.specs.Endpoint.{EngineOf, HasCalled, HasSealing, HasDelivere
 use Rattle.c8_embed.specs.declared.endpoint.Undelivered.{Undelivered}
 use Rattle.c8_transport.specs.declared.keys.Secrets.{Secrets}
 use Rattle.c8_known.specs.Known.{PlayerValue, KnownValue, player_in}
-use Rattle.c8_known.specs.Confirmed.{past_cut, has_value}
+use Rattle.c8_known.specs.Confirmed.{past_cut, has_value, best_rows}
+use Rattle.c8_digest.specs.Origin.{run_since}
+use Rattle.c8_machine.specs.Serial.{serial}
+use Rattle.c8_machine.specs.State.{State}
 use Rattle.c8_embed.specs.Engine.{HasLookedAt, HasToldAt, OwesTurn}
 use Rattle.c8_embed.specs.Head.{NamesHead}
 use Rattle.c8_embed.specs.Lead.{IsNewLead, HasAsked}
@@ -36,32 +44,95 @@ use Rattle.c8_embed.specs.News.{AreNoNews}
 use Rattle.c8_embed.specs.declared.events.Event.{Event}
 use Rattle.c8_embed.specs.Journal.{disk}
 use Rattle.c8_engine.specs.declared.telling.EventState.{EventState}
+use Rattle.c8_engine.specs.Codes.{closed_code, replay_code, watcher_code}
 use Rattle.c8_engine.specs.Codes.{delivered_code, bad_secret_code, sealed_already_code, tick_code, leave_code, decide_code, check_code}
 use Rattle.c8_engine.specs.Codes.{turn_code, say_code, event_code, wait_code}
 
--- if the handle was open, it still is, and this holds of its session before and after
-abbrev pub IfSession : Option Endpoint → Option Endpoint → (Endpoint → Endpoint → Type 0) → Type 0
-IfSession None new P = Unit {0}
-IfSession (Some e) None P = ⊥
-IfSession (Some e) (Some f) P = P e f
+-- ---- what a handle has
+
+-- the endpoint of a player or a replay, and that of a watcher
+abbrev pub player_of : Option AnyEndpoint → Option Endpoint
+player_of None = None
+player_of (Some (sides.Player e)) = Some e
+player_of (Some (sides.Watcher w)) = None
+
+abbrev pub watcher_of : Option AnyEndpoint → Option WatchEndpoint
+watcher_of None = None
+watcher_of (Some (sides.Player e)) = None
+watcher_of (Some (sides.Watcher w)) = Some w
+
+abbrev pub role_in : Option AnyEndpoint → Option Role
+role_in None = None
+role_in (Some s) = Some (role_of s)
+
+-- what a call that plays answers where it cannot: at a closed handle, at a replay, and at a watcher
+abbrev pub refusal_in : Option Role → Option ℕ
+refusal_in None = Some closed_code
+refusal_in (Some roles.Replay) = Some replay_code
+refusal_in (Some roles.Watcher) = Some watcher_code
+refusal_in (Some roles.Player) = None
+
+abbrev pub refusal_of : Option AnyEndpoint → Option ℕ
+refusal_of s = refusal_in (role_in s)
+
+-- what a call that needs a player or a replay answers where there is none
+abbrev pub lack_in : Option Role → Option ℕ
+lack_in None = Some closed_code
+lack_in (Some roles.Replay) = None
+lack_in (Some roles.Watcher) = Some watcher_code
+lack_in (Some roles.Player) = None
+
+abbrev pub lack_of : Option AnyEndpoint → Option ℕ
+lack_of s = lack_in (role_in s)
+
+-- what a call that hears or speaks answers where it cannot
+abbrev pub silence_in : Option Role → Option ℕ
+silence_in None = Some closed_code
+silence_in (Some roles.Replay) = Some replay_code
+silence_in (Some roles.Watcher) = None
+silence_in (Some roles.Player) = None
+
+abbrev pub silence_of : Option AnyEndpoint → Option ℕ
+silence_of s = silence_in (role_in s)
+
+-- if there was an endpoint, there still is one, and this holds of it before and after
+abbrev pub IfBoth : {E : Type 0} → Option E → Option E → (E → E → Type 0) → Type 0
+IfBoth None new P = Unit {0}
+IfBoth (Some e) None P = ⊥
+IfBoth (Some e) (Some f) P = P e f
+
+-- if the handle has a watcher, it keeps it
+abbrev pub IfWatches : Option AnyEndpoint → Option AnyEndpoint → (WatchEndpoint → WatchEndpoint → Type 0) → Type 0
+IfWatches old new P = IfBoth (watcher_of old) (watcher_of new) P
+
+-- the same of a player or a replay
+abbrev pub IfSession : Option AnyEndpoint → Option AnyEndpoint → (Endpoint → Endpoint → Type 0) → Type 0
+IfSession old new P = IfBoth (player_of old) (player_of new) P
 
 -- the same of its engine, and the secret stays; so does whether it is a replay
-abbrev pub IfOpen : Option Endpoint → Option Endpoint → (EngineOf → EngineOf → Type 0) → Type 0
+abbrev pub IfOpen : Option AnyEndpoint → Option AnyEndpoint → (EngineOf → EngineOf → Type 0) → Type 0
 IfOpen old new P =
     IfSession old new (λ e f. P e.engine f.engine × (f.sealer ≡ e.sealer) × (f.number ≡ e.number) × (f.sender ≡ e.sender)
     × (f.is_replay ≡ e.is_replay))
 
--- whether the handle has a replay: a session that only reads
-abbrev pub replays : Option Endpoint → Bool
-replays None = false
-replays (Some e) = e.is_replay
+-- what holds of a handle whose session plays
+abbrev pub IfPlaying : Option AnyEndpoint → Option AnyEndpoint → (Endpoint → Endpoint → Type 0) → Type 0
+IfPlaying old new P = refusal_of old ≡ None → IfSession old new P
 
--- what holds of a handle whose session is no replay
-abbrev pub IfPlaying : Option Endpoint → Option Endpoint → (Endpoint → Endpoint → Type 0) → Type 0
-IfPlaying old new P = replays old ≡ false → IfSession old new P
+abbrev pub IfPlays : Option AnyEndpoint → Option AnyEndpoint → (EngineOf → EngineOf → Type 0) → Type 0
+IfPlays old new P = refusal_of old ≡ None → IfOpen old new P
 
-abbrev pub IfPlays : Option Endpoint → Option Endpoint → (EngineOf → EngineOf → Type 0) → Type 0
-IfPlays old new P = replays old ≡ false → IfOpen old new P
+-- the machine that a session shows: a player's is the one after its last tick, with its best guesses
+abbrev pub machine_of : AnyEndpoint → State
+machine_of (sides.Player e) = run_since e.engine.peer.rules (begun_by e.engine.peer) (best_rows (known_by e.engine.peer))
+machine_of (sides.Watcher w) = serial w.spectator.rules w.spectator.rows
+
+-- who sealed the packet that a session took last
+abbrev pub sender_of : AnyEndpoint → Option Sender
+sender_of (sides.Player e) = e.sender
+sender_of (sides.Watcher w) = w.sender
+
+-- ---- openings
 
 -- The handle has a session of this player in this room, of the game that the text spells, over the journal of this disk, or
 -- a replay of that. Its engine was given nothing.
@@ -78,19 +149,22 @@ pub record IsOpenedBy (text : List ℕ) (player room : ℕ) (kept : FileDisk Med
   pub sender : session.sender ≡ None
   pub replay : session.is_replay ≡ is_replay
 
-abbrev pub IsOpenOver : List ℕ → ℕ → ℕ → FileDisk Medium → Bool → Option Endpoint → Type 0
+abbrev pub IsOpenOver : List ℕ → ℕ → ℕ → FileDisk Medium → Bool → Option AnyEndpoint → Type 0
 IsOpenOver text player room kept is_replay None = ⊥
-IsOpenOver text player room kept is_replay (Some session) = IsOpenedBy text player room kept is_replay session
+IsOpenOver text player room kept is_replay (Some (sides.Player session)) = IsOpenedBy text player room kept is_replay session
+IsOpenOver text player room kept is_replay (Some (sides.Watcher session)) = ⊥
 
 -- a session of this player in this room
-abbrev pub IsOpenWith : List ℕ → ℕ → ℕ → Option Endpoint → Type 0
+abbrev pub IsOpenWith : List ℕ → ℕ → ℕ → Option AnyEndpoint → Type 0
 IsOpenWith text player room session = (kept : FileDisk Medium) × IsOpenOver text player room kept false session
 
 -- a replay of a journal, of the player and the room that its first record names
-abbrev pub IsReplayWith : List ℕ → Option Endpoint → Type 0
+abbrev pub IsReplayWith : List ℕ → Option AnyEndpoint → Type 0
 IsReplayWith text session =
     (player : ℕ) × (room : ℕ) × (kept : FileDisk Medium) × NamesHead (file_bytes kept) player room
     × IsOpenOver text player room kept true session
+
+-- ---- calls
 
 pub record HasTicked (old new : EngineOf) (keys code : ℕ) : Type 0 where
   pub reply : Result (Unit {0}) TickError

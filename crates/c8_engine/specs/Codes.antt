@@ -18,6 +18,12 @@ use Rattle.c8_transport.specs.declared.error.NotTaken.{NotTaken}
 use Rattle.c8_transport.specs.declared.error.NotTaken.TheVariants.{NotSealed, SeenBefore}
 use Rattle.c8_embed.specs.declared.endpoint.Undelivered.{Undelivered}
 use Rattle.c8_embed.specs.declared.endpoint.Undelivered.TheVariants as undelivered
+use Rattle.c8_embed.specs.declared.watch.Unshown.{Unshown}
+use Rattle.c8_embed.specs.declared.watch.Unshown.TheVariants as unshown
+use Rattle.c8_spectator.specs.Errors as watches
+use Rattle.c8_spectator.specs.declared.error.NotTaken.TheVariants as untaken
+use Rattle.c8_spectator.specs.declared.taken.Taken.{Taken}
+use Rattle.c8_spectator.specs.declared.taken.Taken.TheVariants as takes
 use Rattle.c8_embed.specs.declared.events.EventKind.{EventKind}
 use Rattle.c8_embed.specs.declared.events.EventKind.TheVariants as events
 use Rattle.c8_refusals.specs.Errors as refusing
@@ -58,6 +64,10 @@ sealed_already_code = 106
 -- what calls that play answer at a replay
 abbrev pub replay_code : ℕ
 replay_code = 107
+
+-- what calls that are not for watchers answer at a watcher
+abbrev pub watcher_code : ℕ
+watcher_code = 108
 
 abbrev pub disk_code : DiskError → ℕ
 disk_code why = 1300 + disks.disk_number_of why
@@ -103,6 +113,14 @@ abbrev pub delivered_code : Result Heard Undelivered → ℕ
 delivered_code (Ok heard) = heard_code (Ok heard)
 delivered_code (Err (undelivered.Refused why)) = heard_code (Err why)
 delivered_code (Err (undelivered.NotTaken why)) = not_taken_code why
+
+-- 1 for rows that a watcher has not had before
+abbrev pub shown_code : Result Taken Unshown → ℕ
+shown_code (Ok takes.Nothing) = 0
+shown_code (Ok takes.Kept) = 1
+shown_code (Err (unshown.NotTaken why)) = not_taken_code why
+shown_code (Err (unshown.Refused (untaken.Wire error))) = 500 + wires.number_of error
+shown_code (Err (unshown.Refused (untaken.Watch error))) = 1400 + watches.number_of error
 
 abbrev pub leave_code : Result (Unit {0}) LeaveError → ℕ
 leave_code (Ok done) = 0

@@ -1,13 +1,14 @@
 //! The number that each answer has in C.
 ghost use Rattle.std.specs.Prelude.{◌≡◌, ◌<◌};
-ghost use Rattle.c8_engine.specs.Codes.{closed_code, nobody_code, not_taken_code, bad_secret_code, sealed_already_code, replay_code, delivered_code, disk_code, game_code, open_code, tick_code, heard_code, leave_code, decide_code, check_code, turn_code, file_code, say_code, event_code, wait_code};
+ghost use Rattle.c8_engine.specs.Codes.{closed_code, nobody_code, not_taken_code, bad_secret_code, sealed_already_code, replay_code, watcher_code, delivered_code, shown_code, disk_code, game_code, open_code, tick_code, heard_code, leave_code, decide_code, check_code, turn_code, file_code, say_code, event_code, wait_code};
 
 use c8_disk::{DiskError, FileError};
-use c8_embed::{EventKind, Undelivered};
+use c8_embed::{EventKind, Undelivered, Unshown};
 use c8_game::GameError;
 use c8_peer::{
     Check, CheckError, DecideError, Heard, LeaveError, OpenError, Refused, TickError, Unsayable,
 };
+use c8_spectator::{NotTaken as Untaken, Taken};
 use c8_transport::NotTaken;
 
 /// What every call but an opening and a close answers at a closed handle.
@@ -52,6 +53,13 @@ pub(crate) fn replay_code() -> u32
     ensures { result ≡ replay_code }
 {
     107
+}
+
+/// What a call that is not for watchers answers at a watcher.
+pub(crate) fn watcher_code() -> u32
+    ensures { result ≡ watcher_code }
+{
+    108
 }
 
 pub(crate) fn disk_code(why: DiskError) -> u32
@@ -107,6 +115,18 @@ pub(crate) fn delivered_code(answer: Result<Heard, Undelivered>) -> u32
         Ok(heard) => heard_code(Ok(heard)),
         Err(Undelivered::Refused(why)) => heard_code(Err(why)),
         Err(Undelivered::NotTaken(why)) => not_taken_code(why),
+    }
+}
+
+pub(crate) fn shown_code(answer: Result<Taken, Unshown>) -> u32
+    ensures { result ≡ shown_code answer }
+{
+    match answer {
+        Ok(Taken::Nothing) => 0,
+        Ok(Taken::Kept) => 1,
+        Err(Unshown::NotTaken(why)) => not_taken_code(why),
+        Err(Unshown::Refused(Untaken::Wire(error))) => 500 + u32::from(error.number()),
+        Err(Unshown::Refused(Untaken::Watch(error))) => 1400 + u32::from(error.number()),
     }
 }
 

@@ -6,6 +6,7 @@ use c8_game::GameError;
 use c8_hand::HandError;
 use c8_known::KnownError;
 use c8_peer::{CheckError, DecideError, LeaveError, OpenError, Refused, TickError, Unsayable};
+use c8_spectator::WatchError;
 use c8_transport::NotTaken;
 use c8_wire::WireError;
 use std::fmt;
@@ -60,6 +61,7 @@ fn explain(number: u32, text: &mut Text) -> fmt::Result {
         11 => decision(place, text),
         12 => check(place, text),
         13 => disk(place, text),
+        14 => watching(place, text),
         _ => Ok(()),
     }
 }
@@ -80,6 +82,10 @@ fn own(number: u8, text: &mut Text) -> fmt::Result {
         ),
         6 => write!(text, "SealedAlready: the session has a secret already"),
         7 => write!(text, "Replay: the session is a replay, which only reads"),
+        8 => write!(
+            text,
+            "Watcher: the session is a watcher's, which only watches"
+        ),
         _ => Ok(()),
     }
 }
@@ -231,4 +237,17 @@ fn disk(number: u8, text: &mut Text) -> fmt::Result {
         return write!(text, "Locked: {}", FileError::Locked);
     }
     tell!(text, number, DiskError::Failed, DiskError::Full)
+}
+
+fn watching(number: u8, text: &mut Text) -> fmt::Result {
+    tell!(
+        text,
+        number,
+        WatchError::Session,
+        WatchError::NotMine,
+        WatchError::Gap,
+        WatchError::Differs,
+        WatchError::Full,
+        WatchError::Absent
+    )
 }

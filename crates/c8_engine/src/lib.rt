@@ -1,4 +1,4 @@
-//! A session for C: one peer on a handle, with the calls of c8_embed's `Endpoint`. `embed/c8.h` declares the exports.
+//! A session for C: one peer or watcher on a handle, with the calls of c8_embed's `AnyEndpoint`. `embed/c8.h` declares the exports.
 //!
 //! [`Handle`] is the struct of one pointer that C sees; `parts` takes the box behind it apart, and makes it again. The clause of each export says what it does to the engine of an
 //! open handle (`specs/Calls.antt`) and which number it answers (`specs/Codes.antt`). `proofs/` has by hand what a raw
@@ -25,7 +25,7 @@ pub use calls::{
 };
 pub use explaining::c8_explain;
 pub use handle::Handle;
-pub use opening::{c8_close, c8_open, c8_open_journal, c8_replay_open};
+pub use opening::{c8_close, c8_open, c8_open_journal, c8_replay_open, c8_watch_open};
 pub use reading::{
     PlayerState, c8_confirmed, c8_epoch, c8_is_lost, c8_is_over, c8_mark, c8_player, c8_screen,
     c8_state, c8_status, c8_ticked, c8_tone,

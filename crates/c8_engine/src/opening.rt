@@ -5,15 +5,17 @@ ghost use Rattle.c8_refusals.specs.declared.error.OpenError.TheVariants as opens
 ghost use Rattle.c8_engine.specs.Calls.{IsOpenWith, IsOpenOver, IsReplayWith};
 ghost use Rattle.c8_engine.specs.Codes.{open_code};
 ghost use Rattle.c8_engine.specs.Refused.{IsNoJournal, IsNoSession, IsNoReplay, IsRefusedAs};
+ghost use Rattle.c8_engine.specs.Watched.{IsWatchWith, IsNoWatch};
 
 use crate::calls::turns;
 use crate::codes::{file_code, game_code, nobody_code, open_code};
 use crate::handle::Handle;
 use c8_disk::{FileDisk, FileError};
-use c8_embed::{Endpoint, Engine, Medium, Patience, head_of};
+use c8_embed::{Endpoint, Engine, Medium, Patience, Side, WatchEndpoint, head_of};
 use c8_game::{Game, Player};
 use c8_log::SLOT_LENGTH;
 use c8_peer::OpenError;
+use c8_wire::Watcher;
 use std::alloc::Global;
 
 /// After how many frames a checkpoint is recorded.
@@ -85,6 +87,60 @@ pub extern "C" fn c8_replay_open(alloc: Global, text: &[u8], file: i32, handle: 
     match Medium::copy_of(file) {
         Some(medium) => replay_over(alloc, text, medium, handle),
         None => file_code(FileError::Failed),
+    }
+}
+
+/// Opens a watcher's session, in place of the session that the handle had. `begun` is the time in milliseconds since 1970, from which
+/// the packets of a watcher with a secret are numbered.
+#[unsafe(no_mangle)]
+pub extern "C" fn c8_watch_open(
+    alloc: Global,
+    text: &[u8],
+    watcher: u8,
+    room: u64,
+    begun: u64,
+    handle: &mut Handle,
+) -> u32
+    ensures opened { result ≡ 0 → IsWatchWith text.now watcher room begun handle.new.value }
+    ensures refused { 0 < result → handle.new ≡ handle.old }
+    ensures why { 0 < result → IsNoWatch text.now watcher result }
+{
+    let game = match Game::read(alloc, text) {
+        Ok(game) => game,
+        Err(error) => return game_code(error),
+    };
+    let Some(seat) = Watcher::new(watcher) else {
+        return nobody_code();
+    };
+    match Box::new(alloc, game) {
+        Ok(game) => watch_on(alloc, Box::leak(game), room, seat, begun, handle),
+        Err(_) => open_code(OpenError::Memory),
+    }
+}
+
+/// Opens a watcher's session of a game.
+fn watch_on(
+    alloc: Global,
+    game: &'static Game,
+    room: u64,
+    seat: Watcher,
+    begun: u64,
+    handle: &mut Handle,
+) -> u32
+    ensures opened { result ≡ 0 → (text : List ℕ) → Spells text game.now
+        → IsWatchWith text seat.number room begun handle.new.value }
+    ensures refused { 0 < result → handle.new ≡ handle.old }
+    ensures why { 0 < result → result ≡ open_code opens.Memory }
+{
+    let Ok(watch) = WatchEndpoint::open(alloc, game, room, seat, begun) else {
+        return open_code(OpenError::Memory);
+    };
+    match Box::new(alloc, Side::Watcher(watch)) {
+        Ok(watcher) => {
+            *handle = Handle::of(watcher);
+            0
+        }
+        Err(_) => open_code(OpenError::Memory),
     }
 }
 
@@ -199,7 +255,8 @@ fn open_on(
         first: None,
         later: turns(way.patience),
     });
-    match Box::new(alloc, Endpoint::new(engine, number, way.is_replay)) {
+    let endpoint = Side::Player(Endpoint::new(engine, number, way.is_replay));
+    match Box::new(alloc, endpoint) {
         Ok(session) => {
             *handle = Handle::of(session);
             0

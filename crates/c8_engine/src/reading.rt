@@ -1,21 +1,24 @@
 //! What a session's peer knows, and the machine that its player sees.
-ghost use Rattle.std.specs.Prelude.{◌≡◌, ◌≤◌, None, take, drop};
+ghost use Rattle.std.specs.Prelude.{◌≡◌, ◌≤◌, None, IfSome, true, false, length, take, drop};
 ghost use Rattle.c8_digest.specs.StateBytes.{mark_of, state_bytes};
-ghost use Rattle.c8_digest.specs.Origin.{run_since};
-ghost use Rattle.c8_known.specs.Confirmed.{confirmed, best_rows};
+ghost use Rattle.c8_machine.specs.State.{state};
+ghost use Rattle.c8_embed.specs.Watch.{has_all};
+ghost use Rattle.c8_known.specs.Confirmed.{confirmed};
 ghost use Rattle.c8_known.specs.Journal.{ticks, epoch};
 ghost use Rattle.c8_known.specs.Known.{count_in, player_in, is_frozen_in};
 ghost use Rattle.c8_hand.specs.Links.{link_to};
 ghost use Rattle.c8_window.specs.Window.{acked_of};
-ghost use Rattle.c8_peer.specs.Peer.{known_by, begun_by};
+ghost use Rattle.c8_peer.specs.Peer.{known_by};
 ghost use Rattle.c8_engine.specs.Codes.{closed_code, nobody_code};
-ghost use Rattle.c8_engine.specs.Calls.{IfOpen, cut_code, statuses, status_in};
+ghost use Rattle.c8_engine.specs.Calls.{IfOpen, IfWatches, lack_of, machine_of, cut_code, statuses, status_in};
 
-use crate::codes::{closed_code, nobody_code};
+use crate::codes::{closed_code, nobody_code, watcher_code};
 use crate::handle::Handle;
 use c8_digest::{STATE_LENGTH, mark, state_bytes};
 use c8_disk::Disk;
+use c8_embed::{AnyEndpoint, Side};
 use c8_game::Player;
+use c8_machine::Machine;
 use c8_peer::Peer;
 
 /// Where the 256 bytes of the picture are in the bytes of a state.
@@ -39,77 +42,98 @@ pub struct PlayerState {
     pub cut: u32,
 }
 
-/// How many ticks the own player has made; 0 at a closed handle.
+/// How many ticks the own player has made, or how many rows a watcher has; 0 at a closed handle.
 #[unsafe(no_mangle)]
 pub extern "C" fn c8_ticked(handle: &mut Handle) -> u32
     ensures same { handle.new.value ≡ handle.old.value }
     ensures closed { handle.old.value ≡ None → result ≡ 0 }
     ensures value { IfOpen handle.old.value handle.new.value (λ e f.
         result ≡ ticks e.peer.state.journal) }
+    ensures watched { IfWatches handle.old.value handle.new.value (λ w v. result ≡ length w.spectator.rows) }
 {
     if !handle.is_open() {
         return 0;
     }
-    handle.session().engine.peer().now()
+    match handle.session() {
+        Side::Player(player) => player.engine.peer().now(),
+        Side::Watcher(watcher) => watcher.spectator.count(),
+    }
 }
 
-/// How many frames are confirmed; 0 at a closed handle.
+/// How many frames are confirmed, or how many rows a watcher has; 0 at a closed handle.
 #[unsafe(no_mangle)]
 pub extern "C" fn c8_confirmed(handle: &mut Handle) -> u32
     ensures same { handle.new.value ≡ handle.old.value }
     ensures closed { handle.old.value ≡ None → result ≡ 0 }
     ensures value { IfOpen handle.old.value handle.new.value (λ e f.
         result ≡ confirmed (known_by e.peer)) }
+    ensures watched { IfWatches handle.old.value handle.new.value (λ w v. result ≡ length w.spectator.rows) }
 {
     if !handle.is_open() {
         return 0;
     }
-    handle.session().engine.peer().confirmed()
+    match handle.session() {
+        Side::Player(player) => player.engine.peer().confirmed(),
+        Side::Watcher(watcher) => watcher.spectator.count(),
+    }
 }
 
-/// The epoch that began with the last opening, from 1 on; 0 at a closed handle.
+/// The epoch that began with the last opening, from 1 on; 0 at a closed handle and at a watcher.
 #[unsafe(no_mangle)]
 pub extern "C" fn c8_epoch(handle: &mut Handle) -> u32
     ensures same { handle.new.value ≡ handle.old.value }
     ensures closed { handle.old.value ≡ None → result ≡ 0 }
     ensures value { IfOpen handle.old.value handle.new.value (λ e f.
         result ≡ epoch e.peer.state.journal) }
+    ensures watched { IfWatches handle.old.value handle.new.value (λ w v. result ≡ 0) }
 {
     if !handle.is_open() {
         return 0;
     }
-    handle.session().engine.peer().epoch()
+    match handle.session() {
+        Side::Player(player) => player.engine.peer().epoch(),
+        Side::Watcher(_) => 0,
+    }
 }
 
-/// Whether the match is over for this peer, or the handle is closed.
+/// Whether the match is over for this peer, a watcher has all its rows, or the handle is closed.
 #[unsafe(no_mangle)]
 pub extern "C" fn c8_is_over(handle: &mut Handle) -> bool
     ensures same { handle.new.value ≡ handle.old.value }
+    ensures closed { handle.old.value ≡ None → result ≡ true }
+    ensures watched { IfWatches handle.old.value handle.new.value (λ w v. result ≡ has_all w) }
 {
     if !handle.is_open() {
         return true;
     }
-    handle.session().engine.is_over()
+    match handle.session() {
+        Side::Player(player) => player.engine.is_over(),
+        Side::Watcher(watcher) => watcher.is_over(),
+    }
 }
 
-/// Whether the others hold inputs that this session's journal does not have; false at a closed handle.
+/// Whether the others hold inputs that this session's journal does not have; false at a closed handle and at a watcher.
 #[unsafe(no_mangle)]
 pub extern "C" fn c8_is_lost(handle: &mut Handle) -> bool
     ensures same { handle.new.value ≡ handle.old.value }
+    ensures lacking { IfSome (lack_of handle.old.value) (λ code. result ≡ false) }
 {
-    if !handle.is_open() {
+    if let Some(_code) = handle.lack() {
         return false;
     }
-    handle.session().engine.is_lost()
+    match handle.session() {
+        Side::Player(player) => player.engine.is_lost(),
+        Side::Watcher(_) => false,
+    }
 }
 
 /// Writes what the peer knows of a player to `state`.
 #[unsafe(no_mangle)]
 pub extern "C" fn c8_player(handle: &mut Handle, player: u8, state: &mut PlayerState) -> u32
     ensures same { handle.new.value ≡ handle.old.value }
-    ensures closed { handle.old.value ≡ None → result ≡ closed_code }
+    ensures lacking { IfSome (lack_of handle.old.value) (λ code. (result ≡ code) × (state.new ≡ state.old)) }
     ensures told { 1 ≤ player → player ≤ 4 → IfOpen handle.old.value handle.new.value (λ e f. result ≡ 0) }
-    ensures nobody { (1 ≤ player → player ≤ 4 → ⊥) → (handle.old.value ≡ None → ⊥)
+    ensures nobody { (1 ≤ player → player ≤ 4 → ⊥) → lack_of handle.old.value ≡ None
         → (result ≡ nobody_code) × (state.new ≡ state.old) }
     ensures held { result ≡ 0 → IfOpen handle.old.value handle.new.value (λ e f.
         state.new.held ≡ count_in (known_by e.peer) player) }
@@ -122,23 +146,27 @@ pub extern "C" fn c8_player(handle: &mut Handle, player: u8, state: &mut PlayerS
     ensures cut { result ≡ 0 → IfOpen handle.old.value handle.new.value (λ e f.
         state.new.cut ≡ cut_code (player_in (known_by e.peer) player).cut) }
 {
-    if !handle.is_open() {
-        return closed_code();
+    if let Some(code) = handle.lack() {
+        return code;
     }
     let Some(player) = Player::new(player) else {
         return nobody_code();
     };
-    let engine = &handle.session().engine;
-    let peer = engine.peer();
-    *state = PlayerState {
-        silent: engine.silent(player),
-        held: peer.count(player),
-        acknowledged: peer.acked(player),
-        linked: peer.is_linked(player),
-        dropped: peer.frozen(player),
-        cut: cut_code(peer.cut_of(player)),
-    };
-    0
+    match handle.session() {
+        Side::Player(own) => {
+            let peer = own.engine.peer();
+            *state = PlayerState {
+                silent: own.engine.silent(player),
+                held: peer.count(player),
+                acknowledged: peer.acked(player),
+                linked: peer.is_linked(player),
+                dropped: peer.frozen(player),
+                cut: cut_code(peer.cut_of(player)),
+            };
+            0
+        }
+        Side::Watcher(_) => watcher_code(),
+    }
 }
 
 /// Where a player's inputs are cut, as C reads it.
@@ -156,22 +184,26 @@ fn cut_code(cut: Option<u32>) -> u32
 #[unsafe(no_mangle)]
 pub extern "C" fn c8_status(handle: &mut Handle, frame: u32, out: &mut [u8; 4]) -> u32
     ensures same { handle.new.value ≡ handle.old.value }
-    ensures closed { handle.old.value ≡ None → (result ≡ closed_code) × (out.new ≡ out.old) }
+    ensures lacking { IfSome (lack_of handle.old.value) (λ code. (result ≡ code) × (out.new ≡ out.old)) }
     ensures statuses { IfOpen handle.old.value handle.new.value (λ e f. (result ≡ 0)
         × (out.new ≡ statuses (known_by e.peer) frame)) }
 {
-    if !handle.is_open() {
-        return closed_code();
+    if let Some(code) = handle.lack() {
+        return code;
     }
-    let engine = &handle.session().engine;
-    let peer = engine.peer();
-    *out = [
-        status(peer, Player { number: 1 }, frame),
-        status(peer, Player { number: 2 }, frame),
-        status(peer, Player { number: 3 }, frame),
-        status(peer, Player { number: 4 }, frame),
-    ];
-    0
+    match handle.session() {
+        Side::Player(own) => {
+            let peer = own.engine.peer();
+            *out = [
+                status(peer, Player { number: 1 }, frame),
+                status(peer, Player { number: 2 }, frame),
+                status(peer, Player { number: 3 }, frame),
+                status(peer, Player { number: 4 }, frame),
+            ];
+            0
+        }
+        Side::Watcher(_) => watcher_code(),
+    }
 }
 
 /// What the input of a player in the best row of a frame is.
@@ -187,20 +219,29 @@ fn status<D: Disk>(peer: &Peer<'_, D>, player: Player, frame: u32) -> u8
     }
 }
 
-/// Writes the picture that the player sees to `out`: 32 rows of 8 bytes, the leftmost point in the highest bit.
+/// The machine that a session shows.
+fn shown(session: &AnyEndpoint) -> &Machine
+    ensures { state result.now ≡ machine_of session.now }
+{
+    match session {
+        Side::Player(player) => player.engine.peer().shown(),
+        Side::Watcher(watcher) => watcher.spectator.shown(),
+    }
+}
+
+/// Writes the picture of the machine that a session shows to `out`: 32 rows of 8 bytes, the leftmost point in the highest bit.
 #[unsafe(no_mangle)]
 pub extern "C" fn c8_screen(handle: &mut Handle, out: &mut [u8; 256]) -> u32
     ensures same { handle.new.value ≡ handle.old.value }
     ensures closed { handle.old.value ≡ None → result ≡ closed_code }
-    ensures answer { IfOpen handle.old.value handle.new.value (λ e f. result ≡ 0) }
-    ensures picture { IfOpen handle.old.value handle.new.value (λ e f. out.new ≡ take 256 (drop 4149
-        (state_bytes (run_since e.peer.rules (begun_by e.peer) (best_rows (known_by e.peer)))))) }
+    ensures answer { IfSome handle.old.value (λ s. result ≡ 0) }
+    ensures picture { IfSome handle.old.value (λ s. out.new ≡ take 256 (drop 4149 (state_bytes (machine_of s)))) }
 {
     if !handle.is_open() {
         return closed_code();
     }
     let mut state = [0; STATE_LENGTH];
-    state_bytes(handle.session().engine.peer().shown(), &mut state);
+    state_bytes(shown(handle.session()), &mut state);
     out.copy_from_slice(&state[SCREEN_AT..SCREEN_AT + 256]);
     0
 }
@@ -210,43 +251,40 @@ pub extern "C" fn c8_screen(handle: &mut Handle, out: &mut [u8; 256]) -> u32
 pub extern "C" fn c8_tone(handle: &mut Handle) -> u32
     ensures same { handle.new.value ≡ handle.old.value }
     ensures closed { handle.old.value ≡ None → result ≡ 0 }
-    ensures tone { IfOpen handle.old.value handle.new.value (λ e f. result
-        ≡ (run_since e.peer.rules (begun_by e.peer) (best_rows (known_by e.peer))).tone) }
+    ensures tone { IfSome handle.old.value (λ s. result ≡ (machine_of s).tone) }
 {
     if !handle.is_open() {
         return 0;
     }
-    u32::from(handle.session().engine.peer().shown().tone())
+    u32::from(shown(handle.session()).tone())
 }
 
-/// Writes the 4,419 state bytes of the machine that the player sees to `out`.
+/// Writes the 4,419 state bytes of the machine that a session shows to `out`.
 #[unsafe(no_mangle)]
 pub extern "C" fn c8_state(handle: &mut Handle, out: &mut [u8; 4419]) -> u32
     ensures same { handle.new.value ≡ handle.old.value }
     ensures closed { handle.old.value ≡ None → result ≡ closed_code }
-    ensures answer { IfOpen handle.old.value handle.new.value (λ e f. result ≡ 0) }
-    ensures bytes { IfOpen handle.old.value handle.new.value (λ e f. out.new
-        ≡ state_bytes (run_since e.peer.rules (begun_by e.peer) (best_rows (known_by e.peer)))) }
+    ensures answer { IfSome handle.old.value (λ s. result ≡ 0) }
+    ensures bytes { IfSome handle.old.value (λ s. out.new ≡ state_bytes (machine_of s)) }
 {
     if !handle.is_open() {
         return closed_code();
     }
-    state_bytes(handle.session().engine.peer().shown(), out);
+    state_bytes(shown(handle.session()), out);
     0
 }
 
-/// Writes the mark of the machine that the player sees to `out`: the first 8 bytes of SHA-256 over its state bytes.
+/// Writes the mark of the machine that a session shows to `out`: the first 8 bytes of SHA-256 over its state bytes.
 #[unsafe(no_mangle)]
 pub extern "C" fn c8_mark(handle: &mut Handle, out: &mut [u8; 8]) -> u32
     ensures same { handle.new.value ≡ handle.old.value }
     ensures closed { handle.old.value ≡ None → result ≡ closed_code }
-    ensures answer { IfOpen handle.old.value handle.new.value (λ e f. result ≡ 0) }
-    ensures mark { IfOpen handle.old.value handle.new.value (λ e f. out.new
-        ≡ mark_of (run_since e.peer.rules (begun_by e.peer) (best_rows (known_by e.peer)))) }
+    ensures answer { IfSome handle.old.value (λ s. result ≡ 0) }
+    ensures mark { IfSome handle.old.value (λ s. out.new ≡ mark_of (machine_of s)) }
 {
     if !handle.is_open() {
         return closed_code();
     }
-    *out = mark(handle.session().engine.peer().shown());
+    *out = mark(shown(handle.session()));
     0
 }

@@ -1,34 +1,54 @@
 //! The packets of a session.
-ghost use Rattle.std.specs.Prelude.{◌≡◌, ◌≢◌, ◌≤◌, ◌<◌, None, IfSome, true, false};
+ghost use Rattle.std.specs.Prelude.{◌≡◌, ◌≢◌, ◌≤◌, ◌<◌, None, IfSome};
 ghost use Rattle.c8_peer.specs.Asked.{saying_of};
-ghost use Rattle.c8_engine.specs.Codes.{closed_code, nobody_code, replay_code};
+ghost use Rattle.c8_engine.specs.Codes.{nobody_code};
 ghost use Rattle.c8_embed.specs.Endpoint.{IsAsBefore};
-ghost use Rattle.c8_engine.specs.Calls.{IfPlaying, replays, IsKind, HasSaid, HasSaidKind, HasRefusedToSay};
+ghost use Rattle.c8_engine.specs.Calls.{IfPlaying, IfWatches, refusal_of, silence_of, IsKind, HasSaid, HasSaidKind, HasRefusedToSay};
+ghost use Rattle.c8_engine.specs.Watched.{HasAcknowledged};
 
-use crate::codes::{closed_code, nobody_code, replay_code, say_code};
+use crate::codes::{nobody_code, say_code, watcher_code};
 use crate::handle::Handle;
+use c8_embed::{Endpoint, Side, WatchEndpoint};
 use c8_game::Player;
 use c8_peer::Kind;
 
 /// Writes the next packet of this turn to the front of `out`, and the seat that it is for to `to`: a player, or a watcher of
-/// `c8_watched`. Returns its length; 0 once the turn has no more, and at a closed handle.
+/// `c8_watched`; at a watcher, player 1. Returns its length; 0 once the turn has no more, and at a closed handle.
 #[unsafe(no_mangle)]
 pub extern "C" fn c8_next(handle: &mut Handle, out: &mut [u8; 198], to: &mut u8) -> u32
-    ensures closed { handle.old.value ≡ None → (result ≡ 0) × (handle.new ≡ handle.old) }
-    ensures replayed { replays handle.old.value ≡ true → (result ≡ 0) × (handle.new ≡ handle.old) }
+    ensures silent { IfSome (silence_of handle.old.value) (λ code. (result ≡ 0) × (handle.new ≡ handle.old)) }
+    ensures seen { IfWatches handle.old.value handle.new.value (λ w v. HasAcknowledged w to.new result out.new v) }
     ensures said { IfPlaying handle.old.value handle.new.value (λ e f. HasSaid e to.new result out.new f) }
     ensures fits { result ≤ 198 }
 {
-    if !handle.is_open() {
+    if let Some(_code) = handle.silence() {
         return 0;
     }
-    if handle.is_replay() {
-        return 0;
+    match handle.session() {
+        Side::Player(player) => next_of_player(player, out, to),
+        Side::Watcher(watcher) => next_of_watcher(watcher, out, to),
     }
-    match handle.session().next_packet(out) {
-        Some((seat, size)) => {
-            *to = seat.number;
-            size as u32
+}
+
+fn next_of_player(player: &mut Endpoint, out: &mut [u8; 198], to: &mut u8) -> u32
+    ensures said { HasSaid player.old to.new result out.new player.new }
+    ensures fits { result ≤ 198 }
+{
+    let Some((seat, size)) = player.next_packet(out) else {
+        return 0;
+    };
+    *to = seat.number;
+    size as u32
+}
+
+fn next_of_watcher(watcher: &mut WatchEndpoint, out: &mut [u8; 198], to: &mut u8) -> u32
+    ensures seen { HasAcknowledged watcher.old to.new result out.new watcher.new }
+    ensures fits { result ≤ 198 }
+{
+    match watcher.next_packet(out) {
+        Some(length) => {
+            *to = Player::CHAIR.number;
+            length as u32
         }
         None => 0,
     }
@@ -45,21 +65,17 @@ pub extern "C" fn c8_say(
     out: &mut [u8; 198],
     length: &mut u32,
 ) -> u32
-    ensures closed { handle.old.value ≡ None → (result ≡ closed_code) × (handle.new ≡ handle.old) }
-    ensures replayed { replays handle.old.value ≡ true → (result ≡ replay_code) × (handle.new ≡ handle.old) }
+    ensures stopped { IfSome (refusal_of handle.old.value) (λ code. (result ≡ code) × (handle.new ≡ handle.old)) }
     ensures said { IfPlaying handle.old.value handle.new.value (λ e f.
         result ≡ 0 → HasSaidKind e to kind leaver length.new out.new f) }
     ensures refused { IfPlaying handle.old.value handle.new.value (λ e f.
         nobody_code < result → HasRefusedToSay e to kind leaver result f) }
-    ensures nobody { (1 ≤ to → to ≤ 4 → ⊥) → (handle.old.value ≡ None → ⊥) → replays handle.old.value ≡ false → result ≡ nobody_code }
+    ensures nobody { (1 ≤ to → to ≤ 4 → ⊥) → refusal_of handle.old.value ≡ None → result ≡ nobody_code }
     ensures kept { IfPlaying handle.old.value handle.new.value (λ e f. result ≢ 0 → IsAsBefore e f) }
     ensures fits { result ≡ 0 → length.new ≤ 198 }
 {
-    if !handle.is_open() {
-        return closed_code();
-    }
-    if handle.is_replay() {
-        return replay_code();
+    if let Some(code) = handle.refusal() {
+        return code;
     }
     let Some(to) = Player::new(to) else {
         return nobody_code();
@@ -67,16 +83,19 @@ pub extern "C" fn c8_say(
     let Some(kind) = kind_of(kind, leaver) else {
         return nobody_code();
     };
-    match handle.session().say(to, kind, out) {
-        Ok(Some(size)) => {
-            *length = size as u32;
-            0
-        }
-        Ok(None) => {
-            *length = 0;
-            0
-        }
-        Err(error) => say_code(error),
+    match handle.session() {
+        Side::Player(player) => match player.say(to, kind, out) {
+            Ok(Some(size)) => {
+                *length = size as u32;
+                0
+            }
+            Ok(None) => {
+                *length = 0;
+                0
+            }
+            Err(error) => say_code(error),
+        },
+        Side::Watcher(_) => watcher_code(),
     }
 }
 

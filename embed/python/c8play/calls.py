@@ -37,6 +37,7 @@ CALLS: dict[str, tuple[Any, ...]] = {
     "c8_open_journal": (U32, BYTES, SIZE, U8, U64, U32, I32, I32, SESSION),
     "c8_journal_open": (c.c_int, BYTES, c.POINTER(I32), c.POINTER(I32)),
     "c8_replay_open": (U32, BYTES, SIZE, I32, SESSION),
+    "c8_watch_open": (U32, BYTES, SIZE, U8, U64, U64, SESSION),
     "c8_journal_read": (c.c_int, BYTES, c.POINTER(I32)),
     "c8_close": (None, SESSION),
     "c8_deliver": (U32, SESSION, BYTES, SIZE),

@@ -54,6 +54,10 @@ class ReadOnly(Refusal):
     """The session is a replay."""
 
 
+class WatchesOnly(Refusal):
+    """The session is a watcher's."""
+
+
 class Threshold(Refusal):
     """Too far ahead of what is confirmed: tick again later."""
 
@@ -83,8 +87,8 @@ class DiskLocked(Refusal):
 
 
 NAMED: dict[int, type[Refusal]] = {
-    101: Closed, 103: NotSealed, 104: SeenBefore, 105: BadSecret, 106: SealedAlready, 107: ReadOnly, 401: Threshold, 402: End, 403: Dropped,
-    814: Desync, 1301: DiskFailed, 1302: DiskFull, 1303: DiskLocked,
+    101: Closed, 103: NotSealed, 104: SeenBefore, 105: BadSecret, 106: SealedAlready, 107: ReadOnly, 108: WatchesOnly, 401: Threshold, 402: End,
+    403: Dropped, 814: Desync, 1301: DiskFailed, 1302: DiskFull, 1303: DiskLocked,
 }
 
 

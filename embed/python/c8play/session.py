@@ -4,6 +4,7 @@ from __future__ import annotations
 import ctypes as c
 import enum
 import os
+import time
 from collections.abc import Iterator
 from typing import Any, NamedTuple
 
@@ -106,6 +107,17 @@ class Session:
         session = cls.__new__(cls)
         session._make()
         done(LIBRARY.c8_replay_open(text, len(text), read_journal(journal), session._session))
+        return session
+
+    @classmethod
+    def watch(cls, text: bytes, watcher: int, room: int, begun: int | None = None) -> Session:
+        """Opens a watcher's session, 5 or 6: player 1 shows it the confirmed rows once `watched` has named it. `deliver`, `turn`, `packets` and
+        `rows` are its frame; each row comes once. What plays raises WatchesOnly. `begun` is the time in milliseconds since 1970: a watcher of a
+        match with a secret needs a later one at each opening."""
+        session = cls.__new__(cls)
+        session._make()
+        since = time.time_ns() // 1_000_000 if begun is None else begun
+        done(LIBRARY.c8_watch_open(text, len(text), watcher, room, since, session._session))
         return session
 
     def _make(self) -> None:

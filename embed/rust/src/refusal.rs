@@ -62,6 +62,8 @@ refusals! {
     SealedAlready = 106,
     /// The session is a replay, which only reads.
     Replay = 107,
+    /// The session is a watcher's, which only watches.
+    Watcher = 108,
     // the text of a game
     GameLine = 201,
     GameRange = 202,
@@ -142,6 +144,15 @@ refusals! {
     DiskFull = 1302,
     /// Another session has the journal open.
     DiskLocked = 1303,
+    // rows that a watcher is shown
+    ShownSession = 1401,
+    ShownNotMine = 1402,
+    /// Rows that come before those that it lacks: they come again.
+    ShownGap = 1403,
+    /// Another row than it has.
+    ShownDiffers = 1404,
+    ShownFull = 1405,
+    ShownAbsent = 1406,
 }
 
 impl fmt::Display for Refusal {

@@ -197,6 +197,24 @@ impl Session {
         done(answer).map(|()| Session { handle })
     }
 
+    /// Opens a watcher's session, 5 or 6, with the rules and the room of the match. Player 1 shows it the confirmed rows once
+    /// [`show_to`](Session::show_to) has named it. Its frame is [`deliver`](Session::deliver), [`turn`](Session::turn),
+    /// [`packets`](Session::packets) and [`step`](Session::step), which gives each row once. [`ticked`](Session::ticked) and
+    /// [`confirmed`](Session::confirmed) are how many rows it has, and it [`is_over`](Session::is_over) once these are all of the
+    /// game. What plays is refused with [`Refusal::Watcher`].
+    ///
+    /// In a match with a secret it has that of the watchers: `secret(watchers, None)`. `begun` is the time in milliseconds since
+    /// 1970: a watcher that starts again needs a later one than before, or player 1 refuses its packets as repeated.
+    ///
+    /// # Errors
+    ///
+    /// `GameLine` to `GameMemory` if the rules spell no game, [`Refusal::NoPlayer`] for another number than 5 or 6,
+    /// [`Refusal::OpenMemory`].
+    pub fn watch(rules: impl AsRef<[u8]>, watcher: u8, room: u64, begun: u64) -> Result<Session, Refusal> {
+        let (answer, handle) = Handle::watch(rules.as_ref(), watcher, room, begun);
+        done(answer).map(|()| Session { handle })
+    }
+
     /// Gives the session the players' secret, and the watchers' own one if the match has watchers. All players of a match
     /// have the same. Call it after an opening and before anything is sent.
     ///
@@ -227,7 +245,7 @@ impl Session {
     ///
     /// Of the packet: [`Refusal::NotSealed`], [`Refusal::SeenBefore`], those from `WireShort` to `WirePairs`, from `NotOpen`
     /// to `OtherSession`, from `Gap` to `InputsFull` and from `BadAck` to `WrongLeaver`, [`Refusal::Desync`],
-    /// [`Refusal::OtherWire`]. Of the session: [`Refusal::DiskFailed`], [`Refusal::DiskFull`], [`Refusal::HeardDown`],
+    /// [`Refusal::OtherWire`]; at a watcher also those from `ShownSession` to `ShownAbsent`. Of the session: [`Refusal::DiskFailed`], [`Refusal::DiskFull`], [`Refusal::HeardDown`],
     /// [`Refusal::HeardDropped`].
     pub fn deliver(&mut self, bytes: &[u8]) -> Result<Heard, Refusal> {
         match self.handle.deliver(bytes) {

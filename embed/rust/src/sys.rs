@@ -75,6 +75,12 @@ impl Handle {
         (why, handle)
     }
 
+    pub fn watch(text: &[u8], watcher: u8, room: u64, begun: u64) -> (u32, Handle) {
+        let handle = Handle::closed();
+        let why = unsafe { c8_watch_open(text.as_ptr(), text.len(), watcher, room, begun, handle.0.get()) };
+        (why, handle)
+    }
+
     pub fn deliver(&mut self, bytes: &[u8]) -> u32 {
         unsafe { c8_deliver(self.0.get(), bytes.as_ptr(), bytes.len()) }
     }

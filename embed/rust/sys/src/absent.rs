@@ -21,6 +21,10 @@ pub unsafe fn c8_replay_open(_: *const u8, _: usize, _: i32, _: *mut c8_session)
     absent()
 }
 
+pub unsafe fn c8_watch_open(_: *const u8, _: usize, _: u8, _: u64, _: u64, _: *mut c8_session) -> u32 {
+    absent()
+}
+
 pub unsafe fn c8_deliver(_: *mut c8_session, _: *const u8, _: usize) -> u32 {
     absent()
 }

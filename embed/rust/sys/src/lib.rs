@@ -61,6 +61,14 @@ extern "C" {
         session: *mut c8_session,
     ) -> u32;
     pub fn c8_replay_open(text: *const u8, length: usize, file: i32, session: *mut c8_session) -> u32;
+    pub fn c8_watch_open(
+        text: *const u8,
+        length: usize,
+        watcher: u8,
+        room: u64,
+        begun: u64,
+        session: *mut c8_session,
+    ) -> u32;
     pub fn c8_close(session: *mut c8_session);
     pub fn c8_deliver(session: *mut c8_session, bytes: *const u8, length: usize) -> u32;
     pub fn c8_tick(session: *mut c8_session, input: u16) -> u32;

@@ -3,17 +3,18 @@ use Rattle.std.proofs.Common.{◌≡◌, ℕ, Some, subst, refl}
 use Rattle.c8_peer.specs.Peer.{IsAnswered}
 use Rattle.c8_peer.specs.State.{Decide, Decided}
 use Rattle.c8_embed.specs.Journal.{disk}
+use Rattle.c8_embed.specs.declared.any.Side.TheVariants as sides
 use Rattle.c8_engine.proofs.calls.c8_decide.Goals as goal
 
-pub returns-clause-decided : goal.returns-clause-decided
-returns-clause-decided c = λ from to plays.
-    let here : c.args.handle.now.value ≡ Some c.session.result.now = search in
-    let same : c.in-Some.leaver.number ≡ c.args.leaver = c.in-Some.ensures.some in
+pub returns-in-Player-clause-decided : goal.returns-in-Player-clause-decided
+returns-in-Player-clause-decided c = λ from to plays.
+    let here : c.args.handle.now.value ≡ Some (sides.Player c.in-Player.player) = search in
+    let same : c.in-Some-new.leaver.number ≡ c.args.leaver = c.in-Some-new.ensures.some in
     rw here (
       (record {
         reply = c.decide.result;
         called = record {
-          answered = subst (λ (n : ℕ). IsAnswered disk c.session.result.now.engine.peer (Decide n) (Decided c.decide.result)
+          answered = subst (λ (n : ℕ). IsAnswered disk c.in-Player.player.engine.peer (Decide n) (Decided c.decide.result)
               c.decide.new.self.peer) same c.decide.ensures.answered;
           steps = c.decide.ensures.steps;
           depth = c.decide.ensures.depth;

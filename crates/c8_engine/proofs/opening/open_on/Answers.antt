@@ -1,7 +1,8 @@
 -- For any text that spells the game the session has the engine that was opened, without rows, test or secret.
 use Rattle.std.proofs.Common.{◌≡◌, ◌∙◌, Some, inl, ap, sym, subst}
 use Rattle.c8_embed.specs.Endpoint.{EngineOf}
-use Rattle.c8_embed.specs.declared.endpoint.Endpoint.{Endpoint}
+use Rattle.c8_embed.specs.Any.{AnyEndpoint}
+use Rattle.c8_embed.specs.declared.any.Side.TheVariants as sides
 use Rattle.c8_embed.specs.Journal.{disk}
 use Rattle.c8_embed.specs.Lead.{IsNewLead}
 use Rattle.c8_embed.specs.News.{AreNoNews}
@@ -12,7 +13,7 @@ pub returns-in-Ok-new-clause-opened : goal.returns-in-Ok-new-clause-opened
 returns-in-Ok-new-clause-opened c = λ done text spells.
     let opened = c.in-Ok.ensures.opened in
     let engine : c.new.result.engine ≡ c.in-Ok.engine = c.new.ensures.engine ∙ c.set_patience.ensures in
-    let session : c.of.result.value ≡ Some c.new.result = c.of.ensures ∙ ap (λ (s : Endpoint). Some s) c.in-Ok-new.ensures.ok in
+    let session : c.of.result.value ≡ Some (sides.Player c.new.result) = c.of.ensures ∙ ap (λ (s : AnyEndpoint). Some s) c.in-Ok-new.ensures.ok in
     rw session (record {
       rules = c.args.game.now;
       game = spells;
