@@ -121,7 +121,6 @@ int main(int count, char **words) {
     must("blocks of two", held, 2 * size);
     must("a watcher over a session", watch_opened(5, &other), 0);
     must("blocks of a watcher", held > size && held < 2 * size, true);
-    refusals(words[1], &third);
     must("a session over a watcher", opened(2, &other), 0);
     must("blocks of two again", held, 2 * size);
     c8_close(&other);
