@@ -1,6 +1,5 @@
 //! Two people, each at a console of their own, who play over the loopback.
 
-use crate::asked::ASKED;
 use crate::console::{Log, Marks, Sent, Written};
 use c8_command::System;
 use c8_game::Player;
@@ -54,11 +53,21 @@ where
         journal,
         local,
         remotes: Some(&[remote]),
+        relay: None,
+        watchers: [None, None],
+        secret: None,
+        watch_secret: None,
+        room: 3,
+        has_room: true,
         turns: 10_000,
+        patience: None,
         stop,
+        checkpoint: 0,
         progress: true,
         says_end: true,
-        ..ASKED
+        is_muted: true,
+        explain: false,
+        notices: &[],
     };
     let mut log = Log::new(rt.alloc());
     let mut ending = Ending::NONE;
