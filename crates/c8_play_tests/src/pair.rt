@@ -4,7 +4,7 @@ use crate::console::{Log, Marks, Sent, Written};
 use c8_command::System;
 use c8_game::Player;
 use c8_net::{Asked, perform};
-use c8_play::{Ending, Live, Tempo};
+use c8_play::{Console, Ending, Live, Tempo};
 use c8_terminal::KeyWords;
 use std::fs;
 use std::net::{Ipv4Addr, SocketAddr, UdpSocket};
@@ -70,17 +70,27 @@ where
         notices: &[],
     };
     let mut log = Log::new(rt.alloc());
+    let (report, refused) = played(rt, &asked, Written::new(rt, sent, &mut log));
+    (report, refused, log.marks)
+}
+
+/// Plays what is asked for at a console. Returns the printed report and the text on standard error.
+fn played<R: System, C: Console + Drop>(
+    rt: &R,
+    asked: &Asked<'_, '_>,
+    console: C,
+) -> (Vec<u8>, Vec<u8>) {
     let mut ending = Ending::NONE;
     let live = Live {
-        console: Written::new(rt, sent, &mut log),
+        console,
         pace: Tempo { rate: 240, hold: 9 },
         keys: KeyWords::none(),
         below: "",
         ending: &mut ending,
     };
     let (mut report, mut refused) = (Vec::new(rt.alloc()), Vec::new(rt.alloc()));
-    let _ended = perform(rt, &asked, live, &mut report, &mut refused);
-    (report, refused, log.marks)
+    let _ended = perform(rt, asked, live, &mut report, &mut refused);
+    (report, refused)
 }
 
 /// The value of a register in a report, in its line `v 00 3f ...`; 0 if there is no such line.
