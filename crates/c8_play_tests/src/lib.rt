@@ -2,7 +2,7 @@
 //! `tools/programs`.
 //!
 //! `console` has consoles with scripted keys, `asked` what a match asks for. `alone` plays a game at a console, `waits` and
-//! `three` matches whose others are absent, `pair` a match of two over the loopback. `rows` has the row below the screen,
+//! `three` matches whose others are absent. `rows` has the row below the screen,
 //! `endings` the words after a match, `friends` what `host` and `join` show and read, `pauses` the sleeps of a peer's threads,
 //! `disks` disks that are too slow. `drawing` has the pictures of a watched match, and `stop` its end after enough frames.
 //! `answers` and `refusals` have lines of refusals. Functions without contracts lend the tables, so that a proof holds for any
@@ -25,8 +25,6 @@ mod drawing;
 mod endings;
 #[cfg(test)]
 mod friends;
-#[cfg(test)]
-mod pair;
 #[cfg(test)]
 mod pauses;
 #[cfg(test)]
