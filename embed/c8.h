@@ -68,6 +68,7 @@ enum {
     C8_THRESHOLD = 401,      /* too far ahead of what is confirmed: tick this input again later */
     C8_END = 402,            /* the last frame was ticked */
     C8_DROPPED = 403,        /* player 1 has dropped this player */
+    C8_WIDE = 406,           /* an input with more bytes than the game's inputs */
     C8_GAP = 701,            /* inputs that came before those that precede them; they come again */
     C8_DIFFERS = 703,        /* another input for a frame than before: a lost journal, or two programs as one player */
     C8_BAD_ACK = 810,        /* it has inputs of this player that its journal has not: see c8_is_lost */
@@ -205,9 +206,10 @@ void c8_memory(void *(*take)(size_t size), void *(*again)(void *at, size_t size)
  * journal was lost: its player cannot play on. Without bytes the pointer may be null. */
 c8_answer c8_deliver(c8_session *, const uint8_t *bytes, size_t length);
 
-/* Enters the own player's next input, 16 bits. The input of tick t, from 0 on, is in row t + delay; the first rows, as
- * many as the delay, are empty. C8_THRESHOLD, C8_END and C8_DROPPED are normal refusals. */
-c8_answer c8_tick(c8_session *, uint16_t input);
+/* Enters the own player's next input, a number of as many bytes as the game's text says: two, or 1 to 8 of its line `input`. The
+ * input of tick t, from 0 on, is in row t + delay; the first rows, as many as the delay, are empty. C8_THRESHOLD, C8_END and
+ * C8_DROPPED are normal refusals. */
+c8_answer c8_tick(c8_session *, uint64_t input);
 
 /* Begins a turn: player 1 drops silent players and cuts their inputs, a journal gets a part of its checkpoint (one every
  * 3,600 frames), and c8_next gives the turn's datagrams. Call it once a frame, also when the tick was refused, and while
@@ -257,7 +259,7 @@ bool c8_is_lost(c8_session *);
  * An engine goes back to its state before frame `from`, runs its machine on the rows, and keeps the state before each
  * frame. The next `from` is at least c8_confirmed as it is now, or as many rows as were given if these are fewer: older
  * states may go, and window + 1 states suffice. After an opening `from` is 0, also over a journal with frames in it. */
-uint32_t c8_step(c8_session *, uint32_t *from, uint16_t *rows, size_t words);
+uint32_t c8_step(c8_session *, uint32_t *from, uint64_t *rows, size_t words);
 
 /* Writes for each of the four players what its input in the best row of a frame is: C8_PREDICTED, C8_HELD or C8_EMPTY. A
  * player that the game has not is C8_PREDICTED. A machine that treats a dropped player otherwise than one with an input of
@@ -271,11 +273,13 @@ c8_answer c8_status(c8_session *, uint32_t frame, uint8_t out[C8_ROW]);
 c8_answer c8_check(c8_session *, uint32_t depth);
 
 /* Writes the text of a game for an engine with a machine of its own: 2 to 4 players, 1 to 262,144 frames, an input delay
- * of 0 to 4 frames, and a window of 1 to 12 frames: so far c8_ticked may be ahead of c8_confirmed. `id` is the engine's:
- * its version, its level; players with different ids do not meet. Returns the length; 0 for more than 4 players, or if
- * the text does not fit (C8_RULES bytes suffice). Openings refuse the text if another number is out of its range (202). */
-uint32_t c8_rules(uint8_t players, uint32_t frames, uint8_t delay, uint8_t window, const uint8_t id[32], uint8_t *out,
-                  size_t length);
+ * of 0 to 4 frames, and a window of 1 to 12 frames: so far c8_ticked may be ahead of c8_confirmed. Inputs have `width` bytes,
+ * 1 to 8, in version 3 of the datagrams; with a width of 0 they have two, in version 1, as before this library knew widths. `id`
+ * is the engine's: its version, its level; players with different ids do not meet. Returns the length; 0 for more than 4
+ * players, for more than 8 bytes, or if the text does not fit (C8_RULES bytes suffice). Openings refuse the text if another
+ * number is out of its range (202). */
+uint32_t c8_rules(uint8_t players, uint32_t frames, uint8_t delay, uint8_t window, uint8_t width, const uint8_t id[32],
+                  uint8_t *out, size_t length);
 
 /* ---- what a session knows */
 

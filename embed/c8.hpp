@@ -22,7 +22,7 @@ namespace c8 {
 
 using Bytes = std::span<const std::uint8_t>;
 using Secret = std::span<const std::uint8_t, 32>;
-using Row = std::array<std::uint16_t, C8_ROW>;
+using Row = std::array<std::uint64_t, C8_ROW>;
 
 // The version of the library that runs, as C8_VERSION.
 inline std::string version() {
@@ -47,12 +47,14 @@ public:
 // The answer of a call, if it is no refusal.
 inline c8_answer done(c8_answer answer) { return answer < C8_CLOSED ? answer : throw Refusal(answer); }
 
-// The text of a game for an engine with a machine of its own; empty if there is none. An id has at most 32 bytes.
-inline std::string rules(std::uint8_t players, std::uint32_t frames, std::uint8_t delay, std::uint8_t window, std::string_view id) {
+// The text of a game for an engine with a machine of its own; empty if there is none. An id has at most 32 bytes, an input `width`, 1 to
+// 8; with a width of 0 an input has two, and datagrams have version 1.
+inline std::string rules(std::uint8_t players, std::uint32_t frames, std::uint8_t delay, std::uint8_t window, std::string_view id, std::uint8_t width = 0) {
     std::array<std::uint8_t, 32> padded{};
     std::array<std::uint8_t, C8_RULES> text;
     id.copy(reinterpret_cast<char *>(padded.data()), padded.size());
-    return {reinterpret_cast<const char *>(text.data()), c8_rules(players, frames, delay, window, padded.data(), text.data(), text.size())};
+    return {reinterpret_cast<const char *>(text.data()),
+            c8_rules(players, frames, delay, window, width, padded.data(), text.data(), text.size())};
 }
 
 // The file of a journal and its folder, as c8_open_journal takes them.
@@ -113,7 +115,7 @@ public:
     // ---- a frame
 
     c8_answer deliver(Bytes packet) { return c8_deliver(&handle, packet.data(), packet.size()); }
-    c8_answer tick(std::uint16_t input) { return c8_tick(&handle, input); }
+    c8_answer tick(std::uint64_t input) { return c8_tick(&handle, input); }
     void turn() { done(c8_turn(&handle)); }
     // How many ticks to leave out in this frame: once a frame, before the tick.
     std::uint32_t wait() { return c8_wait(&handle); }

@@ -31,7 +31,7 @@ int main(int count, char **words) {
     c8_session one = {0}, other = {0};
     uint8_t mark[8];
     if (count != 2) return 2;
-    length = c8_rules(2, 1000, 1, 8, id, text, sizeof text);
+    length = c8_rules(2, 1000, 1, 8, 0, id, text, sizeof text);
     must("opened", opened(words[1], &one), 0);
     must("epoch", c8_epoch(&one), 1);
     must("opened twice", opened(words[1], &other), C8_LOCKED);

@@ -75,8 +75,8 @@ static void hit(ship *shooter, ship *other) {
     other->x = wrap(other->x + WIDTH / 2, WIDTH);
 }
 
-static state step(state s, const uint16_t row[4]) {
-    for (int i = 0; i < 2; i++) fly(&s.ships[i], row[i]);
+static state step(state s, const uint64_t row[4]) {
+    for (int i = 0; i < 2; i++) fly(&s.ships[i], (uint16_t)row[i]);
     for (int i = 0; i < 2; i++) hit(&s.ships[i], &s.ships[1 - i]);
     return s;
 }
@@ -100,7 +100,7 @@ enum { DELAY = 2, WINDOW = 12, RING = 16 };
 static state states[RING];
 
 static void run(c8_session *session) {
-    uint16_t rows[4 * RING];
+    uint64_t rows[4 * RING];
     uint32_t from, count;
     do {
         count = c8_step(session, &from, rows, 4 * RING);
@@ -273,7 +273,7 @@ static void open_session(const options *o, c8_session *session) {
     static const uint8_t id[32] = "two ships 1";
     enum { PATIENCE = 600 }; /* ten seconds without a datagram */
     uint8_t text[C8_RULES];
-    uint32_t length = c8_rules(2, o->frames, DELAY, WINDOW, id, text, sizeof text);
+    uint32_t length = c8_rules(2, o->frames, DELAY, WINDOW, 0, id, text, sizeof text);
     uint32_t patience = o->is_scripted ? 0 : PATIENCE;
     uint32_t why = o->journal ? open_with_journal(o, text, length, patience, session)
                               : c8_open(text, length, o->me, ROOM, patience, session);

@@ -93,7 +93,7 @@ int main(int count, char **words) {
     static const uint8_t id[32] = "memory 1";
     c8_session one = {0}, other = {0}, third = {0};
     if (count != 2) return 2;
-    length = c8_rules(2, FRAMES, 1, 8, id, text, sizeof text);
+    length = c8_rules(2, FRAMES, 1, 8, 0, id, text, sizeof text);
     c8_memory(take, again, give);
     must("opened", journal_opened(words[1], 1, 7, &one), 0);
     int64_t size = held;

@@ -24,7 +24,7 @@ export const DATAGRAM = 174, PACKET = 198, PICTURE = 256, STATE = 4419, RULES = 
 
 /** Answers that a program may test for. */
 export const CLOSED = 101, NOT_SEALED = 103, SEEN_BEFORE = 104, BAD_SECRET = 105, SEALED_ALREADY = 106, REPLAY = 107,
-  THRESHOLD = 401, END = 402, DROPPED = 403, DESYNC = 814, DISK = 1301, FULL = 1302, LOCKED = 1303;
+  THRESHOLD = 401, END = 402, DROPPED = 403, WIDE = 406, DESYNC = 814, DISK = 1301, FULL = 1302, LOCKED = 1303;
 
 /** The kinds of `say`. */
 export const HELLO = 0, WELCOME = 1, DATA = 2, FREEZE = 3, FROZEN = 4, CUT = 5;
@@ -202,10 +202,11 @@ export class C8 {
    * @param {number} delay
    * @param {number} window
    * @param {Uint8Array} id of 32 bytes
+   * @param {number} [width] how many bytes an input has, 1 to 8; with 0 it has two, and datagrams have version 1
    */
-  rules(players, frames, delay, window, id) {
+  rules(players, frames, delay, window, id, width = 0) {
     const at = this.output;
-    return this.copy(OUTPUT, this.exports.c8_rules(players, frames, delay, window, this.put(id), at, BigInt(RULES)));
+    return this.copy(OUTPUT, this.exports.c8_rules(players, frames, delay, window, width, this.put(id), at, BigInt(RULES)));
   }
 
   /** The version of the module, as `VERSION`. */
@@ -321,10 +322,10 @@ export class Session {
   }
 
   /** Enters the own player's next input.
-   * @param {number} input 16 bits
+   * @param {number | bigint} input of as many bytes as the game's text says
    */
   tick(input) {
-    return this.#calls.c8_tick(this.#at, input);
+    return this.#calls.c8_tick(this.#at, BigInt(input));
   }
 
   turn() {
@@ -403,14 +404,14 @@ export class Session {
 
   // ---- any machine
 
-  /** The rows that changed: the first frame, and four words a row.
+  /** The rows that changed: the first frame, and four words a row, as numbers, which are exact below 2 ** 53, and as 64 bits each.
    * @param {number} [most] how many rows at most
    */
   step(most = ROWS) {
-    const c8 = this.#c8, room = Math.min(most, 512) * ROW;
+    const c8 = this.#c8, room = Math.min(most, 128) * ROW;
     const count = this.#calls.c8_step(this.#at, BigInt(c8.block + SMALL), c8.output, BigInt(room));
-    const bytes = c8.copy(OUTPUT, count * ROW * 2);
-    return { from: c8.words.getUint32(SMALL, true), rows: new Uint16Array(bytes.buffer) };
+    const words = new BigUint64Array(c8.copy(OUTPUT, count * ROW * 8).buffer);
+    return { from: c8.words.getUint32(SMALL, true), rows: Float64Array.from(words, Number), words };
   }
 
   /** @param {number} depth frames; 0 ends the test */

@@ -44,7 +44,7 @@ static int32_t within(int32_t place, int32_t size) { return place < 0 ? 0 : plac
 /* From which frame on a player is gone: then its inputs have ended. */
 static uint32_t ends[PLAYERS] = {C8_UNCUT, C8_UNCUT, C8_UNCUT};
 
-static state step(state s, const uint16_t row[C8_ROW], uint32_t frame) {
+static state step(state s, const uint64_t row[C8_ROW], uint32_t frame) {
     for (int i = 0; i < PLAYERS; i++) {
         walker *it = &s.walkers[i];
         if (frame >= ends[i]) {
@@ -74,7 +74,7 @@ static uint64_t hash(const state *s) {
 
 static struct {
     state states[RING];
-    uint16_t rows[RING][C8_ROW];
+    uint64_t rows[RING][C8_ROW];
     uint32_t run;                              /* frames that the machine has run */
     uint32_t again;                            /* the frame to go back to, as somebody has left there; C8_UNCUT for none */
     uint32_t wrong;                            /* a test: the state after this frame is spoilt */
@@ -92,7 +92,7 @@ static void run_frame(uint32_t frame) {
 /* Runs what a step gives. If a player is gone since a frame before that, it goes back there by itself: where the last input
  * was 0 no row has changed. */
 static void run(c8_session *session) {
-    uint16_t rows[C8_ROWS][C8_ROW];
+    uint64_t rows[C8_ROWS][C8_ROW];
     uint32_t from, count;
     do {
         count = c8_step(session, &from, rows[0], C8_ROWS * C8_ROW);
@@ -281,7 +281,7 @@ static void open_session(const options *o, c8_session *session) {
     static const uint8_t id[32] = "lanterns 1";
     uint8_t text[C8_RULES];
     int32_t file, folder;
-    uint32_t length = c8_rules(PLAYERS, o->frames, DELAY, WINDOW, id, text, sizeof text);
+    uint32_t length = c8_rules(PLAYERS, o->frames, DELAY, WINDOW, 0, id, text, sizeof text);
     c8_answer why;
     if (!o->me) {
         if (c8_journal_read(o->journal, &file)) perror(o->journal), exit(1);

@@ -35,8 +35,8 @@ names_same rules files a b x y at =
     let body : x.head.0 ≡ y.head.0 = some_same x.head.0 y.head.0
     (sym x.head.2 ∙ ap (λ (f : Twice). slice_get (kept (first_bytes f)) 0) file ∙ y.head.2) in
     head_same a.player.number b.player.number x.head.1 y.head.1 (id_of rules) a.room b.room
-    (sym (reads_back x.head.0 (Head a.player.number x.head.1 (id_of rules) a.room) x.head.3) ∙ ap record_of body
-    ∙ reads_back y.head.0 (Head b.player.number y.head.1 (id_of rules) b.room) y.head.3)
+    (sym (reads_back rules.width x.head.0 (Head a.player.number x.head.1 (id_of rules) a.room) x.head.3) ∙ ap (record_of rules.width) body
+    ∙ reads_back rules.width y.head.0 (Head b.player.number y.head.1 (id_of rules) b.room) y.head.3)
 
 -- a file without a record names nobody
 pub names_nothing : (rules : Rules) (files : List Twice) (file : Twice) (n : Named) → slice_get files n.place ≡ Some file

@@ -52,9 +52,10 @@ file_at : (f : Twice → List ℕ) (files : List Twice) (i : ℕ) (file : Twice)
 file_at f files i file at = slice_get-map f files i ∙ ap (option_map f) at
 
 evidence_next : (rules : Rules) (files : List Twice) (place : ℕ) (file : Twice) (journals : List (Option Journal)) → slice_get files place ≡ Some file
-    → IsGathered rules (with_file (evidence_in (take place (map first_bytes files)) (take place (map later_bytes files))) (first_bytes file)
+    → IsGathered rules (with_file rules.width (evidence_in rules.width (take place (map first_bytes files)) (take place (map later_bytes files)))
+    (first_bytes file)
     (later_bytes file)) journals
-    → IsGathered rules (evidence_in (take (place + 1) (map first_bytes files)) (take (place + 1) (map later_bytes files))) journals
+    → IsGathered rules (evidence_in rules.width (take (place + 1) (map first_bytes files)) (take (place + 1) (map later_bytes files))) journals
 evidence_next rules files place file journals at is =
     gathered_next rules (map first_bytes files) (map later_bytes files) place (first_bytes file) (later_bytes file) journals
     (file_at first_bytes files place file at) (file_at later_bytes files place file at)
@@ -71,7 +72,7 @@ sorted_skip rules files place file g empty at none few counts is =
     let at_most : g.empty ≤ place = let so = is.empty in omega (arith, so, count_few files place) in
     record {
       gathered = evidence_next rules files place file g.journals at
-          (nobody_in rules (evidence_in (take place (map first_bytes files)) (take place (map later_bytes files))) (first_bytes file)
+          (nobody_in rules (evidence_in rules.width (take place (map first_bytes files)) (take place (map later_bytes files))) (first_bytes file)
           (later_bytes file) g.journals none is.gathered);
       sound = sound_next rules files place file is.sound at (inl empty_it);
       empty = counts (omega (arith, at_most, within, few)) ∙ ap (λ (n : ℕ). n + 1) is.empty ∙ sym (count_yes files place file at empty_it);
@@ -82,10 +83,10 @@ sorted_skip rules files place file g empty at none few counts is =
 -- a file with a journal
 pub sorted_next : (rules : Rules) (files : List Twice) (place : ℕ) (file : Twice) (g : Gathered) (after : List (Option Journal))
     (j : Journal) → slice_get files place ≡ Some file → length (kept (first_bytes file)) ≢ 0
-    → IsReadTwice rules j.named.room j.first.me (readings_of (first_bytes file) (later_bytes file))
-    → seen j ≡ seen_of rules j.first.me (readings_of (first_bytes file) (later_bytes file))
-    → names_player j.first.me (records_of (kept (first_bytes file))) ≡ true
-    → BeginsWithHead (kept (first_bytes file)) j.named.player.number (id_of rules) j.named.room → j.named.place ≡ place
+    → IsReadTwice rules j.named.room j.first.me (readings_of rules.width (first_bytes file) (later_bytes file))
+    → seen j ≡ seen_of rules j.first.me (readings_of rules.width (first_bytes file) (later_bytes file))
+    → names_player j.first.me (records_of rules.width (kept (first_bytes file))) ≡ true
+    → BeginsWithHead rules.width (kept (first_bytes file)) j.named.player.number (id_of rules) j.named.room → j.named.place ≡ place
     → j.named.player.number ≡ j.first.me
     → IsPut g.journals after j → IsSorted rules files place g
     → IsSorted rules files (place + 1)
@@ -103,7 +104,7 @@ sorted_next rules files place file g after j at some read same names head here m
     subst (λ (n : ℕ). IsRoster rules files n g.journals g.first g.mismatch) (sym here) is.roster in
     record {
       gathered = evidence_next rules files place file after at
-          (one_in rules (evidence_in (take place (map first_bytes files)) (take place (map later_bytes files))) (first_bytes file)
+          (one_in rules (evidence_in rules.width (take place (map first_bytes files)) (take place (map later_bytes files))) (first_bytes file)
           (later_bytes file) g.journals after j j.named.room is.gathered read same names put.seen);
       sound = sound_next rules files place file is.sound at (inr (j.named.room, j.first.me, read));
       empty = is.empty ∙ sym (count_no files place file at keeps_it);
@@ -140,16 +141,16 @@ sorted_none rules files = record {
 
 module _ (rules : Rules) (files : List Twice) (g : Gathered) (is : IsSorted rules files (length files) g) where
   pub all_gathered : rules.players ≤ 4 → (one : Named) → all_named g.journals 1 ≡ Some one
-      → AreGathered rules (evidence_in (map first_bytes files) (map later_bytes files)) g.journals
+      → AreGathered rules (evidence_in rules.width (map first_bytes files) (map later_bytes files)) g.journals
   all_gathered four one at =
       let firsts : List (List ℕ) = map first_bytes files in
       let laters : List (List ℕ) = map later_bytes files in
       let all : take (length files) firsts ≡ firsts = take_all (length files) firsts (omega (arith, length-map files first_bytes)) in
       let others : take (length files) laters ≡ laters = take_all (length files) laters (omega (arith, length-map files later_bytes)) in
       let here = seen_at_seat (slice_get g.journals 0) one at in
-      gathered_all rules (evidence_in firsts laters) g.journals four
-      (subst (λ (xs : List (List ℕ)). IsGathered rules (evidence_in xs laters) g.journals) all
-      (subst (λ (ys : List (List ℕ)). IsGathered rules (evidence_in (take (length files) firsts) ys) g.journals) others is.gathered))
+      gathered_all rules (evidence_in rules.width firsts laters) g.journals four
+      (subst (λ (xs : List (List ℕ)). IsGathered rules (evidence_in rules.width xs laters) g.journals) all
+      (subst (λ (ys : List (List ℕ)). IsGathered rules (evidence_in rules.width (take (length files) firsts) ys) g.journals) others is.gathered))
       (seen here.0) here.1
 
   pub all_one_match : g.mismatch ≡ None → (one : Named) → all_named g.journals 1 ≡ Some one → AreOneMatch rules files

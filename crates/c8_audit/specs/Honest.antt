@@ -47,8 +47,8 @@ pub record IsFileOf (rules : Rules) (room : ℕ) (between : World) (p : ℕ) (fi
   pub plays : IsPlayer rules p
   pub readings : Readings
   pub read : WasReadTwice rules room between p readings
-  pub first_is : kept (first_bytes file) ≡ map body_of readings.first
-  pub later_is : kept (later_bytes file) ≡ map body_of readings.later
+  pub first_is : kept (first_bytes file) ≡ map (body_of rules.width) readings.first
+  pub later_is : kept (later_bytes file) ≡ map (body_of rules.width) readings.later
 
 -- The files are those of peers of one match, one file a player. Player 1's is among them, and keeps a record.
 pub record AreHonestFiles (rules : Rules) (room : ℕ) (files : List Twice) : Type 0 where
@@ -109,8 +109,8 @@ pub record AreBeginnings (rules : Rules) (room : ℕ) (e : Evidence) : Type 0 wh
 pub record IsCopyOf (rules : Rules) (room : ℕ) (last : World) (p : ℕ) (file : Twice) : Type 0 where
   pub readings : Readings
   pub read : WereRead rules room last p readings
-  pub first_is : kept (first_bytes file) ≡ map body_of readings.first
-  pub later_is : kept (later_bytes file) ≡ map body_of readings.later
+  pub first_is : kept (first_bytes file) ≡ map (body_of rules.width) readings.first
+  pub later_is : kept (later_bytes file) ≡ map (body_of rules.width) readings.later
 
 -- The files are those of peers of one match, one file a player, each read at its own moments. Player 1's is among them, and
 -- keeps a record.

@@ -14,7 +14,7 @@ use Rattle.c8_audit.specs.declared.journal.Named.{Named}
 pub record Names (rules : Rules) (files : List Twice) (named : Named) : Type 0 where
   pub file : Twice
   pub file_is : slice_get files named.place ≡ Some file
-  pub head : BeginsWithHead (kept (first_bytes file)) named.player.number (id_of rules) named.room
+  pub head : BeginsWithHead rules.width (kept (first_bytes file)) named.player.number (id_of rules) named.room
 
 -- Why the files do not keep the journals of one match: two name one player, two name different rooms, or none names
 -- player 1. Of two files the earlier one comes first.
@@ -29,7 +29,8 @@ keeps_nothing file = length (kept (first_bytes file)) == 0
 
 -- the file is not at fault: it keeps no record, or was read twice
 abbrev pub IsSound : Rules → Twice → Type 0
-IsSound rules file = (keeps_nothing file ≡ true) ⊎ ((room p : ℕ) × IsReadTwice rules room p (readings_of (first_bytes file) (later_bytes file)))
+IsSound rules file = (keeps_nothing file ≡ true) ⊎ ((room p : ℕ) × IsReadTwice rules room p (readings_of rules.width (first_bytes file)
+    (later_bytes file)))
 
 -- none of the first files is at fault
 abbrev pub AreSoundBelow : Rules → List Twice → ℕ → Type 0

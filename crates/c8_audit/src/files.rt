@@ -53,7 +53,7 @@ pub struct Gathered {
 /// different rooms, or if player 1's is missing. It names the first file that does not belong to an earlier one.
 pub fn gather(alloc: Global, game: &Game, files: &[Twice]) -> Result<Gathered, GatherError>
     ensures gathered { IfOk result (λ gathered. AreGathered game.now
-        (evidence_of files.now) gathered.journals) }
+        (evidence_of game.now.width files.now) gathered.journals) }
     ensures one_match { IfOk result (λ gathered. AreOneMatch game.now files.now) }
     ensures empty { IfOk result (λ gathered. gathered.empty ≡ count_by keeps_nothing files.now) }
     ensures refused { IfErr result (λ error. IsNotGathered game.now files.now error) }

@@ -9,7 +9,7 @@ ghost use Rattle.c8_record.specs.Seen.{value_of};
 ghost use Rattle.c8_audit.specs.Journal.{IsAsked, IsAnother, IsKept, IsJournalOf, IsRefusalOfJournal};
 
 use crate::error::{JournalError, Unfit};
-use c8_game::{Game, Player};
+use c8_game::{Game, Player, Width};
 use c8_known::Known;
 use c8_log::{kept_body, kept_len};
 use c8_record::{Checks, Record, ReplayError, replay_bytes, view};
@@ -82,7 +82,10 @@ pub fn journal_in(
             known,
             checks,
         }),
-        Err(ReplayError::BadRecord(n)) => Err(JournalError::BadRecord(n, why_unfit(image, n))),
+        Err(ReplayError::BadRecord(n)) => Err(JournalError::BadRecord(
+            n,
+            why_unfit(image, n, game.width()),
+        )),
         Err(ReplayError::WrongGame) => unreachable!(),
         Err(ReplayError::WrongPlayer) => unreachable!(),
         Err(ReplayError::Disk(_)) => unreachable!(),
@@ -92,14 +95,14 @@ pub fn journal_in(
 /// Reads the HEAD of a journal of the game, and of `room` if that is a number.
 fn head_of(game: &Game, asked: Option<u64>, image: &[u8]) -> Result<Head, JournalError>
     ensures { MatchResult result
-        (λ head. BeginsWithHead (kept image.now) head.player.number (id_of game.now) head.room
+        (λ head. BeginsWithHead game.now.width (kept image.now) head.player.number (id_of game.now) head.room
         × IsAsked asked head.room)
         (IsRefusalOfJournal game.now asked (kept image.now)) }
 {
     if kept_len(image) == 0 {
         return Err(JournalError::BadRecord(0, Unfit::Nothing));
     }
-    let Some(record) = view(kept_body(image, 0)) else {
+    let Some(record) = view(kept_body(image, 0), game.width()) else {
         return Err(JournalError::BadRecord(0, Unfit::NoRecord));
     };
     let Record::Head {
@@ -128,10 +131,10 @@ fn is_another(asked: Option<u64>, room: u64) -> bool
 }
 
 /// Returns why a record after the first is refused.
-fn why_unfit(image: &[u8], n: usize) -> Unfit
+fn why_unfit(image: &[u8], n: usize, width: Width) -> Unfit
     requires { n < length (kept image.now) }
 {
-    match view(kept_body(image, n)) {
+    match view(kept_body(image, n), width) {
         Some(_) => Unfit::Misplaced,
         None => Unfit::NoRecord,
     }

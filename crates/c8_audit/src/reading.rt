@@ -29,13 +29,13 @@ pub(crate) fn read_twice(
     file: &Twice,
 ) -> Result<Journal, Unread>
     ensures read { IfOk result (λ journal. IsReadTwice game.now journal.named.room
-        journal.first.me (readings_of (first_bytes file.now) (later_bytes file.now))) }
+        journal.first.me (readings_of game.now.width (first_bytes file.now) (later_bytes file.now))) }
     ensures seen { IfOk result (λ journal. seen journal
         ≡ seen_of game.now journal.first.me
-        (readings_of (first_bytes file.now) (later_bytes file.now))) }
+        (readings_of game.now.width (first_bytes file.now) (later_bytes file.now))) }
     ensures named { IfOk result (λ journal. names_player journal.first.me
-        (readings_of (first_bytes file.now) (later_bytes file.now)).first ≡ true) }
-    ensures head { IfOk result (λ journal. BeginsWithHead (kept (first_bytes file.now))
+        (readings_of game.now.width (first_bytes file.now) (later_bytes file.now)).first ≡ true) }
+    ensures head { IfOk result (λ journal. BeginsWithHead game.now.width (kept (first_bytes file.now))
         journal.named.player.number (id_of game.now) journal.named.room) }
     ensures place { IfOk result (λ journal. journal.named.place ≡ place) }
     ensures player { IfOk result (λ journal. journal.named.player.number ≡ journal.first.me) }

@@ -19,7 +19,7 @@ use crate::news::News;
 use crate::patience::{Clock, End, Patience};
 use crate::steps::{Stepped, Steps};
 use c8_disk::{Disk, DiskError};
-use c8_game::{Game, Keys, Player};
+use c8_game::{Game, Input, Player};
 use c8_peer::laws::deliveries_are_calls;
 use c8_peer::{
     Check, CheckError, DecideError, Heard, LeaveError, OpenError, Peer, Refused, TickError,
@@ -141,9 +141,9 @@ impl<'g, D: Disk> Engine<'g, D> {
         is_over(&self.session, &self.end)
     }
 
-    /// Enters the own player's next key set, as [`Peer::tick`] does.
-    pub fn tick(&mut self, keys: Keys) -> Result<(), TickError>
-        ensures answered { IsAnswered D.Disk self.old.peer (Tick keys.0) (Ticked result) self.new.peer }
+    /// Enters the own player's next input, as [`Peer::tick`] does.
+    pub fn tick(&mut self, input: Input) -> Result<(), TickError>
+        ensures answered { IsAnswered D.Disk self.old.peer (Tick input) (Ticked result) self.new.peer }
         ensures steps { self.new.steps ≡ self.old.steps }
         ensures depth { self.new.depth ≡ self.old.depth }
         ensures lead { self.new.lead ≡ self.old.lead }
@@ -153,7 +153,7 @@ impl<'g, D: Disk> Engine<'g, D> {
         what_was_given_stays::<D>();
         self.session.is_sound();
         self.is_told = false;
-        let answer = self.session.tick(keys);
+        let answer = self.session.tick(input);
         self.news
             .look(&self.session, is_over(&self.session, &self.end));
         answer

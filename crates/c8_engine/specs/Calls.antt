@@ -1,12 +1,11 @@
 -- What the calls of a handle do to its session.
-use Rattle.std.specs.Prelude.{ℕ, ◌≡◌, ◌≢◌, ◌⊎◌, ◌/◌, min, Bool, true, false, List, [], ◌∷◌, ◌++◌, length, map, Option, None, Some, Result, Err}
+use Rattle.std.specs.Prelude.{ℕ, ◌≡◌, ◌≢◌, ◌⊎◌, ◌/◌, min, Bool, true, false, List, [], ◌∷◌, ◌++◌, length, Option, None, Some, Result, Err}
 use Rattle.std.specs.Prelude.{IfOk, IfErr, nat_lt, if◌then◌else◌}
 use Rattle.c8_disk.specs.declared.error.DiskError.{DiskError}
 use Rattle.c8_disk.specs.File.{file_bytes}
 use Rattle.c8_disk.specs.declared.file.FileDisk.{FileDisk}
 use Rattle.c8_game.specs.Rules.{Rules, session_of}
 use Rattle.c8_game.specs.GameText.{Spells}
-use Rattle.c8_game.specs.declared.row.Keys.{Keys}
 use Rattle.c8_game.specs.declared.row.Row.{Row}
 use Rattle.c8_peer.specs.declared.check.Check.{Check}
 use Rattle.c8_peer.specs.declared.heard.Heard.{Heard}
@@ -92,9 +91,9 @@ IsReplayWith text session =
     (player : ℕ) × (room : ℕ) × (kept : FileDisk Medium) × NamesHead (file_bytes kept) player room
     × IsOpenOver text player room kept true session
 
-pub record HasTicked (old new : EngineOf) (keys code : ℕ) : Type 0 where
+pub record HasTicked (old new : EngineOf) (input code : ℕ) : Type 0 where
   pub reply : Result (Unit {0}) TickError
-  pub called : HasCalled old new (Tick keys) (Ticked reply)
+  pub called : HasCalled old new (Tick input) (Ticked reply)
   pub code_is : code ≡ tick_code reply
 
 pub record HasHeard (old : Endpoint) (bytes : List ℕ) (code : ℕ) (new : Endpoint) : Type 0 where
@@ -228,7 +227,7 @@ HasSecrets e players watchers code f =
 -- ---- rows as C reads them: four words each
 
 abbrev pub words_of_row : Row → List ℕ
-words_of_row row = map (λ (keys : Keys). keys.0) row.sets
+words_of_row row = row.inputs
 
 abbrev pub words_of : List Row → List ℕ
 words_of [] = []

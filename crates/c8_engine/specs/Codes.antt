@@ -80,6 +80,7 @@ tick_code (Err ticks.End) = 402
 tick_code (Err ticks.Dropped) = 403
 tick_code (Err (ticks.Disk why)) = disk_code why
 tick_code (Err ticks.Down) = 405
+tick_code (Err ticks.Wide) = 406
 
 -- 1 for a datagram that adds a record, and 2 for the one that tells the player that it was dropped
 abbrev pub heard_code : Result Heard Refused → ℕ

@@ -10,15 +10,15 @@ use crate::codes::{
 };
 use crate::handle::Handle;
 use c8_embed::Patience;
-use c8_game::{Keys, Player};
+use c8_game::{Input, Player};
 use c8_wire::Watcher;
 
-/// Enters the own player's next key set.
+/// Enters the own player's next input, which has no more bytes than the game's inputs.
 #[unsafe(no_mangle)]
-pub extern "C" fn c8_tick(handle: &mut Handle, keys: u16) -> u32
+pub extern "C" fn c8_tick(handle: &mut Handle, input: u64) -> u32
     ensures closed { handle.old.value ≡ None → (result ≡ closed_code) × (handle.new ≡ handle.old) }
     ensures replayed { replays handle.old.value ≡ true → (result ≡ replay_code) × (handle.new ≡ handle.old) }
-    ensures ticked { IfPlays handle.old.value handle.new.value (λ e f. HasTicked e f keys result) }
+    ensures ticked { IfPlays handle.old.value handle.new.value (λ e f. HasTicked e f input result) }
 {
     if !handle.is_open() {
         return closed_code();
@@ -26,7 +26,7 @@ pub extern "C" fn c8_tick(handle: &mut Handle, keys: u16) -> u32
     if handle.is_replay() {
         return replay_code();
     }
-    tick_code(handle.session().engine.tick(Keys(keys)))
+    tick_code(handle.session().engine.tick(Input(input)))
 }
 
 /// Processes received bytes, of any length: a datagram, or with a secret a sealed packet.

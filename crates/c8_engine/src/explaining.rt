@@ -121,7 +121,8 @@ fn tick(number: u8, text: &mut Text) -> fmt::Result {
         TickError::Threshold,
         TickError::End,
         TickError::Dropped,
-        TickError::Down
+        TickError::Down,
+        TickError::Wide
     )
 }
 

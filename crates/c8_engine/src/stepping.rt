@@ -7,13 +7,13 @@ ghost use Rattle.c8_engine.specs.Calls.{IfOpen, words_of_row, words_of, rows_in}
 use crate::handle::Handle;
 use c8_game::Row;
 
-/// How many words a row has: a key set of each of four players.
+/// How many words a row has: an input of each of four players.
 const WORDS: usize = 4;
 
 /// Gives the best rows from the first frame on whose best row the engine was not given: writes the frame to `from`, and at
 /// most a fourth as many rows as `rows` has words to its front. Returns how many; 0 at a closed handle.
 #[unsafe(no_mangle)]
-pub extern "C" fn c8_step(handle: &mut Handle, from: &mut u32, rows: &mut [u16]) -> u32
+pub extern "C" fn c8_step(handle: &mut Handle, from: &mut u32, rows: &mut [u64]) -> u32
     ensures closed { handle.old.value ≡ None → (result ≡ 0) × (handle.new ≡ handle.old) }
     ensures kept { IfOpen handle.old.value handle.new.value (λ e f. (f.peer ≡ e.peer)
         × (f.depth ≡ e.depth) × (f.news ≡ e.news) × (f.lead ≡ e.lead) × (f.left ≡ e.left)) }
@@ -35,7 +35,7 @@ pub extern "C" fn c8_step(handle: &mut Handle, from: &mut u32, rows: &mut [u16])
 }
 
 /// Writes rows to the front of `words`.
-fn write_rows(rows: &[Row], words: &mut [u16])
+fn write_rows(rows: &[Row], words: &mut [u64])
     requires { 4 * length rows.now ≤ length words.old }
     ensures { words.new ≡ words_of rows.now ++ drop (4 * length rows.now) words.old }
 {
@@ -45,11 +45,11 @@ fn write_rows(rows: &[Row], words: &mut [u16])
     }
 }
 
-/// The key sets of a row as words.
-fn words_of_row(row: &Row) -> [u16; WORDS]
+/// The inputs of a row as words.
+fn words_of_row(row: &Row) -> [u64; WORDS]
     ensures value { result ≡ words_of_row row.now }
     ensures four { length (words_of_row row.now) ≡ 4 }
 {
-    let [one, two, three, four] = row.sets;
+    let [one, two, three, four] = row.inputs;
     [one.0, two.0, three.0, four.0]
 }

@@ -12,7 +12,7 @@ use Rattle.std.proofs.lemmas.List.Sums.{sum_by-append, count_by-le-length}
 use Rattle.std.proofs.lemmas.Option.{slice_get_within, get_or_from_slice_get}
 use Rattle.c8_journals.specs.declared.summary.Summary.{Summary}
 use Rattle.c8_journals.specs.Counted.{Counts, IsSummedTo, form_after}
-use Rattle.c8_journals.specs.Summary.{IsSummed, Sums, forms, forms_of, tells_drop, was_dropped}
+use Rattle.c8_journals.specs.Summary.{read_width, IsSummed, Sums, forms, forms_of, tells_drop, was_dropped}
 use Rattle.c8_known.specs.Journal.{Record, Head, Epoch, Own, Got, Freeze, Leave, Cut, State, Check}
 use Rattle.c8_known.specs.Journal.{is_own, epochs, epochs_of, ticks}
 use Rattle.c8_record.specs.Body.{Spells, record_of, records_of}
@@ -70,29 +70,31 @@ sums_more records r old new c sums = record {
 }
 
 pub summed_more : (bodies : List (List ℕ)) (n : ℕ) (body : List ℕ) (r : Record) (old new : Summary) → IsSummedTo bodies n old
-    → slice_get bodies n ≡ Some body → Spells body r → Counts r old new → IsSummedTo bodies (n + 1) new
+    → slice_get bodies n ≡ Some body → Spells read_width body r → Counts r old new → IsSummedTo bodies (n + 1) new
 summed_more bodies n body r old new before first spells c =
-    let is : record_of body ≡ r = reads_back body r spells in
+    let is : record_of read_width body ≡ r = reads_back read_width body r spells in
     let within : n < length bodies = slice_get_within bodies n body first in
     let next : take (n + 1) bodies ≡ take n bodies ++ body ∷ [] = take_more bodies n body within
     ∙ ap (λ (b : List ℕ). take n bodies ++ b ∷ []) (get_or_from_slice_get bodies n body body first) in
-    let records : records_of (take (n + 1) bodies) ≡ records_of (take n bodies) ++ r ∷ [] =
-    ap records_of next ∙ map-append record_of (take n bodies) (body ∷ []) ∙ ap (λ (one : Record). records_of (take n bodies) ++ one ∷ []) is in
+    let records : records_of read_width (take (n + 1) bodies) ≡ records_of read_width (take n bodies) ++ r ∷ [] =
+    ap (records_of read_width) next ∙ map-append (record_of read_width) (take n bodies) (body ∷ [])
+    ∙ ap (λ (one : Record). records_of read_width (take n bodies) ++ one ∷ []) is in
     record {
       within = omega (arith, within);
       some = omega arith;
-      head = subst (λ (p : Player). BeginsWithHead bodies p.number new.id new.room) (sym c.player)
-          (subst (λ (id : List ℕ). BeginsWithHead bodies old.player.number id new.room) (sym c.id)
-          (subst (λ (room : ℕ). BeginsWithHead bodies old.player.number old.id room) (sym c.room) before.head));
-      spelled = subst (λ (some : List (List ℕ)). All (λ b. Spells b (record_of b)) some) (sym next)
-          (All-append (λ b. Spells b (record_of b)) (take n bodies) (body ∷ []) before.spelled
-          (one_holds (λ b. Spells b (record_of b)) body (subst (λ (one : Record). Spells body one) (sym is) spells)));
+      head = subst (λ (p : Player). BeginsWithHead read_width bodies p.number new.id new.room) (sym c.player)
+          (subst (λ (id : List ℕ). BeginsWithHead read_width bodies old.player.number id new.room) (sym c.id)
+          (subst (λ (room : ℕ). BeginsWithHead read_width bodies old.player.number old.id room) (sym c.room) before.head));
+      spelled = subst (λ (some : List (List ℕ)). All (λ b. Spells read_width b (record_of read_width b)) some) (sym next)
+          (All-append (λ b. Spells read_width b (record_of read_width b)) (take n bodies) (body ∷ []) before.spelled
+          (one_holds (λ b. Spells read_width b (record_of read_width b)) body (subst (λ (one : Record). Spells read_width body one) (sym is)
+          spells)));
       sums = subst (λ (some : List Record). Sums some new) (sym records)
-          (sums_more (records_of (take n bodies)) r old new c before.sums);
+          (sums_more (records_of read_width (take n bodies)) r old new c before.sums);
     }
 
-some_long : (bodies : List (List ℕ)) (n : ℕ) → n ≤ length bodies → length (records_of (take n bodies)) ≡ n
-some_long bodies n within = length-map (take n bodies) record_of ∙ length-take-le n bodies within
+some_long : (bodies : List (List ℕ)) (n : ℕ) → n ≤ length bodies → length (records_of read_width (take n bodies)) ≡ n
+some_long bodies n within = length-map (take n bodies) (record_of read_width) ∙ length-take-le n bodies within
 
 one_epoch : (r : Record) → length (epochs_of r) ≤ 1
 one_epoch (Head player form id room) = omega arith
@@ -113,19 +115,19 @@ few_epochs (r ∷ records) = omega (arith, length-append (epochs_of r) (flat_map
 pub few_entered : (bodies : List (List ℕ)) (n : ℕ) (s : Summary) → IsSummedTo bodies n s → s.entered ≤ n
 unfolding ticks
 few_entered bodies n s to =
-    omega (arith, to.sums.entered, count_by-le-length is_own (records_of (take n bodies)), some_long bodies n to.within)
+    omega (arith, to.sums.entered, count_by-le-length is_own (records_of read_width (take n bodies)), some_long bodies n to.within)
 
 pub few_opened : (bodies : List (List ℕ)) (n : ℕ) (s : Summary) → IsSummedTo bodies n s → s.epochs ≤ n
 unfolding epochs
-few_opened bodies n s to = omega (arith, to.sums.epochs, few_epochs (records_of (take n bodies)), some_long bodies n to.within)
+few_opened bodies n s to = omega (arith, to.sums.epochs, few_epochs (records_of read_width (take n bodies)), some_long bodies n to.within)
 
 pub summed_whole : (bodies : List (List ℕ)) (n : ℕ) (s : Summary) → IsSummedTo bodies n s → n ≡ length bodies → IsSummed bodies s
 summed_whole bodies n s to all =
     let whole : take n bodies ≡ bodies = ap (λ (m : ℕ). take m bodies) all ∙ take-length bodies in
     record {
       head = to.head;
-      spelled = subst (λ (some : List (List ℕ)). All (λ b. Spells b (record_of b)) some) whole to.spelled;
-      sums = subst (λ (some : List (List ℕ)). Sums (records_of some) s) whole to.sums;
+      spelled = subst (λ (some : List (List ℕ)). All (λ b. Spells read_width b (record_of read_width b)) some) whole to.spelled;
+      sums = subst (λ (some : List (List ℕ)). Sums (records_of read_width some) s) whole to.sums;
     }
 
 no_leave : (place : ℕ) → get_or (false ∷ false ∷ false ∷ false ∷ []) place false ≡ false
@@ -137,22 +139,22 @@ no_leave (suc (suc (suc (suc n)))) = refl
 
 -- after the HEAD
 pub head_summed : (bodies : List (List ℕ)) (body : List ℕ) (s : Summary) → slice_get bodies 0 ≡ Some body
-    → Spells body (Head s.player.number s.form s.id s.room) → s.entered ≡ 0 → s.epochs ≡ 1 → s.dropped ≡ false ∷ false ∷ false ∷ false ∷ []
+    → Spells read_width body (Head s.player.number s.form s.id s.room) → s.entered ≡ 0 → s.epochs ≡ 1 → s.dropped ≡ false ∷ false ∷ false ∷ false ∷ []
     → IsSummedTo bodies 1 s
 unfolding ticks epochs was_dropped forms
 head_summed bodies body s first spells none once nobody =
     let r : Record = Head s.player.number s.form s.id s.room in
-    let is : record_of body ≡ r = reads_back body r spells in
+    let is : record_of read_width body ≡ r = reads_back read_width body r spells in
     let within : 0 < length bodies = slice_get_within bodies 0 body first in
     let next : take 1 bodies ≡ body ∷ [] = take_more bodies 0 body within
     ∙ ap (λ (b : List ℕ). b ∷ []) (get_or_from_slice_get bodies 0 body body first) in
-    let records : records_of (take 1 bodies) ≡ r ∷ [] = ap records_of next ∙ ap (λ (one : Record). one ∷ []) is in
+    let records : records_of read_width (take 1 bodies) ≡ r ∷ [] = ap (records_of read_width) next ∙ ap (λ (one : Record). one ∷ []) is in
     record {
       within = omega (arith, within);
       some = omega arith;
       head = (body, s.form, first, spells);
-      spelled = subst (λ (some : List (List ℕ)). All (λ b. Spells b (record_of b)) some) (sym next)
-          (one_holds (λ b. Spells b (record_of b)) body (subst (λ (one : Record). Spells body one) (sym is) spells));
+      spelled = subst (λ (some : List (List ℕ)). All (λ b. Spells read_width b (record_of read_width b)) some) (sym next)
+          (one_holds (λ b. Spells read_width b (record_of read_width b)) body (subst (λ (one : Record). Spells read_width body one) (sym is) spells));
       sums = subst (λ (some : List Record). Sums some s) (sym records) (record {
         entered = none;
         epochs = once;

@@ -2,7 +2,7 @@
 use Rattle.std.specs.Prelude.{◌≡◌, ◌<◌, ◌≤◌, ◌+◌, ℕ, List, length, take, get_or, false, ◌||◌, cond}
 use Rattle.std.specs.List.{All}
 use Rattle.c8_journals.specs.declared.summary.Summary.{Summary}
-use Rattle.c8_journals.specs.Summary.{IsOf, Sums, tells_drop}
+use Rattle.c8_journals.specs.Summary.{IsOf, Sums, tells_drop, read_width}
 use Rattle.c8_known.specs.Journal.{Record, Head, Epoch, Own, Got, Freeze, Leave, Cut, State, Check, is_own, epochs_of}
 use Rattle.c8_record.specs.Body.{Spells, record_of, records_of}
 
@@ -33,5 +33,5 @@ pub record IsSummedTo (bodies : List (List ℕ)) (n : ℕ) (s : Summary) : Type 
   pub within : n ≤ length bodies
   pub some : 0 < n
   pub head : IsOf bodies s
-  pub spelled : All (λ body. Spells body (record_of body)) (take n bodies)
-  pub sums : Sums (records_of (take n bodies)) s
+  pub spelled : All (λ body. Spells read_width body (record_of read_width body)) (take n bodies)
+  pub sums : Sums (records_of read_width (take n bodies)) s

@@ -9,9 +9,13 @@ use Rattle.c8_known.specs.Journal.{Record, Head, Epoch, Own, Got, Freeze, Leave,
 use Rattle.c8_record.specs.Body.{Spells, record_of, records_of}
 use Rattle.c8_record.specs.Replay.{BeginsWithHead}
 
+-- A journal is read as one of versions 1 and 2, whose inputs have 2 bytes: no record names a width.
+abbrev pub read_width : ℕ
+read_width = 2
+
 -- the first body is the HEAD of this player, this room and this game
 abbrev pub IsOf : List (List ℕ) → Summary → Type 0
-IsOf bodies s = BeginsWithHead bodies s.player.number s.id s.room
+IsOf bodies s = BeginsWithHead read_width bodies s.player.number s.id s.room
 
 -- the form that a record names, if it names one
 abbrev pub forms_of : Record → List ℕ
@@ -36,7 +40,7 @@ tells_drop q r = lets_go q r || freezes q r
 unfoldable pub was_dropped : ℕ → List Record → Bool
 was_dropped q records = list_any (tells_drop q) records
 
--- What a summary has of records: the key sets that were entered, how often the peer was opened, the last form, and who was dropped.
+-- What a summary has of records: the inputs that were entered, how often the peer was opened, the last form, and who was dropped.
 pub record Sums (records : List Record) (s : Summary) : Type 0 where
   pub entered : s.entered ≡ ticks records
   pub epochs : s.epochs ≡ length (epochs records)
@@ -46,14 +50,14 @@ pub record Sums (records : List Record) (s : Summary) : Type 0 where
 -- Each body spells a record, the first is the HEAD, and the summary has what the records say.
 pub record IsSummed (bodies : List (List ℕ)) (s : Summary) : Type 0 where
   pub head : IsOf bodies s
-  pub spelled : All (λ body. Spells body (record_of body)) bodies
-  pub sums : Sums (records_of bodies) s
+  pub spelled : All (λ body. Spells read_width body (record_of read_width body)) bodies
+  pub sums : Sums (records_of read_width bodies) s
 
 -- Why there is no summary: the first body is no HEAD, or body n is the first that spells no record.
 abbrev pub IsUnsummed : List (List ℕ) → JournalError → Type 0
 IsUnsummed bodies WrongGame = ⊥
 IsUnsummed bodies (BadRecord n why) =
-    ((n ≡ 0) × HasNoHead bodies)
-    ⊎ (All (λ body. Spells body (record_of body)) (take n bodies) × (body : List ℕ) × (slice_get bodies n ≡ Some body)
-    × ((r : Record) → Spells body r → ⊥))
+    ((n ≡ 0) × HasNoHead read_width bodies)
+    ⊎ (All (λ body. Spells read_width body (record_of read_width body)) (take n bodies) × (body : List ℕ) × (slice_get bodies n ≡ Some body)
+    × ((r : Record) → Spells read_width body r → ⊥))
 IsUnsummed bodies Memory = ⊥

@@ -8,7 +8,7 @@ whether its records may stand where they do: audit does that.
 What it prints of each file, up to the first that it refuses:
   player P room R entered N epochs E form F dropped LIST game ID file FILE
     P and R       whose journal it is, and the match id
-    N and E       how many key sets the player entered, and how often its peer was opened
+    N and E       how many inputs the player entered, and how often its peer was opened
     F             the form of its records: 0 or 2
     LIST          whom player 1 dropped, by this journal: players, as 2,3, or 'none'
     ID            the game's id, 64 hexadecimal digits

@@ -7,7 +7,7 @@ ghost use Rattle.c8_journals.specs.Counted.{Counts, IsSummedTo};
 ghost use Rattle.c8_journals.specs.Summary.{IsSummed, IsUnsummed};
 
 use c8_audit::{JournalError, Unfit};
-use c8_game::{MOST_PLAYERS, Player};
+use c8_game::{MOST_PLAYERS, Player, Width};
 use c8_log::{kept_body, kept_len};
 use c8_record::{Record, view};
 
@@ -20,7 +20,7 @@ pub struct Summary {
     pub id: [u8; 32],
     /// The form of the records, as the last HEAD or EPOCH names it.
     pub form: u32,
-    /// How many key sets the player entered.
+    /// How many inputs the player entered.
     pub entered: usize,
     /// How often the peer was opened: the HEAD and the EPOCH records.
     pub epochs: usize,
@@ -35,7 +35,7 @@ pub fn summary_of(image: &[u8]) -> Result<Summary, JournalError>
 {
     let mut summary = begun(image)?;
     for n in 1..kept_len(image) {
-        match view(kept_body(image, n)) {
+        match view(kept_body(image, n), Width::DEFAULT) {
             Some(record) => summary.add(&record),
             None => return Err(JournalError::BadRecord(n, Unfit::NoRecord)),
         }
@@ -50,7 +50,7 @@ fn begun(image: &[u8]) -> Result<Summary, JournalError>
     if kept_len(image) == 0 {
         return Err(JournalError::BadRecord(0, Unfit::Nothing));
     }
-    let Some(record) = view(kept_body(image, 0)) else {
+    let Some(record) = view(kept_body(image, 0), Width::DEFAULT) else {
         return Err(JournalError::BadRecord(0, Unfit::NoRecord));
     };
     let Record::Head {

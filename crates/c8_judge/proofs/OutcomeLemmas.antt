@@ -98,11 +98,11 @@ are_yes verdicts none = let all = none_first verdicts.entered verdicts.untrue ve
     record { entered = all.0; checks = all.1; agree = all.2 }
 
 module _ (law : (rules : Rules) (files : List Twice) (journals : List (Option Journal)) (verdicts : Verdicts)
-    → AreGathered rules (evidence_of files) journals → AreVerdicts rules (all_seen journals) verdicts → AreYes verdicts
-    → AlwaysTellOneStory rules (evidence_of files)) (rules : Rules) (files : List Twice) (journals : List (Option Journal))
-    (gathered : AreGathered rules (evidence_of files) journals) (one_match : AreOneMatch rules files) where
+    → AreGathered rules (evidence_of rules.width files) journals → AreVerdicts rules (all_seen journals) verdicts → AreYes verdicts
+    → AlwaysTellOneStory rules (evidence_of rules.width files)) (rules : Rules) (files : List Twice) (journals : List (Option Journal))
+    (gathered : AreGathered rules (evidence_of rules.width files) journals) (one_match : AreOneMatch rules files) where
   story_of : (outcome : Result Verdicts AuditFault) → IsJudged rules (all_seen journals) outcome → (verdicts : Verdicts)
-      → outcome ≡ Ok verdicts → AlwaysTellOneStory rules (evidence_of files)
+      → outcome ≡ Ok verdicts → AlwaysTellOneStory rules (evidence_of rules.width files)
   story_of (Ok own) judged verdicts is = law rules files journals own gathered judged.0 (are_yes own judged.1)
   story_of (Err fault) judged verdicts is = absurd cc
 

@@ -134,7 +134,7 @@ fn gather_files<R: Files + AllocGlobal>(
     readings: &mut [Twice],
 ) -> Result<Gathered, Unjudged>
     ensures gathered { IfOk result (λ gathered.
-        AreGathered game.now (evidence_of readings.new) gathered.journals) }
+        AreGathered game.now (evidence_of game.now.width readings.new) gathered.journals) }
     ensures one_match { IfOk result (λ gathered. AreOneMatch game.now readings.new) }
     ensures empty { IfOk result (λ gathered. gathered.empty ≡ count_by keeps_nothing readings.new) }
     ensures refused { IfErr result (λ why. IsWithout (fault_of_unjudged why)

@@ -11,9 +11,9 @@ pub data Record : Type 0 where
   Head : (player : ℕ) → (form : ℕ) → (id : List ℕ) → (room : ℕ) → Record
   -- the peer opened its journal again
   Epoch : (player : ℕ) → (number : ℕ) → (form : ℕ) → Record
-  -- the own player entered a key set
+  -- the own player entered an input
   Own : (player : ℕ) → (start : ℕ) → (word : ℕ) → Record
-  -- key sets of another player came
+  -- inputs of another player came
   Got : (player : ℕ) → (start : ℕ) → (words : List ℕ) → Record
   -- from here on the player's inputs are taken from player 1 only
   Freeze : (player : ℕ) → Record
@@ -111,14 +111,14 @@ cuts_of q (Check player frames digest) = []
 
 -- ---- what a journal says
 
--- A player's held inputs: an empty set for each frame of the delay, then what the records add.
+-- A player's held inputs: 0 for each frame of the delay, then what the records add.
 unfoldable pub held : Rules → ℕ → List Record → List ℕ
 held rules q journal = replicate rules.delay 0 ++ flat_map (words_of q) journal
 
 abbrev pub count : Rules → ℕ → List Record → ℕ
 count rules q journal = length (held rules q journal)
 
--- how many ticks the own player has made; each enters one key set
+-- how many ticks the own player has made; each enters one input
 unfoldable pub ticks : List Record → ℕ
 ticks journal = count_by is_own journal
 

@@ -1,7 +1,9 @@
 -- What a peer knows of the players' inputs: what its journal says, laid out by player.
-use Rattle.std.specs.Prelude.{ℕ, ◌+◌, ◌-◌, ◌≡◌, ◌≤◌, List, [], ◌∷◌, ◌++◌, length, map, slice_index_or, slice_set, Bool, true, false, ◌||◌}
+use Rattle.std.specs.Prelude.{ℕ, ◌+◌, ◌-◌, ◌≡◌, ◌≤◌, List, [], ◌∷◌, ◌++◌, length, map, slice_index, slice_index_or, slice_set, Bool, true}
+use Rattle.std.specs.Prelude.{false, ◌||◌}
 use Rattle.std.specs.Prelude.{◌&&◌, nat_le, Option, Some, None}
 use Rattle.std.specs.List.{range_with_len}
+use Rattle.c8_game.specs.Inputs.{Fits}
 use Rattle.c8_game.specs.Rules.{Rules, limit_of, most_inputs}
 use Rattle.c8_known.specs.Journal as journals
 use Rattle.c8_known.specs.Journal.{Record, Head, Epoch, Own, Got, Freeze, Leave, Cut, State, Check, player_of}
@@ -14,12 +16,13 @@ pub record PlayerValue : Type 0 where
   pub leaving : Bool
   pub cut : Option ℕ
 
--- what a player knows: the delay and the greatest length of a list in its game, how many ticks it has made, and what it
+-- what a player knows: the delay, the greatest length of a list and the width of inputs in its game, how many ticks it has made, and what it
 -- knows of each player, player 1 first
 pub record KnownValue : Type 0 where
   pub me : ℕ
   pub delay : ℕ
   pub limit : ℕ
+  pub width : ℕ
   pub ticks : ℕ
   pub players : List PlayerValue
 
@@ -57,6 +60,7 @@ known_of rules me journal = record {
   me = me;
   delay = rules.delay;
   limit = limit_of rules;
+  width = rules.width;
   ticks = journals.ticks journal;
   players = map (λ place. said_of rules (place + 1) journal) (range_with_len 0 rules.players);
 }
@@ -110,15 +114,17 @@ pub record IsKnown (k : KnownValue) : Type 0 where
   pub me : Plays k k.me
   pub limit : k.limit ≤ most_inputs
   pub within : (q : ℕ) → count_in k q ≤ k.limit
+  pub fits : (q place : ℕ) → Fits k.width (slice_index (player_in k q).held place)
   pub own : count_in k k.me ≡ k.delay + k.ticks
   pub own_uncut : (player_in k k.me).cut ≡ None
   pub cuts : (q K : ℕ) → (player_in k q).cut ≡ Some K → EndsAtCut (player_in k q) K
 
--- the players, the delay and the limit are those of the game, and the own player is the given one
+-- the players, the delay, the limit and the width are those of the game, and the own player is the given one
 pub record IsOfGame (rules : Rules) (me : ℕ) (k : KnownValue) : Type 0 where
   pub players : length k.players ≡ rules.players
   pub delay : k.delay ≡ rules.delay
   pub limit : k.limit ≡ limit_of rules
+  pub width : k.width ≡ rules.width
   pub player : k.me ≡ me
 
 -- the player that the record names is in the game

@@ -66,7 +66,7 @@ module _ {D : Type 0} (g : Ghosts D) (disk : D) (rules : Rules) (room me : ℕ) 
 
   abbrev pub TellsThere : Type 0
   TellsThere = (disk : D) (rules : Rules) (room me : ℕ) (p : PeerValue D) → IsOpened g disk rules room me p
-      → HasTrueLast rules me (records_of (bodies_found g disk)) → TellsTruly p.rules p.me p.state
+      → HasTrueLast rules me (records_of rules.width (bodies_found g disk)) → TellsTruly p.rules p.me p.state
 
   abbrev pub StaysTrue : Type 0
   StaysTrue = (old new : PeerValue D) → IsSound g old → TellsTruly old.rules old.me old.state → HasRunOn g old new

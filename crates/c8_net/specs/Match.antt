@@ -13,7 +13,7 @@ use Rattle.c8_peer.specs.Peer.{PeerValue, known_by, begun_by}
 use Rattle.c8_peer.specs.TrueChecks.{HasTrueLast}
 use Rattle.c8_refusals.specs.declared.error.OpenError.{OpenError}
 use Rattle.c8_refusals.specs.declared.error.OpenError.TheVariants as opens
-use Rattle.c8_texts.specs.KeySets.{IsFaultOfSets}
+use Rattle.c8_texts.specs.InputLines.{IsFaultOfInputs}
 use Rattle.c8_texts.specs.declared.lines.Played.{Played}
 use Rattle.c8_live.specs.declared.error.SessionError.{SessionError}
 use Rattle.c8_session.specs.Runs.{HasRunOn, IsStopped}
@@ -24,29 +24,29 @@ use Rattle.c8_udp.specs.declared.error.SocketError.TheVariants as sockets
 
 -- ---- before the journal is opened
 
--- why standard input gives no key sets: a line spells none, memory ran out, or it cannot be read
-abbrev pub IsNoKeys : Option (List ℕ) → PeerError → Type 0
-IsNoKeys input (Game error) = ⊥
-IsNoKeys input (Secret error) = ⊥
-IsNoKeys input (Keys error) = IfSome input (λ text. IsFaultOfSets text error)
-IsNoKeys input (Open error) = ⊥
-IsNoKeys input (Disk why) = why ≡ disks.Failed
-IsNoKeys input (Socket error) = ⊥
-IsNoKeys input Lost = ⊥
+-- why standard input gives no inputs of a width: a line spells none, memory ran out, or it cannot be read
+abbrev pub IsNoInput : ℕ → Option (List ℕ) → PeerError → Type 0
+IsNoInput width input (Game error) = ⊥
+IsNoInput width input (Secret error) = ⊥
+IsNoInput width input (Keys error) = IfSome input (λ text. IsFaultOfInputs width text error)
+IsNoInput width input (Open error) = ⊥
+IsNoInput width input (Disk why) = why ≡ disks.Failed
+IsNoInput width input (Socket error) = ⊥
+IsNoInput width input Lost = ⊥
 
--- Why a match of this many players cannot begin, in this order: a wrong number of addresses of other players; a refused
+-- Why a match of this game cannot begin, in this order: a wrong number of addresses of other players; a refused
 -- address, which is not named; a fault of standard input.
-abbrev pub IsNoMatch : ℕ → Option (List ℕ) → ℕ → PeerError → Type 0
-IsNoMatch players input remotes (Game error) = ⊥
-IsNoMatch players input remotes (Secret error) = ⊥
-IsNoMatch players input remotes (Socket (sockets.Failed why)) = ⊥
-IsNoMatch players input remotes (Socket sockets.Thread) = ⊥
-IsNoMatch players input remotes (Socket sockets.Remotes) = remotes + 1 ≢ players
-IsNoMatch players input remotes (Socket sockets.Address) = remotes + 1 ≡ players
-IsNoMatch players input remotes (Keys error) = (remotes + 1 ≡ players) × IsNoKeys input (Keys error)
-IsNoMatch players input remotes (Disk why) = (remotes + 1 ≡ players) × IsNoKeys input (Disk why)
-IsNoMatch players input remotes (Open error) = ⊥
-IsNoMatch players input remotes Lost = ⊥
+abbrev pub IsNoMatch : Rules → Option (List ℕ) → ℕ → PeerError → Type 0
+IsNoMatch rules input remotes (Game error) = ⊥
+IsNoMatch rules input remotes (Secret error) = ⊥
+IsNoMatch rules input remotes (Socket (sockets.Failed why)) = ⊥
+IsNoMatch rules input remotes (Socket sockets.Thread) = ⊥
+IsNoMatch rules input remotes (Socket sockets.Remotes) = remotes + 1 ≢ rules.players
+IsNoMatch rules input remotes (Socket sockets.Address) = remotes + 1 ≡ rules.players
+IsNoMatch rules input remotes (Keys error) = (remotes + 1 ≡ rules.players) × IsNoInput rules.width input (Keys error)
+IsNoMatch rules input remotes (Disk why) = (remotes + 1 ≡ rules.players) × IsNoInput rules.width input (Disk why)
+IsNoMatch rules input remotes (Open error) = ⊥
+IsNoMatch rules input remotes Lost = ⊥
 
 -- ---- in threads
 
@@ -69,7 +69,8 @@ module _ {D : Type 0} (g : Ghosts D) (disk : D) (rules : Rules) (room me : ℕ) 
     pub ran : HasRunOn g first last
     pub frames : played.frames ≡ confirmed (known_by last)
     pub machine : state played.machine ≡ run_since rules (begun_by first) (confirmed_rows (known_by last))
-    pub serial_is : HasTrueLast rules me (records_of (bodies_found g disk)) → state played.machine ≡ serial rules (confirmed_rows (known_by last))
+    pub serial_is : HasTrueLast rules me (records_of rules.width (bodies_found g disk)) → state played.machine
+        ≡ serial rules (confirmed_rows (known_by last))
 
   -- the journal was opened, and memory ran out for the rest of the match
   abbrev pub IsWithoutRoom : OpenError → Type 0

@@ -99,7 +99,7 @@ fn refuse_line<E: Write>(mistake: Mistake<'_>, refused: &mut E) -> io::Result<St
     Ok(Status::CommandLine)
 }
 
-/// Plays a game with others, in threads. It reads the key sets from `input` and writes the report of the confirmed
+/// Plays a game with others, in threads. It reads the inputs from `input` and writes the report of the confirmed
 /// machine to `out`. The line of a refusal, its explanation if asked for, and the progress lines go to `refused`. The
 /// error is a writer's.
 pub fn peer<R, I, W, E>(
@@ -127,7 +127,7 @@ where
     tell_outcome(rt, asked, played, &trouble, out, refused)
 }
 
-/// Plays a game with others by a performance, in the caller's thread; the performance has its own key sets.
+/// Plays a game with others by a performance, in the caller's thread; the performance has its own inputs.
 pub fn perform<R, P, W, E>(
     rt: &R,
     asked: &Asked<'_, '_>,

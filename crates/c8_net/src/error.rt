@@ -22,7 +22,7 @@ pub enum PeerError {
     /// The text of a secret has a fault.
     #[error("{0}")]
     Secret(SecretError),
-    /// The key sets of standard input have a fault.
+    /// The inputs of standard input have a fault.
     #[error("{0}")]
     Keys(KeysError),
     /// The peer's opening was refused, or memory ran out at the start. If the disk refused the opening, the refusal is

@@ -7,9 +7,9 @@ use crate::error::PeerError;
 use c8_command::{Site, Text, TextError, read_file};
 use c8_disk::{DiskError, FileError};
 use c8_files::{NO_TEXT, ProgramError, Trouble, is_binary, is_program, usual_game};
-use c8_game::{Game, GameError};
+use c8_game::{Game, GameError, Width};
 use c8_peer::OpenError;
-use c8_texts::{KeysError, game_site, key_sets_site};
+use c8_texts::{KeysError, game_site, inputs_site};
 use c8_udp::{NoAddress, SocketError, SocketFault, Unreached, Wanted};
 use std::alloc::Global;
 use std::fmt::Display;
@@ -214,7 +214,10 @@ impl<'a> Fault<'a> {
         let text = Text { file, bytes };
         match self.error {
             PeerError::Game(error) => game_site(alloc, text, error),
-            PeerError::Keys(KeysError::Line) => key_sets_site(text),
+            PeerError::Keys(KeysError::Line(digits)) => match Width::new(digits / 2) {
+                Some(width) => inputs_site(text, width),
+                None => Site::File(file),
+            },
             PeerError::Socket(SocketError::Address) => address_site(no_address),
             PeerError::Socket(SocketError::Failed(fault)) if is_of_address(fault) => {
                 address_site(Some(file))

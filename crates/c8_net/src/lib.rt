@@ -12,7 +12,7 @@ mod command;
 mod error;
 mod fault;
 mod help;
-mod key_list;
+mod input_list;
 mod line;
 mod mistake;
 mod pace;

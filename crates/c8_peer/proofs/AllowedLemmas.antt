@@ -4,13 +4,17 @@ use Rattle.std.proofs.Common.{Some, None, refl, sym, ap, subst, ◌∙◌, inl, 
 use Rattle.std.specs.Prelude.{◌==◌, ◌||◌, ◌&&◌, not, nat_le, nat_lt, is_some, Result, Ok, Err}
 use Rattle.std.proofs.lemmas.Bool.{cases_lt, cases_eq, both_ways, not-false, ltb-false, leb-true, leb-false, eqb-true, eqb-false, eq-eqb}
 use Rattle.std.proofs.lemmas.Bool.{and_parts, or_parts}
-use Rattle.std.proofs.lemmas.List.{get_or_past, length-drop, get_or-drop}
+use Rattle.std.proofs.lemmas.List.{get_or_past, length-drop}
 use Rattle.c8_game.specs.Rules.{Rules, AreInRange}
+use Rattle.c8_game.specs.Wire.{version_number}
 use Rattle.c8_wire.specs.declared.error.WireError.{WireError}
-use Rattle.c8_wire.specs.Packet.{HeadValue, DataMessage, FreezeMessage, LeaverMessage, Message, Packet, AreWords, IsDataMessage}
+use Rattle.c8_wire.specs.Packet.{HeadValue, DataMessage, FreezeMessage, LeaverMessage, Message, Packet, AreInputs, IsDataMessage}
 use Rattle.c8_wire.specs.Packet.{IsFreezeMessage, IsLeaverMessage, IsMessage, Fits, IsPacket}
 use Rattle.c8_wire.specs.Packet as packets
-use Rattle.c8_wire.specs.Sizes.{longest_run}
+use Rattle.c8_pairs.specs.Sizes.{run_bytes, longest_run}
+use Rattle.c8_wire.specs.checked.RunLaws.{longest_few, few_bytes}
+use Rattle.c8_game.specs.declared.wire.WireVersion.TheVariants as versions
+use Rattle.c8_wire.specs.Spelling.{words_bytes}
 use Rattle.c8_wire.specs.checked.WordLaws.{length-spelled_words}
 use Rattle.c8_hand.specs.declared.error.HandError.{HandError}
 use Rattle.c8_hand.specs.Links as links
@@ -23,7 +27,8 @@ use Rattle.c8_known.specs.Confirmed.{confirmed}
 use Rattle.c8_known.specs.Fresh.{is_from_leaver, misfit, fresh_words}
 use Rattle.c8_round.specs.Round.{is_ready, with_report, with_have}
 use Rattle.c8_window.specs.Window.{acked_more}
-use Rattle.c8_record.specs.Body.{HasSpelling}
+use Rattle.c8_known.specs.checked.KnownLaws.{fits_none, fits_drop}
+use Rattle.c8_record.specs.Body.{HasSpelling, most_inputs}
 use Rattle.c8_record.specs.Allowed.{Past, past_of, MayFollow, IsAllowedAfter, IsAllowed, IsJournal, IsOrderlyOf, IsOrderly}
 use Rattle.c8_record.specs.checked.JournalLaws.{journal_known, of_game}
 use Rattle.c8_record.specs.checked.LeaverLaws.{journal_orderly}
@@ -42,7 +47,9 @@ use Rattle.c8_peer.proofs.CheckpointLemmas.{adds_next, next_may, next_player}
 
 -- ---- what the earlier records say
 
-record IsPast (past : Past) : Type 0 where
+record IsPast (rules : Rules) (past : Past) : Type 0 where
+  some_width : 1 ≤ rules.width
+  wide : rules.width ≤ 8
   known : IsKnown past.known
   orderly : IsOrderly past.known
   some : past.count ≢ 0
@@ -82,8 +89,8 @@ is_one n is = eqb-true n 1 (not-false (n == 1) is)
 
 -- ---- a record is allowed
 
-allowed : (rules : Rules) (room : ℕ) (past : Past) (r : Record) → IsPast past → Stays past.known → Plays past.known (player_of r)
-    → HasSpelling r → MayFollow rules room past r → IsAllowedAfter rules room past r
+allowed : (rules : Rules) (room : ℕ) (past : Past) (r : Record) → IsPast rules past → Stays past.known → Plays past.known (player_of r)
+    → HasSpelling rules.width r → MayFollow rules room past r → IsAllowedAfter rules room past r
 allowed rules room past r is stays plays spelled may = record {
   spelled = spelled;
   plays = plays;
@@ -101,24 +108,28 @@ count_fits k q known = omega (arith, known.within q, known.limit)
 
 -- ---- a tick
 
-tick_allowed : (rules : Rules) (room : ℕ) (past : Past) (m : Memory) (keys : ℕ) (r : Record) → IsPast past → keys < 2 ^ 16
-    → (tick rules past.known m keys).keeps ≡ Some r → IsAllowedAfter rules room past r
+tick_allowed : (rules : Rules) (room : ℕ) (past : Past) (m : Memory) (input : ℕ) (r : Record) → IsPast rules past
+    → (tick rules past.known m input).keeps ≡ Some r → IsAllowedAfter rules room past r
 unfolding tick
-tick_allowed rules room past m keys r is fits kept =
+tick_allowed rules room past m input r is kept =
     let k : KnownValue = past.known in
-    let new : Record = Own k.me (count_in k k.me) keys in
+    let new : Record = Own k.me (count_in k k.me) input in
     let stays = failed (player_in k k.me).leaving m _ _ r kept in
     let frames = failed (nat_le rules.frames k.ticks) m _ _ r stays.1 in
     let window = failed (nat_le (confirmed k + rules.window) k.ticks) m _ _ r frames.1 in
-    let spelled : HasSpelling new = record {
+    let wide = failed (nat_le (256 ^ rules.width) input) m _ _ r window.1 in
+    let fits : input < 256 ^ rules.width = leb-false (256 ^ rules.width) input wide.0 in
+    let spelled : HasSpelling rules.width new = record {
+      some_bytes = is.some_width;
       from_one = is.known.me.from_one;
       to_four = to_four k k.me is.known is.known.me;
       number = omega arith;
       start = count_fits k k.me is.known;
-      short = omega arith;
+      few = omega arith;
+      short = let narrow = is.wide in omega (arith, length-spelled_words rules.width (input ∷ []), narrow);
       parts = fits;
     } in
-    the_record rules room past new r window.1 (allowed rules room past new is (λ other. stays.0) is.known.me spelled (record {
+    the_record rules room past new r wide.1 (allowed rules room past new is (λ other. stays.0) is.known.me spelled (record {
       own = refl;
       next = refl;
       frames = leb-false rules.frames k.ticks frames.0;
@@ -133,39 +144,45 @@ past_none true x others e = absurd cc
 past_none false x others e = refl
 
 -- the new part of a run that can be held
-record IsNew (k : KnownValue) (q : ℕ) (words : List ℕ) : Type 0 where
+record IsNew (width : ℕ) (k : KnownValue) (q : ℕ) (words : List ℕ) : Type 0 where
   within : count_in k q + length words ≤ k.limit
-  short : length words ≤ longest_run
-  fits : AreWords words
+  short : length words ≤ longest_run width
+  fits : AreInputs width words
 
-words_drop : (n : ℕ) (words : List ℕ) → AreWords words → AreWords (drop n words)
-words_drop n words fits i = rw get_or-drop (fits (n + i))
-
-new_words : (k : KnownValue) (q start : ℕ) (words : List ℕ) → IsKnown k → misfit k q start words ≡ None → length words ≤ longest_run
-    → AreWords words → IsNew k q (fresh_words k q start words)
-new_words k q start words known none short fits =
+new_words : (width : ℕ) (k : KnownValue) (q start : ℕ) (words : List ℕ) → IsKnown k → misfit k q start words ≡ None
+    → length words ≤ longest_run width → AreInputs width words → IsNew width k q (fresh_words k q start words)
+new_words width k q start words known none short fits =
     let n : ℕ = count_in k q - start in
     let many : length (drop n words) ≡ length words - n = length-drop n words in
     let room = ltb-false k.limit (start + length words) (past_none (nat_lt k.limit (start + length words)) errors.Full _ none) in
     record {
       within = omega (arith, many, room, known.within q);
       short = omega (arith, many, short);
-      fits = words_drop n words fits;
+      fits = fits_drop width n words fits;
     }
 
-got_allowed : (rules : Rules) (room : ℕ) (past : Past) (m : Memory) (q : ℕ) (words : List ℕ) (r : Record) → IsPast past → Stays past.known
-    → Plays past.known q → q ≢ past.known.me → (player_in past.known q).cut ≡ None → IsNew past.known q words
+-- a run's inputs fit into a record
+few_words : (width : ℕ) (words : List ℕ) → length words ≤ longest_run width → length words ≤ most_inputs
+few_words width words short = omega (arith, longest_few width, short)
+
+short_words : (width : ℕ) (words : List ℕ) → length words ≤ longest_run width → length (words_bytes width words) ≤ run_bytes
+short_words width words short = few_bytes versions.One width words short refl
+
+got_allowed : (rules : Rules) (room : ℕ) (past : Past) (m : Memory) (q : ℕ) (words : List ℕ) (r : Record) → IsPast rules past → Stays past.known
+    → Plays past.known q → q ≢ past.known.me → (player_in past.known q).cut ≡ None → IsNew rules.width past.known q words
     → (got past.known m q words).keeps ≡ Some r → IsAllowedAfter rules room past r
 got_allowed rules room past m q [] r is stays plays other uncut new kept = absurd cc
 got_allowed rules room past m q (word ∷ words) r is stays plays other uncut new kept =
     let k : KnownValue = past.known in
     let got_these : Record = Got q (count_in k q) (word ∷ words) in
-    let spelled : HasSpelling got_these = record {
+    let spelled : HasSpelling rules.width got_these = record {
+      some_bytes = is.some_width;
       from_one = plays.from_one;
       to_four = to_four k q is.known plays;
       number = omega arith;
       start = count_fits k q is.known;
-      short = omega (arith, length-spelled_words (word ∷ words), new.short);
+      few = few_words rules.width (word ∷ words) new.short;
+      short = short_words rules.width (word ∷ words) new.short;
       parts = (omega arith, new.fits);
     } in
     the_record rules room past got_these r kept
@@ -173,7 +190,7 @@ got_allowed rules room past m q (word ∷ words) r is stays plays other uncut ne
 
 -- ---- leave and decide, of player one
 
-leave_allowed : (rules : Rules) (room : ℕ) (past : Past) (m : Memory) (leaver : ℕ) (r : Record) → IsPast past
+leave_allowed : (rules : Rules) (room : ℕ) (past : Past) (m : Memory) (leaver : ℕ) (r : Record) → IsPast rules past
     → (leave past.known m leaver).keeps ≡ Some r → IsAllowedAfter rules room past r
 unfolding leave
 leave_allowed rules room past m leaver r is kept =
@@ -185,11 +202,13 @@ leave_allowed rules room past m leaver r is kept =
     let already = failed (player_in k leaver).leaving m _ _ r playing.1 in
     let one : k.me ≡ 1 = is_one k.me chair.0 in
     let plays : Plays k leaver = plays_by_test k leaver playing.0 in
-    let spelled : HasSpelling new = record {
+    let spelled : HasSpelling rules.width new = record {
+      some_bytes = is.some_width;
       from_one = plays.from_one;
       to_four = to_four k leaver is.known plays;
       number = omega arith;
       start = omega arith;
+      few = omega arith;
       short = omega arith;
       parts = tt;
     } in
@@ -215,7 +234,7 @@ leaver_from_two k zero orderly leaving = absurd (both_ways (player_in k 1).leavi
 leaver_from_two k (suc zero) orderly leaving = absurd (both_ways (player_in k 1).leaving ((orderly 1 (omega arith)).one_stays refl).1 leaving)
 leaver_from_two k (suc (suc q)) orderly leaving = omega arith
 
-decide_allowed : (rules : Rules) (room : ℕ) (past : Past) (m : Memory) (leaver : ℕ) (r : Record) → IsPast past
+decide_allowed : (rules : Rules) (room : ℕ) (past : Past) (m : Memory) (leaver : ℕ) (r : Record) → IsPast rules past
     → (decide past.known m leaver).keeps ≡ Some r → IsAllowedAfter rules room past r
 unfolding decide
 decide_allowed rules room past m leaver r is kept =
@@ -230,13 +249,15 @@ decide_allowed rules room past m leaver r is kept =
     let leaving : (player_in k leaver).leaving ≡ true = not-false (player_in k leaver).leaving tests.1 in
     let from_two : 2 ≤ leaver = leaver_from_two k leaver is.orderly leaving in
     let plays : Plays k leaver = record { from_one = omega (arith, from_two); in_game = omega (arith, leaver_place k leaver leaving) } in
-    let spelled : HasSpelling new = record {
+    let spelled : HasSpelling rules.width new = record {
+      some_bytes = is.some_width;
       from_one = plays.from_one;
       to_four = to_four k leaver is.known plays;
       number = count_fits k leaver is.known;
       start = count_fits k leaver is.known;
+      few = omega arith;
       short = omega arith;
-      parts = λ i. omega arith;
+      parts = fits_none rules.width;
     } in
     the_record rules room past new r ready.1 (allowed rules room past new is (λ other. absurd (other one)) plays spelled (record {
       other = λ same. omega (arith, same, one, from_two);
@@ -267,9 +288,9 @@ second_false : (a b : Bool) → a ≡ true → (a && b) ≡ false → b ≡ fals
 second_false true b is none = none
 second_false false b is none = absurd cc
 
-data_allowed : (rules : Rules) (t : Told) (room : ℕ) (past : Past) (m : Memory) (q : ℕ) (d : DataMessage) (r : Record) → IsPast past
+data_allowed : (rules : Rules) (t : Told) (room : ℕ) (past : Past) (m : Memory) (q : ℕ) (d : DataMessage) (r : Record) → IsPast rules past
     → Stays past.known
-    → Plays past.known q → q ≢ past.known.me → IsDataMessage d → AreWords d.words
+    → Plays past.known q → q ≢ past.known.me → IsDataMessage rules.width d → AreInputs rules.width d.words
     → (hear_data t past.known m q d).keeps ≡ Some r → IsAllowedAfter rules room past r
 unfolding hear_data
 data_allowed rules t room past m q d r is stays plays other data_is fits kept =
@@ -281,7 +302,7 @@ data_allowed rules t room past m q d r is stays plays other data_is fits kept =
     let free = or_parts (player_in k q).frozen (player_in k q).leaving (second_false (q == q) (is_frozen_in k q) (eq-eqb q q refl) leaver.0) in
     got_allowed rules room past (record m { acks = acked_more m.acks q d.ack }) q (fresh_words k q d.start d.words) r is stays plays other
     (uncut k.me q (player_in k q) (is.orderly q plays.from_one) free.0 free.1)
-    (new_words k q d.start d.words is.known held.0 data_is.run.short fits) same.1
+    (new_words rules.width k q d.start d.words is.known held.0 data_is.run.short fits) same.1
 
 welcome_allowed : (rules : Rules) (room : ℕ) (past : Past) (m : Memory) (head : HeadValue) (ack : ℕ) (r : Record)
     → (hear_welcome past.known m head ack).keeps ≡ Some r → IsAllowedAfter rules room past r
@@ -293,7 +314,7 @@ welcome_allowed rules room past m head ack r kept =
 
 -- ---- the drop round
 
-freeze_allowed : (rules : Rules) (room : ℕ) (past : Past) (m : Memory) (q : ℕ) (f : FreezeMessage) (r : Record) → IsPast past → Stays past.known
+freeze_allowed : (rules : Rules) (room : ℕ) (past : Past) (m : Memory) (q : ℕ) (f : FreezeMessage) (r : Record) → IsPast rules past → Stays past.known
     → q ≢ past.known.me → IsFreezeMessage f → (hear_freeze past.known m q f).keeps ≡ Some r → IsAllowedAfter rules room past r
 unfolding hear_freeze
 freeze_allowed rules room past m q f r is stays other freeze_is kept =
@@ -306,11 +327,13 @@ freeze_allowed rules room past m q f r is stays other freeze_is kept =
     let tests = or_parts (f.leaver == k.me) (not (is_player k f.leaver)) wrong.0 in
     let plays : Plays k f.leaver = plays_by_test k f.leaver tests.1 in
     let from_two = freeze_is.leaver_from_two in
-    let spelled : HasSpelling new = record {
+    let spelled : HasSpelling rules.width new = record {
+      some_bytes = is.some_width;
       from_one = plays.from_one;
       to_four = to_four k f.leaver is.known plays;
       number = omega arith;
       start = omega arith;
+      few = omega arith;
       short = omega arith;
       parts = tt;
     } in
@@ -321,8 +344,8 @@ freeze_allowed rules room past m q f r is stays other freeze_is kept =
       once = once.0;
     }))
 
-frozen_allowed : (rules : Rules) (room : ℕ) (past : Past) (m : Memory) (q : ℕ) (f : LeaverMessage) (r : Record) → IsPast past → Stays past.known
-    → IsLeaverMessage f → AreWords f.words → (hear_frozen past.known m q f).keeps ≡ Some r → IsAllowedAfter rules room past r
+frozen_allowed : (rules : Rules) (room : ℕ) (past : Past) (m : Memory) (q : ℕ) (f : LeaverMessage) (r : Record) → IsPast rules past → Stays past.known
+    → IsLeaverMessage rules.width f → AreInputs rules.width f.words → (hear_frozen past.known m q f).keeps ≡ Some r → IsAllowedAfter rules room past r
 unfolding hear_frozen
 frozen_allowed rules room past m q f r is stays frozen_is fits kept =
     let k : KnownValue = past.known in
@@ -338,7 +361,7 @@ frozen_allowed rules room past m q f r is stays frozen_is fits kept =
     got_allowed rules room past (record m { chair = with_report m.chair f.leaver q f.length }) f.leaver
     (fresh_words k f.leaver f.start f.words) r is stays plays
     (λ same. omega (arith, same, one, from_two)) (uncut_by_test (player_in k f.leaver).cut whole.0)
-    (new_words k f.leaver f.start f.words is.known held.0 frozen_is.run.short fits) held.1
+    (new_words rules.width k f.leaver f.start f.words is.known held.0 frozen_is.run.short fits) held.1
 
 -- what the tests of a CUT of another player leave, at a peer that is not player one and has not cut the list
 record IsCutHere (k : KnownValue) (c : LeaverMessage) : Type 0 where
@@ -348,9 +371,9 @@ record IsCutHere (k : KnownValue) (c : LeaverMessage) : Type 0 where
   frozen : (player_in k c.leaver).frozen ≡ true
   uncut : (player_in k c.leaver).cut ≡ None
 
-cut_or_got_allowed : (rules : Rules) (room : ℕ) (past : Past) (m : Memory) (c : LeaverMessage) (words : List ℕ) (r : Record) → IsPast past
+cut_or_got_allowed : (rules : Rules) (room : ℕ) (past : Past) (m : Memory) (c : LeaverMessage) (words : List ℕ) (r : Record) → IsPast rules past
     → Stays past.known
-    → IsLeaverMessage c → IsCutHere past.known c → IsNew past.known c.leaver words
+    → IsLeaverMessage rules.width c → IsCutHere past.known c → IsNew rules.width past.known c.leaver words
     → (cut_or_got past.known m c.leaver c.length words).keeps ≡ Some r → IsAllowedAfter rules room past r
 cut_or_got_allowed rules room past m c words r is stays cut_is here new kept =
     let k : KnownValue = past.known in
@@ -361,12 +384,14 @@ cut_or_got_allowed rules room past m c words r is stays cut_is here new kept =
     let sum : count + length words ≡ c.length = eqb-true (count + length words) c.length ends in
     let from_two = cut_is.leaver_from_two in
     let longest = cut_is.length in
-    let spelled : HasSpelling cut_here = record {
+    let spelled : HasSpelling rules.width cut_here = record {
+      some_bytes = is.some_width;
       from_one = here.plays.from_one;
       to_four = to_four k c.leaver is.known here.plays;
       number = omega (arith, longest);
       start = count_fits k c.leaver is.known;
-      short = omega (arith, length-spelled_words words, new.short);
+      few = few_words rules.width words new.short;
+      short = short_words rules.width words new.short;
       parts = new.fits;
     } in
     the_record rules room past cut_here r recorded (allowed rules room past cut_here is stays here.plays spelled (record {
@@ -381,8 +406,9 @@ cut_or_got_allowed rules room past m c words r is stays cut_is here new kept =
     })))
     (λ more got_these. got_allowed rules room past m c.leaver words r is stays here.plays here.other here.uncut new got_these)
 
-end_allowed : (rules : Rules) (room : ℕ) (past : Past) (m : Memory) (c : LeaverMessage) (o : Option ℕ) (r : Record) → IsPast past → Stays past.known
-    → IsLeaverMessage c → AreWords c.words → (o ≡ None → IsCutHere past.known c) → (hear_end past.known m c o).keeps ≡ Some r
+end_allowed : (rules : Rules) (room : ℕ) (past : Past) (m : Memory) (c : LeaverMessage) (o : Option ℕ) (r : Record) → IsPast rules past
+    → Stays past.known
+    → IsLeaverMessage rules.width c → AreInputs rules.width c.words → (o ≡ None → IsCutHere past.known c) → (hear_end past.known m c o).keeps ≡ Some r
     → IsAllowedAfter rules room past r
 end_allowed rules room past m c (Some K) r is stays cut_is fits here kept =
     either_way (K == c.length) _ _ r (IsAllowedAfter rules room past r) kept (λ same none. absurd cc) (λ other none. absurd cc)
@@ -391,29 +417,32 @@ end_allowed rules room past m c None r is stays cut_is fits here kept =
     let fewer = failed (nat_lt c.length (count_in k c.leaver)) m _ _ r kept in
     let held = past_misfit m (misfit k c.leaver c.start c.words) _ r fewer.1 in
     cut_or_got_allowed rules room past m c (fresh_words k c.leaver c.start c.words) r is stays cut_is (here refl)
-    (new_words k c.leaver c.start c.words is.known held.0 cut_is.run.short fits) held.1
+    (new_words rules.width k c.leaver c.start c.words is.known held.0 cut_is.run.short fits) held.1
 
 -- player one has cut the own player
-out_allowed : (rules : Rules) (room : ℕ) (past : Past) (r : Record) → IsPast past → past.known.me ≢ 1
+out_allowed : (rules : Rules) (room : ℕ) (past : Past) (r : Record) → IsPast rules past → past.known.me ≢ 1
     → (player_in past.known past.known.me).leaving ≡ false
     → Some (Leave past.known.me) ≡ Some r → IsAllowedAfter rules room past r
 out_allowed rules room past r is elsewhere stays kept =
     let k : KnownValue = past.known in
     let new : Record = Leave k.me in
-    let spelled : HasSpelling new = record {
+    let spelled : HasSpelling rules.width new = record {
+      some_bytes = is.some_width;
       from_one = is.known.me.from_one;
       to_four = to_four k k.me is.known is.known.me;
       number = omega arith;
       start = omega arith;
+      few = omega arith;
       short = omega arith;
       parts = tt;
     } in
     the_record rules room past new r kept (allowed rules room past new is (λ other. stays) is.known.me spelled
     (record { not_one = elsewhere; elsewhere = λ other. refl; once = stays }))
 
-cut_allowed : (rules : Rules) (room : ℕ) (past : Past) (m : Memory) (q : ℕ) (c : LeaverMessage) (r : Record) → IsPast past
+cut_allowed : (rules : Rules) (room : ℕ) (past : Past) (m : Memory) (q : ℕ) (c : LeaverMessage) (r : Record) → IsPast rules past
     → (player_in past.known past.known.me).leaving ≡ false
-    → q ≢ past.known.me → IsLeaverMessage c → AreWords c.words → (hear_cut past.known m q c).keeps ≡ Some r → IsAllowedAfter rules room past r
+    → q ≢ past.known.me → IsLeaverMessage rules.width c → AreInputs rules.width c.words → (hear_cut past.known m q c).keeps ≡ Some r
+    → IsAllowedAfter rules room past r
 unfolding hear_cut
 cut_allowed rules room past m q c r is stays other cut_is fits kept =
     let k : KnownValue = past.known in
@@ -442,8 +471,9 @@ record IsFromOther (k : KnownValue) (q : ℕ) : Type 0 where
   other : q ≢ k.me
 
 message_allowed : (rules : Rules) (t : Told) (room : ℕ) (past : Past) (m : Memory) (head : HeadValue) (message : Message) (r : Record)
-    → IsPast past → (player_in past.known past.known.me).leaving ≡ false
-    → IsFromOther past.known head.from → IsMessage message → Fits message → (hear_message rules t past.known m head message).keeps ≡ Some r
+    → IsPast rules past → (player_in past.known past.known.me).leaving ≡ false
+    → IsFromOther past.known head.from → IsMessage rules.width message → Fits rules.width message
+    → (hear_message rules t past.known m head message).keeps ≡ Some r
     → IsAllowedAfter rules room past r
 message_allowed rules t room past m head packets.Hello r is stays from means fits kept = absurd cc
 message_allowed rules t room past m head (packets.Welcome ack) r is stays from means fits kept = welcome_allowed rules room past m head ack r kept
@@ -472,25 +502,33 @@ seen_allowed rules room past m head ack r kept =
 FromOthers : KnownValue → Memory → Type 0
 FromOthers k m = (head : HeadValue) → links.refusal m.links head ≡ None → IsFromOther k head.from
 
-from_allowed : (rules : Rules) (t : Told) (room : ℕ) (past : Past) (m : Memory) (p : Packet) (heard : Option ℕ) (r : Record) → IsPast past
+from_allowed : (rules : Rules) (t : Told) (room : ℕ) (past : Past) (m : Memory) (p : Packet) (heard : Option ℕ) (r : Record) → IsPast rules past
     → (player_in past.known past.known.me).leaving ≡ false
-    → FromOthers past.known m → IsPacket p → (hear_from rules t past.known m p heard).keeps ≡ Some r → IsAllowedAfter rules room past r
+    → FromOthers past.known m → p.head.width ≡ rules.width → IsPacket p → (hear_from rules t past.known m p heard).keeps ≡ Some r
+    → IsAllowedAfter rules room past r
 unfolding FromOthers
-from_allowed rules t room past m p (Some ack) r is stays others call_is kept = seen_allowed rules room past m p.head ack r kept
-from_allowed rules t room past m p None r is stays others call_is kept =
+from_allowed rules t room past m p (Some ack) r is stays others same call_is kept = seen_allowed rules room past m p.head ack r kept
+from_allowed rules t room past m p None r is stays others same call_is kept =
     let admitted = past_hand m (links.refusal m.links p.head) (hear_message rules t past.known m p.head p.message) r kept in
-    message_allowed rules t room past m p.head p.message r is stays (others p.head admitted.0) call_is.message call_is.fits admitted.1
+    message_allowed rules t room past m p.head p.message r is stays (others p.head admitted.0)
+    (subst (λ (width : ℕ). IsMessage width p.message) same call_is.message) (subst (λ (width : ℕ). Fits width p.message) same call_is.fits) admitted.1
 
-told_allowed : (rules : Rules) (t : Told) (room : ℕ) (past : Past) (m : Memory) (told : Result Packet WireError) (r : Record) → IsPast past
+-- a datagram of the game's format has inputs of the game's width
+own_width : (rules : Rules) (head : HeadValue) → is_of_other_wire rules head ≡ false → head.width ≡ rules.width
+own_width rules head own =
+    let tests = or_parts (not (version_number head.version == version_number rules.wire)) (not (head.width == rules.width)) own in
+    eqb-true head.width rules.width (not-false (head.width == rules.width) tests.1)
+
+told_allowed : (rules : Rules) (t : Told) (room : ℕ) (past : Past) (m : Memory) (told : Result Packet WireError) (r : Record) → IsPast rules past
     → (player_in past.known past.known.me).leaving ≡ false
     → FromOthers past.known m → IsCall (Deliver told) → (hear_told rules t past.known m told).keeps ≡ Some r → IsAllowedAfter rules room past r
 unfolding FromOthers
 told_allowed rules t room past m (Err error) r is stays others call_is kept = absurd cc
 told_allowed rules t room past m (Ok p) r is stays others call_is kept =
     let own = failed (is_of_other_wire rules p.head) m _ _ r kept in
-    from_allowed rules t room past m p (seen_in p.message) r is stays others call_is own.1
+    from_allowed rules t room past m p (seen_in p.message) r is stays others (own_width rules p.head own.0) call_is own.1
 
-deliver_allowed : (rules : Rules) (t : Told) (room : ℕ) (past : Past) (m : Memory) (told : Result Packet WireError) (r : Record) → IsPast past
+deliver_allowed : (rules : Rules) (t : Told) (room : ℕ) (past : Past) (m : Memory) (told : Result Packet WireError) (r : Record) → IsPast rules past
     → FromOthers past.known m → IsCall (Deliver told) → (deliver rules t past.known m told).keeps ≡ Some r → IsAllowedAfter rules room past r
 deliver_allowed rules t room past m told r is others call_is kept =
     let stays = failed (player_in past.known past.known.me).leaving m _ _ r kept in
@@ -520,10 +558,11 @@ show_allowed rules room past m watcher r kept =
     let none = other.1 in
     absurd cc
 
-call_allowed : (rules : Rules) (t : Told) (room : ℕ) (past : Past) (m : Memory) (call : Call) (r : Record) → IsPast past → FromOthers past.known m
+call_allowed : (rules : Rules) (t : Told) (room : ℕ) (past : Past) (m : Memory) (call : Call) (r : Record) → IsPast rules past
+    → FromOthers past.known m
     → ((checkpoint t past.known m).keeps ≡ Some r → IsAllowedAfter rules room past r) → IsCall call
     → (outcome rules t past.known m call).keeps ≡ Some r → IsAllowedAfter rules room past r
-call_allowed rules t room past m (Tick keys) r is others checkpoints call_is kept = tick_allowed rules room past m keys r is call_is kept
+call_allowed rules t room past m (Tick input) r is others checkpoints call_is kept = tick_allowed rules room past m input r is kept
 call_allowed rules t room past m (Deliver told) r is others checkpoints call_is kept =
     deliver_allowed rules t room past m told r is others call_is kept
 call_allowed rules t room past m (Say to what) r is others checkpoints call_is kept = say_allowed rules t room past m to what r kept
@@ -551,7 +590,7 @@ from_others rules me room journal m memory head admitted =
 
 checkpoint_allowed : (rules : Rules) (me room : ℕ) (journal : List Record) (m : Memory) (r : Record) → AreInRange rules → 1 ≤ me
     → me ≤ rules.players → IsJournal rules me room journal → IsMemory rules room me journal m
-    → IsPast (past_of rules me journal) → (checkpoint (told_of rules me journal) (known_of rules me journal) m).keeps ≡ Some r
+    → IsPast rules (past_of rules me journal) → (checkpoint (told_of rules me journal) (known_of rules me journal) m).keeps ≡ Some r
     → IsAllowed rules me room journal r
 checkpoint_allowed rules me room journal m r range from to is memory past_is kept =
     let next = adds_next rules me room journal m r range from to is memory.saving kept in
@@ -563,7 +602,9 @@ pub keeps_allowed : (rules : Rules) (me room : ℕ) (journal : List Record) (m :
     → AreInRange rules → 1 ≤ me → me ≤ rules.players → IsJournal rules me room journal → IsMemory rules room me journal m → IsCall call
     → (outcome rules (told_of rules me journal) (known_of rules me journal) m call).keeps ≡ Some r → IsAllowed rules me room journal r
 keeps_allowed rules me room journal m call r range from to is memory call_is kept =
-    let past_is : IsPast (past_of rules me journal) = record {
+    let past_is : IsPast rules (past_of rules me journal) = record {
+      some_width = range.some_width;
+      wide = range.width;
       known = journal_known rules me room journal range from to is;
       orderly = journal_orderly rules me room journal is;
       some = some_record m.links.epoch journal memory.epoch;

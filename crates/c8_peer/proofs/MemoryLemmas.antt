@@ -124,6 +124,7 @@ with_rest rules room me journal m chair stayer alarm is = record {
   player = is.player;
   players = is.players;
   version = is.version;
+  width = is.width;
   session = is.session;
   epoch = is.epoch;
   epoch_fits = is.epoch_fits;
@@ -140,6 +141,7 @@ with_acks rules room me journal m q n is few = record {
   player = is.player;
   players = is.players;
   version = is.version;
+  width = is.width;
   session = is.session;
   epoch = is.epoch;
   epoch_fits = is.epoch_fits;
@@ -156,6 +158,7 @@ with_heard rules room me journal m head is low = record {
   player = is.player;
   players = is.players;
   version = is.version;
+  width = is.width;
   session = is.session;
   epoch = is.epoch;
   epoch_fits = is.epoch_fits;
@@ -177,6 +180,7 @@ with_shown rules room me journal m watcher n is few = record {
   player = is.player;
   players = is.players;
   version = is.version;
+  width = is.width;
   session = is.session;
   epoch = is.epoch;
   epoch_fits = is.epoch_fits;
@@ -213,11 +217,12 @@ Checks M m = (answer : Result Check CheckError) (keeps : Option Record) → M (r
 abbrev Delivers : (Outcome → Type 0) → Memory → Type 0
 Delivers M m = (answer : Result Heard Refused) (keeps : Option Record) → M (record { reply = Delivered answer; keeps = keeps; memory = m })
 
-pub tick_is : (M : Outcome → Type 0) (rules : Rules) (k : KnownValue) (m : Memory) (keys : ℕ) → Ticks M m → M (tick rules k m keys)
+pub tick_is : (M : Outcome → Type 0) (rules : Rules) (k : KnownValue) (m : Memory) (input : ℕ) → Ticks M m → M (tick rules k m input)
 unfolding tick
-tick_is M rules k m keys is =
+tick_is M rules k m input is =
     either M (player_in k k.me).leaving _ _ (is _ _) (either M (nat_le rules.frames k.ticks) _ _ (is _ _)
-    (either M (nat_le (confirmed k + rules.window) k.ticks) _ _ (is _ _) (is _ _)))
+    (either M (nat_le (confirmed k + rules.window) k.ticks) _ _ (is _ _)
+    (either M (nat_le (256 ^ rules.width) input) _ _ (is _ _) (is _ _))))
 
 pub leave_is : (M : Outcome → Type 0) (k : KnownValue) (m : Memory) (leaver : ℕ) → Leaves M m → M (leave k m leaver)
 unfolding leave
@@ -387,8 +392,8 @@ pub memory_kept : (rules : Rules) (me room : ℕ) (journal : List Record) (m : M
     → AreInRange rules → 1 ≤ me → me ≤ rules.players → IsJournal rules me room journal
     → IsMemory rules room me journal m → IsCall call
     → IsMemory rules room me journal (outcome rules (told_of rules me journal) (known_of rules me journal) m call).memory
-memory_kept rules me room journal m (Tick keys) range from to journal_is is fits =
-    tick_is (Keeps rules room me journal) rules (known_of rules me journal) m keys (λ answer keeps. is)
+memory_kept rules me room journal m (Tick input) range from to journal_is is fits =
+    tick_is (Keeps rules room me journal) rules (known_of rules me journal) m input (λ answer keeps. is)
 memory_kept rules me room journal m (Deliver (Err error)) range from to journal_is is fits =
     no_packet_is (Keeps rules room me journal) rules (told_of rules me journal) (known_of rules me journal) m error (λ answer keeps. is)
 memory_kept rules me room journal m (Deliver (Ok p)) range from to journal_is is fits =
@@ -414,6 +419,7 @@ memory_more rules room me journal r m range from to journal_is is saving = recor
   player = is.player;
   players = is.players;
   version = is.version;
+  width = is.width;
   session = is.session;
   epoch = epoch_stays m.links.epoch journal (r ∷ []) is.epoch;
   epoch_fits = is.epoch_fits;

@@ -22,7 +22,7 @@ one_opening rules room me found Stands Spent one other served also = absurd (let
 one_opening rules room me found (Unfit error) NoPlayer one other served also = absurd (let plays = one.1 in omega (arith, other, plays))
 one_opening rules room me found (Unfit error) Stands one other served also = absurd (journal_not_refused rules me room found error other.0 one.0)
 one_opening rules room me found (Unfit error) (Unfit why) one other served also =
-    ap Unfit (one_refusal rules me room (map body_of found) error why one.0 other.0)
+    ap Unfit (one_refusal rules me room (map (body_of rules.width) found) error why one.0 other.0)
 one_opening rules room me found (Unfit error) Spent one other served also = absurd (journal_not_refused rules me room found error other.0 one.0)
 one_opening rules room me found Spent NoPlayer one other served also = absurd (let plays = one.2 in omega (arith, other, plays))
 one_opening rules room me found Spent Stands one other served also = absurd (let many = one.1 in let few = other.1 in omega (arith, few, many))

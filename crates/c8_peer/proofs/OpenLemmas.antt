@@ -128,7 +128,7 @@ module _ {D : Type 0} (g : Ghosts D) (disk mid : D) (rules : Rules) (room me : �
   not_written : (left : D) → IsNotWritten g mid rules room me left → IsNotWritten g disk rules room me left
   not_written left is = record {
     bodies = subst (AreJournalBodies rules me room) same is.bodies;
-    not_spent = subst (λ (bodies : List (List ℕ)). epoch (records_of bodies) < last_epoch) same is.not_spent;
+    not_spent = subst (λ (bodies : List (List ℕ)). epoch (records_of rules.width bodies) < last_epoch) same is.not_spent;
     leaves = subst (λ (bodies : List (List ℕ)). AllKeepBodies bodies (Some (opening_body rules room me bodies)) (g.may_leave left)) same is.leaves;
   }
 
@@ -150,7 +150,7 @@ module _ {D : Type 0} (g : Ghosts D) (disk mid : D) (rules : Rules) (room me : �
   refused_beginning left opens.Memory are settled first unfailed asks none = absurd none
   refused_beginning left opens.EpochsSpent are settled first unfailed asks is = record {
     bodies = are;
-    spent = subst (λ (bodies : List (List ℕ)). last_epoch ≤ epoch (records_of bodies)) same is.0;
+    spent = subst (λ (bodies : List (List ℕ)). last_epoch ≤ epoch (records_of rules.width bodies)) same is.0;
     settled = subst (IsSettled g disk) (sym is.1) settled;
     asks = subst (Asks g (AllRead g disk rules room me) (Ok tt) disk) (sym is.1) asks;
   }
@@ -173,8 +173,8 @@ module _ {D : Type 0} (g : Ghosts D) (disk mid : D) (rules : Rules) (room me : �
     none_pending = is.none_pending;
     up = is.up;
     number_is = is.number_is ∙ ap (λ (bodies : List (List ℕ)). epoch
-        (records_of bodies ++ opening_record rules room me (records_of bodies) ∷ [])) same;
-    not_spent = subst (λ (bodies : List (List ℕ)). epoch (records_of bodies) < last_epoch) same is.not_spent;
+        (records_of rules.width bodies ++ opening_record rules room me (records_of rules.width bodies) ∷ [])) same;
+    not_spent = subst (λ (bodies : List (List ℕ)). epoch (records_of rules.width bodies) < last_epoch) same is.not_spent;
   }
 
   pub leaves_opening : ((disk : D) → g.may_leave disk (g.seen disk)) → (left : D) → LeavesOnly g disk mid (KeepsOneOf (g.may_leave disk))
@@ -196,10 +196,10 @@ module _ {D : Type 0} (g : Ghosts D) (disk mid : D) (rules : Rules) (room me : �
 -- the frames of its checkpoint are confirmed
 pub begins_confirmed : {D : Type 0} (g : Ghosts D) (disk : D) (rules : Rules) (room me : ℕ) (k : KnownValue) (checks : ChecksValue)
     (log : LogValue D) (last : ℕ) (from : Origin) → IsRead g disk rules room me k checks log last
-    → from ≡ or_first rules checks.last → AreInOrder (checks_of (records_of (bodies_found g disk)))
-    (known_of rules me (records_of (bodies_found g disk))) → from.frames ≤ confirmed k
+    → from ≡ or_first rules checks.last → AreInOrder (checks_of (records_of rules.width (bodies_found g disk)))
+    (known_of rules me (records_of rules.width (bodies_found g disk))) → from.frames ≤ confirmed k
 begins_confirmed g disk rules room me k checks log last from read at are =
-    let found : List Record = records_of (bodies_found g disk) in
+    let found : List Record = records_of rules.width (bodies_found g disk) in
     let there : from ≡ or_first rules (checks_of found).last = at ∙ ap (λ (c : ChecksValue). or_first rules c.last) read.checks_are in
     subst (λ (now : KnownValue). from.frames ≤ confirmed now) (sym read.known)
     (subst (λ (o : Origin). o.frames ≤ confirmed (known_of rules me found)) (sym there)
@@ -210,19 +210,22 @@ module _ {D : Type 0} (g : Ghosts D) (disk : D) (rules : Rules) (room me : ℕ) 
     (k : KnownValue) (checks : ChecksValue) (log : LogValue D) (last : ℕ) (read : IsRead g disk rules room me k checks log last)
     (journal : JournalValue D) (number : ℕ) (begun : IsBegun g disk rules room me journal number)
     (m : Memory) (fresh : m ≡ fresh_memory rules room me number) where
-  longer : records_of journal.bodies ≡ records_of (bodies_found g disk) ++ opening_record rules room me (records_of (bodies_found g disk)) ∷ []
+  longer : records_of rules.width journal.bodies ≡ records_of rules.width (bodies_found g disk) ++ opening_record rules room me
+      (records_of rules.width (bodies_found g disk)) ∷ []
   longer =
-      let may = opening_allowed rules me room (records_of (bodies_found g disk)) range from_one in_game low read.bodies.journal begun.not_spent in
-      ap records_of begun.bodies ∙ one_body_more (bodies_found g disk) (opening_record rules room me (records_of (bodies_found g disk))) may.spelled
+      let may = opening_allowed rules me room (records_of rules.width (bodies_found g disk)) range from_one in_game low read.bodies.journal
+      begun.not_spent in
+      ap (records_of rules.width) begun.bodies ∙ one_body_more rules.width (bodies_found g disk) (opening_record rules room me
+      (records_of rules.width (bodies_found g disk))) may.spelled
 
   in_epoch : m ≡ fresh_memory rules room me
-      (epoch (records_of (bodies_found g disk) ++ opening_record rules room me (records_of (bodies_found g disk)) ∷ []))
+      (epoch (records_of rules.width (bodies_found g disk) ++ opening_record rules room me (records_of rules.width (bodies_found g disk)) ∷ []))
   in_epoch = fresh ∙ ap (fresh_memory rules room me) begun.number_is
 
   pub peer_opened : IsPeer rules room journal k m
   unfolding known_of
   peer_opened =
-      let before : List Record = records_of (bodies_found g disk) in
+      let before : List Record = records_of rules.width (bodies_found g disk) in
       let new : Record = opening_record rules room me before in
       let may = opening_allowed rules me room before range from_one in_game low read.bodies.journal begun.not_spent in
       subst (λ (known : KnownValue). IsPeer rules room journal known m) (sym read.known) (record {
@@ -240,20 +243,20 @@ module _ {D : Type 0} (g : Ghosts D) (disk : D) (rules : Rules) (room me : ℕ) 
       })
 
   -- where its machine begins
-  begins : begun_at rules (records_of journal.bodies) ≡ or_first rules checks.last
-  begins = ap (begun_at rules) longer ∙ new_beginning rules room me (records_of (bodies_found g disk))
+  begins : begun_at rules (records_of rules.width journal.bodies) ≡ or_first rules checks.last
+  begins = ap (begun_at rules) longer ∙ new_beginning rules room me (records_of rules.width (bodies_found g disk))
       ∙ ap (λ (c : ChecksValue). or_first rules c.last) (sym read.checks_are)
 
   pub rolled_opened : (c : ChecksValue) (v : RollValue) (from : Origin) (ran : ℕ) → from ≡ or_first rules checks.last
       → from.frames ≤ confirmed k → c ≡ with_form checks second_form → v ≡ roll_since rules from k → ran + from.frames ≡ k.ticks
-      → IsRolled rules (records_of journal.bodies) k c v ran
+      → IsRolled rules (records_of rules.width journal.bodies) k c v ran
   rolled_opened c v from ran at starts noted rolls runs =
-      let same : begun_at rules (records_of journal.bodies) ≡ from = begins ∙ sym at in
+      let same : begun_at rules (records_of rules.width journal.bodies) ≡ from = begins ∙ sym at in
       record {
         starts = rw same starts;
         roll = rolls ∙ ap (λ (o : Origin). roll_since rules o k) (sym same);
         checks_are = noted ∙ ap (λ (x : ChecksValue). with_form x second_form) read.checks_are
-            ∙ sym (new_form rules room me (records_of (bodies_found g disk))) ∙ ap checks_of (sym longer);
+            ∙ sym (new_form rules room me (records_of rules.width (bodies_found g disk))) ∙ ap checks_of (sym longer);
         bound = inr (rw same runs);
       }
 
@@ -263,10 +266,16 @@ module _ {D : Type 0} (g : Ghosts D) (disk : D) (rules : Rules) (room me : ℕ) 
   opened_peer from ran at runs sound same asks = record {
     rules_are = refl;
     room_is = refl;
-    me_is = ap (λ (known : KnownValue). known.me) read.known ∙ (of_game rules me (records_of (bodies_found g disk))).player;
+    me_is = ap (λ (known : KnownValue). known.me) read.known ∙ (of_game rules me (records_of rules.width (bodies_found g disk))).player;
     opening = λ s i. record {
       reply = Opened (Ok (epoch (longer i)));
-      state = record { journal = longer i; pending = option_map record_of (begun.none_pending i); mode = mode_of (begun.up i); memory = in_epoch i };
+      state = record {
+        journal = longer i;
+        pending = option_map (record_of rules.width) (begun.none_pending i);
+        mode = mode_of (begun.up i);
+        memory
+            = in_epoch i;
+      };
     };
     may = (read.bodies.journal, begun.not_spent, in_game);
     bodies = read.bodies;

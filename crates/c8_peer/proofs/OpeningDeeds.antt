@@ -22,7 +22,7 @@ use Rattle.c8_peer.specs.Runs.{Opens, as_answered, IsDone, Tells, IsRefusedDeed,
 module _ {D : Type 0} (g : Ghosts D) where
   pub opened_deed : (disk : D) (rules : Rules) (room me : ℕ) (s : State) (finds : Bool) (p : PeerValue D) → IsOpened g disk rules room me p
       → (s.mode ≡ Open → ⊥)
-      → records_of (kept (g.seen disk)) ≡ found s finds
+      → records_of rules.width (kept (g.seen disk)) ≡ found s finds
       → IsDone rules room me s (Opens finds Stands) (Some (Opened (Ok (epoch p.state.journal)))) p.state
   opened_deed disk rules room me s finds p is shut reads = record {
     may = (shut, subst (λ (f : List Record). MayBecome rules room me f Stands) reads is.may);
@@ -32,36 +32,36 @@ module _ {D : Type 0} (g : Ghosts D) where
   -- the opening refuses what it found, and nothing is pending
   unfit_deed : (disk left : D) (rules : Rules) (room me : ℕ) (s : State) (finds : Bool) (error : ReplayError) → me ≤ rules.players
       → IsUnfit g disk rules room me error left → (s.mode ≡ Open → ⊥)
-      → Keeps (found s finds) (g.seen disk) → IsDone rules room me s (Opens finds (Unfit error))
+      → Keeps rules.width (found s finds) (g.seen disk) → IsDone rules room me s (Opens finds (Unfit error))
       (Some (opened rules room me s (found s finds) (Unfit error)).reply) (opened rules room me s (found s finds) (Unfit error)).state
   unfit_deed disk left rules room me s finds error within is shut keeps = record {
     may = (shut, (subst (λ (bodies : List (List ℕ)). IsRefusal rules me room bodies error) keeps is.0, within));
     is = refl;
   }
 
-  settled : (disk left : D) (s : State) (finds : Bool) (f : List Record) → f ≡ found s finds → IsSettled g disk left
-      → Keeps (found s finds) (g.seen disk)
-      → (image : List ℕ) → g.may_leave left image → Keeps f image
-  settled disk left s finds f same is keeps image may = is.keeps image may ∙ keeps ∙ ap (map body_of) (sym same)
+  settled : (disk left : D) (width : ℕ) (s : State) (finds : Bool) (f : List Record) → f ≡ found s finds → IsSettled g disk left
+      → Keeps width (found s finds) (g.seen disk)
+      → (image : List ℕ) → g.may_leave left image → Keeps width f image
+  settled disk left width s finds f same is keeps image may = is.keeps image may ∙ keeps ∙ ap (map (body_of width)) (sym same)
 
   refused_for : (disk left : D) (rules : Rules) (room me : ℕ) (s : State) (finds : Bool) (error : OpenError) → me ≤ rules.players
       → IsRefusedFor g disk rules room me error left → (s.mode ≡ Open → ⊥)
-      → Keeps (found s finds) (g.seen disk) → records_of (kept (g.seen disk)) ≡ found s finds → Tells g s disk
+      → Keeps rules.width (found s finds) (g.seen disk) → records_of rules.width (kept (g.seen disk)) ≡ found s finds → Tells g rules.width s disk
       → IsRefusedDeed g rules room me s finds error left
   refused_for disk left rules room me s finds opens.WrongGame within is shut keeps reads tells = record {
     opening = Unfit replays.WrongGame;
     deed = unfit_deed disk left rules room me s finds replays.WrongGame within is shut keeps;
-    tells = λ image may. (false, settled disk left s finds (found s finds) refl is.1 keeps image may);
+    tells = λ image may. (false, settled disk left rules.width s finds (found s finds) refl is.1 keeps image may);
   }
   refused_for disk left rules room me s finds opens.WrongPlayer within is shut keeps reads tells = record {
     opening = Unfit replays.WrongPlayer;
     deed = unfit_deed disk left rules room me s finds replays.WrongPlayer within is shut keeps;
-    tells = λ image may. (false, settled disk left s finds (found s finds) refl is.1 keeps image may);
+    tells = λ image may. (false, settled disk left rules.width s finds (found s finds) refl is.1 keeps image may);
   }
   refused_for disk left rules room me s finds (opens.BadRecord n) within is shut keeps reads tells = record {
     opening = Unfit (replays.BadRecord n);
     deed = unfit_deed disk left rules room me s finds (replays.BadRecord n) within is shut keeps;
-    tells = λ image may. (false, settled disk left s finds (found s finds) refl is.1 keeps image may);
+    tells = λ image may. (false, settled disk left rules.width s finds (found s finds) refl is.1 keeps image may);
   }
   refused_for disk left rules room me s finds opens.EpochsSpent within is shut keeps reads tells = record {
     opening = Spent;
@@ -76,7 +76,7 @@ module _ {D : Type 0} (g : Ghosts D) where
       );
       is = refl;
     };
-    tells = λ image may. (false, settled disk left s finds (found s finds) refl is.settled keeps image may);
+    tells = λ image may. (false, settled disk left rules.width s finds (found s finds) refl is.settled keeps image may);
   }
   refused_for disk left rules room me s finds opens.Memory within is shut keeps reads tells = record {
     opening = NoMemory;
@@ -113,8 +113,9 @@ module _ {D : Type 0} (g : Ghosts D) where
                   true,
                   with
                       ∙ ap (λ (bodies : List (List ℕ)). bodies ++ opening_body rules room me (kept (g.seen disk)) ∷ []) keeps
-                      ∙ ap (λ (f : List Record). map body_of (found s finds) ++ body_of (opening_record rules room me f) ∷ []) reads
-                      ∙ sym (map-append body_of (found s finds) (opening_record rules room me (found s finds) ∷ [])),
+                      ∙ ap (λ (f : List Record). map (body_of rules.width) (found s finds) ++ body_of rules.width (opening_record rules room me f)
+                      ∷ []) reads
+                      ∙ sym (map-append (body_of rules.width) (found s finds) (opening_record rules room me (found s finds) ∷ [])),
                 )
               ];
         }
@@ -122,7 +123,7 @@ module _ {D : Type 0} (g : Ghosts D) where
 
   pub refused_deed : (disk left : D) (rules : Rules) (room me : ℕ) (s : State) (finds : Bool) (error : OpenError)
       → IsRefusedOpening g disk rules room me error left → (s.mode ≡ Open → ⊥)
-      → Keeps (found s finds) (g.seen disk) → records_of (kept (g.seen disk)) ≡ found s finds → Tells g s disk
+      → Keeps rules.width (found s finds) (g.seen disk) → records_of rules.width (kept (g.seen disk)) ≡ found s finds → Tells g rules.width s disk
       → IsRefusedDeed g rules room me s finds error left
   refused_deed disk left rules room me s finds error is shut keeps reads tells =
       elim is [
@@ -140,7 +141,7 @@ module _ {D : Type 0} (g : Ghosts D) where
   -- a crash inside an opening
   pub stopped_deed : (disk : D) (rules : Rules) (room me : ℕ) (s : State) (finds : Bool) (image : List ℕ)
       → OpeningLeaves g disk rules room me image → me ≤ rules.players → (s.mode ≡ Open → ⊥)
-      → Keeps (found s finds) (g.seen disk) → records_of (kept (g.seen disk)) ≡ found s finds → Tells g s disk
+      → Keeps rules.width (found s finds) (g.seen disk) → records_of rules.width (kept (g.seen disk)) ≡ found s finds → Tells g rules.width s disk
       → IsStoppedOpening rules room me s image
   stopped_deed disk rules room me s finds image left within shut keeps reads tells =
       elim left [
@@ -161,7 +162,7 @@ module _ {D : Type 0} (g : Ghosts D) where
           );
           keeps = added.1
               ∙ ap (λ (bodies : List (List ℕ)). bodies ++ opening_body rules room me (kept (g.seen disk)) ∷ []) keeps
-              ∙ ap (λ (f : List Record). map body_of (found s finds) ++ body_of (opening_record rules room me f) ∷ []) reads
-              ∙ sym (map-append body_of (found s finds) (opening_record rules room me (found s finds) ∷ []));
+              ∙ ap (λ (f : List Record). map (body_of rules.width) (found s finds) ++ body_of rules.width (opening_record rules room me f) ∷ []) reads
+              ∙ sym (map-append (body_of rules.width) (found s finds) (opening_record rules room me (found s finds) ∷ []));
         }
       ]

@@ -32,26 +32,30 @@ me_plays : (rules : Rules) (me : ℕ) (found : List Record) → 1 ≤ me → me 
 me_plays rules me found from to = record { from_one = from; in_game = omega (arith, to, players_known rules me found) }
 
 head_spelled : (rules : Rules) (me room : ℕ) → AreInRange rules → 1 ≤ me → me ≤ rules.players → room < 2 ^ 64
-    → HasSpelling (Head me second_form (id_of rules) room)
+    → HasSpelling rules.width (Head me second_form (id_of rules) room)
 head_spelled rules me room range from to low =
     let id : List ℕ = id_of rules in
     let long : length id ≡ 32 = digest_length (id_bytes rules) in
     record {
+      some_bytes = range.some_width;
       from_one = from;
       to_four = omega (arith, to, range.at_most_four);
       number = omega arith;
       start = omega arith;
+      few = omega arith;
       short = omega (arith, long, length-append id (bytes_high_first 8 room));
       parts = (inr refl, long, digest_bytes_fit (id_bytes rules), low);
     }
 
 epoch_spelled : (rules : Rules) (me number : ℕ) → AreInRange rules → 1 ≤ me → me ≤ rules.players → number ≤ last_epoch
-    → HasSpelling (Epoch me number second_form)
+    → HasSpelling rules.width (Epoch me number second_form)
 epoch_spelled rules me number range from to low = record {
+  some_bytes = range.some_width;
   from_one = from;
   to_four = omega (arith, to, range.at_most_four);
   number = omega (arith, low);
   start = omega arith;
+  few = omega arith;
   short = omega arith;
   parts = inr refl;
 }
@@ -173,6 +177,7 @@ opening_memory rules me room found range from to is few =
       player = refl;
       players = refl;
       version = refl;
+      width = refl;
       session = refl;
       epoch = ap (λ (number : ℕ). had_epoch number later) last ∙ had_next found new new_epoch.number new_epoch.begins;
       epoch_fits = omega (arith, last, new_epoch.fits);

@@ -50,35 +50,40 @@ same_epoch journal (Check player frames digest) other = absurd cc
 
 -- ---- bodies and records
 
-pub one_body_more : (bodies : List (List ℕ)) (r : Record) → HasSpelling r → records_of (bodies ++ body_of r ∷ []) ≡ records_of bodies ++ r ∷ []
-one_body_more bodies r has = map-append record_of bodies (body_of r ∷ []) ∙ ap (λ (s : Record). records_of bodies ++ s ∷ []) (read_again r has)
+pub one_body_more : (width : ℕ) (bodies : List (List ℕ)) (r : Record) → HasSpelling width r
+    → records_of width (bodies ++ body_of width r ∷ []) ≡ records_of width bodies ++ r ∷ []
+one_body_more width bodies r has =
+    map-append (record_of width) bodies (body_of width r ∷ []) ∙ ap (λ (s : Record). records_of width bodies ++ s ∷ []) (read_again width r has)
 
 pub spellings_more : (rules : Rules) (me room : ℕ) (bodies : List (List ℕ)) (r : Record) → AreJournalBodies rules me room bodies
-    → map body_of (records_of bodies ++ r ∷ []) ≡ bodies ++ body_of r ∷ []
+    → map (body_of rules.width) (records_of rules.width bodies ++ r ∷ []) ≡ bodies ++ body_of rules.width r ∷ []
 spellings_more rules me room bodies r are =
-    map-append body_of (records_of bodies) (r ∷ []) ∙ ap (λ (before : List (List ℕ)). before ++ body_of r ∷ []) (bodies_back bodies are.spelled)
+    map-append (body_of rules.width) (records_of rules.width bodies) (r ∷ []) ∙ ap (λ (before : List (List ℕ)). before ++ body_of rules.width r ∷
+    []) (bodies_back rules.width bodies are.spelled)
 
 pub bodies_more : (rules : Rules) (me room : ℕ) (bodies : List (List ℕ)) (r : Record) → AreJournalBodies rules me room bodies
-    → IsAllowed rules me room (records_of bodies) r
-    → AreJournalBodies rules me room (bodies ++ body_of r ∷ [])
+    → IsAllowed rules me room (records_of rules.width bodies) r
+    → AreJournalBodies rules me room (bodies ++ body_of rules.width r ∷ [])
 bodies_more rules me room bodies r are may =
     subst (AreJournalBodies rules me room) (spellings_more rules me room bodies r are)
-    (journal_bodies rules me room (records_of bodies ++ r ∷ []) (journal_more rules me room (records_of bodies) r are.journal may))
+    (journal_bodies rules me room (records_of rules.width bodies ++ r ∷ []) (journal_more rules me room (records_of rules.width bodies) r
+    are.journal may))
 
 -- what a crash leaves, in terms of records
 pub keeps_records : (rules : Rules) (me room : ℕ) (bodies : List (List ℕ)) (r : Record) → AreJournalBodies rules me room bodies
-    → (image : List ℕ) → KeepsBodies bodies (Some (body_of r)) image → KeepsWithOrWithout (records_of bodies) (Some r) image
+    → (image : List ℕ) → KeepsBodies bodies (Some (body_of rules.width r)) image → KeepsWithOrWithout rules.width (records_of rules.width bodies)
+    (Some r) image
 keeps_records rules me room bodies r are image =
     ⊎_elim
-    (λ without. inl (without ∙ sym (bodies_back bodies are.spelled)))
+    (λ without. inl (without ∙ sym (bodies_back rules.width bodies are.spelled)))
     (λ with. inr (with ∙ sym (spellings_more rules me room bodies r are)))
 
 -- ---- the parts of a peer
 
 module _ {D : Type 0} where
   pub peer_refused : (rules : Rules) (room : ℕ) (old new : JournalValue D) (k : KnownValue) (m : Memory) (r : Record)
-      → IsPeer rules room old k m → IsAllowed rules k.me room (records_of old.bodies) r
-      → new.bodies ≡ old.bodies → new.pending ≡ Some (body_of r) → IsPeer rules room new k m
+      → IsPeer rules room old k m → IsAllowed rules k.me room (records_of rules.width old.bodies) r
+      → new.bodies ≡ old.bodies → new.pending ≡ Some (body_of rules.width r) → IsPeer rules room new k m
   peer_refused rules room old new k m r is may same pending = record {
     range = is.range;
     low = is.low;
@@ -86,37 +91,42 @@ module _ {D : Type 0} where
     in_game = is.in_game;
     bodies = subst (AreJournalBodies rules k.me room) (sym same) is.bodies;
     pending = λ body e.
-        let this : body_of r ≡ body = cc in
-        subst (λ (one : List ℕ). Spells one (record_of one)) this (rw (read_again r may.spelled) (record { has = may.spelled; is = refl }));
+        let this : body_of rules.width r ≡ body = cc in
+        subst (λ (one : List ℕ). Spells rules.width one (record_of rules.width one)) this (rw (read_again rules.width r may.spelled)
+        (record { has = may.spelled; is = refl }));
     pending_may = λ body e.
-        let this : body_of r ≡ body = cc in
-        let reads : r ≡ record_of body = sym (read_again r may.spelled) ∙ ap record_of this in
-        subst (λ (bodies : List (List ℕ)). IsAllowed rules k.me room (records_of bodies) (record_of body)) (sym same)
-        (subst (IsAllowed rules k.me room (records_of old.bodies)) reads may);
-    known = is.known ∙ ap (λ (bodies : List (List ℕ)). known_of rules k.me (records_of bodies)) (sym same);
-    memory = subst (λ (bodies : List (List ℕ)). IsMemory rules room k.me (records_of bodies) m) (sym same) is.memory;
-    last = is.last ∙ ap (λ (bodies : List (List ℕ)). epoch (records_of bodies)) (sym same);
+        let this : body_of rules.width r ≡ body = cc in
+        let reads : r ≡ record_of rules.width body = sym (read_again rules.width r may.spelled) ∙ ap (record_of rules.width) this in
+        subst (λ (bodies : List (List ℕ)). IsAllowed rules k.me room (records_of rules.width bodies) (record_of rules.width body)) (sym same)
+        (subst (IsAllowed rules k.me room (records_of rules.width old.bodies)) reads may);
+    known = is.known ∙ ap (λ (bodies : List (List ℕ)). known_of rules k.me (records_of rules.width bodies)) (sym same);
+    memory = subst (λ (bodies : List (List ℕ)). IsMemory rules room k.me (records_of rules.width bodies) m) (sym same) is.memory;
+    last = is.last ∙ ap (λ (bodies : List (List ℕ)). epoch (records_of rules.width bodies)) (sym same);
   }
 
   pub can_follow : (rules : Rules) (room : ℕ) (journal : JournalValue D) (k : KnownValue) (m : Memory) (r : Record) → IsPeer rules room journal k m
-      → IsAllowed rules k.me room (records_of journal.bodies) r → CanFollow k r
+      → IsAllowed rules k.me room (records_of rules.width journal.bodies) r → CanFollow k r
   unfolding known_of
   can_follow rules room journal k m r is may = record {
     rules = rules;
     room = room;
-    past = past_of rules k.me (records_of journal.bodies);
+    past = past_of rules k.me (records_of rules.width journal.bodies);
     known = sym is.known;
-    of_game = subst (λ (known : KnownValue). IsOfGame rules known.me known) (sym is.known) (of_game rules k.me (records_of journal.bodies));
+    of_game = subst (λ (known : KnownValue). IsOfGame rules known.me known) (sym is.known) (of_game rules k.me
+        (records_of rules.width journal.bodies));
     allowed = may;
   }
 
   pub peer_more : (rules : Rules) (room : ℕ) (old new : JournalValue D) (k later : KnownValue) (m : Memory) (r : Record) → IsPeer rules room old k m
-      → IsAllowed rules k.me room (records_of old.bodies) r → epoch (records_of old.bodies ++ r ∷ []) ≡ epoch (records_of old.bodies)
-      → IsSaving rules k.me (records_of old.bodies ++ r ∷ [])
-      → new.bodies ≡ old.bodies ++ body_of r ∷ [] → new.pending ≡ None → later ≡ with_record k r → later.me ≡ k.me → IsPeer rules room new later m
+      → IsAllowed rules k.me room (records_of rules.width old.bodies) r → epoch (records_of rules.width old.bodies ++ r ∷ [])
+      ≡ epoch (records_of rules.width old.bodies)
+      → IsSaving rules k.me (records_of rules.width old.bodies ++ r ∷ [])
+      → new.bodies ≡ old.bodies ++ body_of rules.width r ∷ [] → new.pending ≡ None → later ≡ with_record k r → later.me ≡ k.me
+      → IsPeer rules room new later m
   peer_more rules room old new k later m r is may other saving more pending known same =
-      let journal : List Record = records_of old.bodies in
-      let longer : records_of new.bodies ≡ journal ++ r ∷ [] = ap records_of more ∙ one_body_more old.bodies r may.spelled in
+      let journal : List Record = records_of rules.width old.bodies in
+      let longer : records_of rules.width new.bodies ≡ journal ++ r ∷ [] = ap (records_of rules.width) more
+      ∙ one_body_more rules.width old.bodies r may.spelled in
       let all : IsPeer rules room new later m = record {
         range = is.range;
         low = is.low;
@@ -219,7 +229,7 @@ module _ {D : Type 0} where
     room = room;
     me = me;
     disk = j.disk;
-    state = state_of j.bodies j.pending j.is_down m;
+    state = state_of rules.width j.bodies j.pending j.is_down m;
     last_run = ran;
   }
 
@@ -229,7 +239,7 @@ module _ {D : Type 0} where
 
   pub view_refused : (v : PeerValue D) (rules : Rules) (room me ran : ℕ) (old new : JournalValue D) (m : Memory) (r : Record)
       (body : List ℕ) → view rules room me old m ran ≡ v
-      → new.bodies ≡ old.bodies → new.pending ≡ Some body → new.is_down ≡ true → record_of body ≡ r
+      → new.bodies ≡ old.bodies → new.pending ≡ Some body → new.is_down ≡ true → record_of rules.width body ≡ r
       → view rules room me new m ran ≡ record v { disk = new.disk; state = record v.state { pending = Some r; mode = Down } }
   view_refused v rules room me ran old new m r body is bodies pending down reads =
       subst (λ (x : PeerValue D). view rules room me new m ran
@@ -240,8 +250,8 @@ module _ {D : Type 0} where
         me = me;
         disk = new.disk;
         state = record {
-          journal = records_of (bodies i);
-          pending = (ap (option_map record_of) pending ∙ ap (λ (x : Record). Some x) reads) i;
+          journal = records_of rules.width (bodies i);
+          pending = (ap (option_map (record_of rules.width)) pending ∙ ap (λ (x : Record). Some x) reads) i;
           mode = mode_of (down i);
           memory = m;
         };
@@ -250,7 +260,8 @@ module _ {D : Type 0} where
 
   pub view_more : (v : PeerValue D) (rules : Rules) (room me later before ran : ℕ) (old new : JournalValue D) (m : Memory) (r : Record)
       → view rules room me old m before ≡ v
-      → records_of new.bodies ≡ records_of old.bodies ++ r ∷ [] → new.pending ≡ old.pending → new.is_down ≡ old.is_down → later ≡ me
+      → records_of rules.width new.bodies ≡ records_of rules.width old.bodies ++ r ∷ [] → new.pending ≡ old.pending → new.is_down ≡ old.is_down
+      → later ≡ me
       → view rules room later new m ran ≡ record v { disk = new.disk; state = record v.state { journal = v.state.journal ++ r ∷ [] }; last_run = ran }
   view_more v rules room me later before ran old new m r is records pending down same =
       subst (λ (x : PeerValue D). view rules room later new m ran
@@ -260,18 +271,19 @@ module _ {D : Type 0} where
         room = room;
         me = same i;
         disk = new.disk;
-        state = record { journal = records i; pending = option_map record_of (pending i); mode = mode_of (down i); memory = m };
+        state = record { journal = records i; pending = option_map (record_of rules.width) (pending i); mode = mode_of (down i); memory = m };
         last_run = ran;
       })
 
   -- how many frames a call runs that adds a record
   pub runs_frames : {before : ℕ} (v : PeerValue D) (rules : Rules) (room : ℕ) (j : JournalValue D) (k later : KnownValue) (m : Memory)
       (r : Record) (ran : ℕ) → view rules room k.me j m before ≡ v
-      → IsPeer rules room j k m → IsAllowed rules k.me room (records_of j.bodies) r → later ≡ with_record k r → ran ≤ most_run_with rules r
+      → IsPeer rules room j k m → IsAllowed rules k.me room (records_of rules.width j.bodies) r → later ≡ with_record k r
+      → ran ≤ most_run_with rules r
       → RunsFromOldest k later ran
       → RunsFrames (most_run_with v.rules r) (known_by v) (known_of v.rules v.me (v.state.journal ++ r ∷ [])) ran
   runs_frames v rules room j k later m r ran seen is may more few again =
-      let journal : List Record = records_of j.bodies in
+      let journal : List Record = records_of rules.width j.bodies in
       let longer : later ≡ known_of rules k.me (journal ++ r ∷ []) =
       more ∙ ap (λ (before : KnownValue). with_record before r) is.known ∙ sym (known_more rules k.me room journal r may) in
       let from : RunsFromOldest (known_of rules k.me journal) (known_of rules k.me (journal ++ r ∷ [])) ran =
@@ -283,22 +295,25 @@ module _ {D : Type 0} where
   -- a crash inside a call that adds a record
   pub leaves_records : {ran : ℕ} (g : Ghosts D) (v : PeerValue D) (rules : Rules) (room me : ℕ) (old : JournalValue D) (new : D)
       (m : Memory) (r : Record) (body : List ℕ)
-      → view rules room me old m ran ≡ v → AreJournalBodies rules me room old.bodies → body ≡ body_of r
-      → LeavesOnly g old.disk new (KeepsBodies old.bodies (Some body)) → LeavesOnly g v.disk new (KeepsWithOrWithout v.state.journal (Some r))
+      → view rules room me old m ran ≡ v → AreJournalBodies rules me room old.bodies → body ≡ body_of rules.width r
+      → LeavesOnly g old.disk new (KeepsBodies old.bodies (Some body)) → LeavesOnly g v.disk new (KeepsWithOrWithout v.rules.width v.state.journal
+      (Some r))
   leaves_records g v rules room me old new m r body is are spelled run =
-      subst (λ (x : PeerValue D). LeavesOnly g x.disk new (KeepsWithOrWithout x.state.journal (Some r))) is
-      (weaker g old.disk new (KeepsBodies old.bodies (Some body)) (KeepsWithOrWithout (records_of old.bodies) (Some r)) run
+      subst (λ (x : PeerValue D). LeavesOnly g x.disk new (KeepsWithOrWithout x.rules.width x.state.journal (Some r))) is
+      (weaker g old.disk new (KeepsBodies old.bodies (Some body)) (KeepsWithOrWithout rules.width (records_of rules.width old.bodies) (Some r)) run
       (λ image keeps. keeps_records rules me room old.bodies r are image
       (subst (λ (one : List ℕ). KeepsBodies old.bodies (Some one) image) spelled keeps)))
 
   -- the disk calls, in terms of records
   pub asks_records : {ran : ℕ} (g : Ghosts D) (v : PeerValue D) (rules : Rules) (room me : ℕ) (old : JournalValue D) (new : D) (m : Memory)
       (r : Record) (body : List ℕ) (answer : Answer)
-      → view rules room me old m ran ≡ v → body ≡ body_of r → Asks g (AppendWithin (g.capacity old.disk) (length old.bodies) body) answer old.disk new
-      → Asks g (AppendWithin (g.capacity v.disk) (length v.state.journal) (body_of r)) answer v.disk new
+      → view rules room me old m ran ≡ v → body ≡ body_of rules.width r → Asks g (AppendWithin (g.capacity old.disk) (length old.bodies) body)
+      answer old.disk new
+      → Asks g (AppendWithin (g.capacity v.disk) (length v.state.journal) (body_of v.rules.width r)) answer v.disk new
   asks_records g v rules room me old new m r body answer is spelled asks =
-      subst (λ (x : PeerValue D). Asks g (AppendWithin (g.capacity x.disk) (length x.state.journal) (body_of r)) answer x.disk new) is
-      (subst (λ (n : ℕ). Asks g (AppendWithin (g.capacity old.disk) n (body_of r)) answer old.disk new) (sym (length-map old.bodies record_of))
+      subst (λ (x : PeerValue D). Asks g (AppendWithin (g.capacity x.disk) (length x.state.journal) (body_of x.rules.width r)) answer x.disk new) is
+      (subst (λ (n : ℕ). Asks g (AppendWithin (g.capacity old.disk) n (body_of rules.width r)) answer old.disk new)
+      (sym (length-map old.bodies (record_of rules.width)))
       (subst (λ (one : List ℕ). Asks g (AppendWithin (g.capacity old.disk) (length old.bodies) one) answer old.disk new) spelled asks))
 
   pub allowed_outside : {v w : PeerValue D} (r : Record) → v ≡ w → IsAllowed v.rules v.me v.room v.state.journal r
@@ -309,12 +324,14 @@ module _ {D : Type 0} where
   pub may_record : (rules : Rules) (room : ℕ) (j : JournalValue D) (k : KnownValue) (m : Memory) → IsPeer rules room j k m → (call : Call)
       → IsCall call
       → (noted : Memory) (reply : Reply) (r : Record)
-      → outcome rules (told_of rules k.me (records_of j.bodies)) k m call ≡ recorded noted reply r → IsAllowed rules k.me room (records_of j.bodies) r
+      → outcome rules (told_of rules k.me (records_of rules.width j.bodies)) k m call ≡ recorded noted reply r
+      → IsAllowed rules k.me room (records_of rules.width j.bodies) r
   may_record rules room j k m is call may noted reply r comes =
-      let keeps : (outcome rules (told_of rules k.me (records_of j.bodies)) (known_of rules k.me (records_of j.bodies)) m call).keeps ≡ Some r =
-      subst (λ (known : KnownValue). (outcome rules (told_of rules k.me (records_of j.bodies)) known m call).keeps ≡ Some r) is.known
+      let keeps : (outcome rules (told_of rules k.me (records_of rules.width j.bodies)) (known_of rules k.me (records_of rules.width j.bodies)) m
+      call).keeps ≡ Some r =
+      subst (λ (known : KnownValue). (outcome rules (told_of rules k.me (records_of rules.width j.bodies)) known m call).keeps ≡ Some r) is.known
       (ap (λ (o : Outcome). o.keeps) comes) in
-      keeps_allowed rules k.me room (records_of j.bodies) m call r is.range is.from_one is.in_game is.bodies.journal is.memory may keeps
+      keeps_allowed rules k.me room (records_of rules.width j.bodies) m call r is.range is.from_one is.in_game is.bodies.journal is.memory may keeps
 
 pub is_up : (is_down : Bool) → mode_of is_down ≡ Open → is_down ≡ false
 is_up true is = absurd cc

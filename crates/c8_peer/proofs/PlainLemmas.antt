@@ -1,5 +1,5 @@
 -- The outcome of a call never blames the disk, so the answer tells whether the peer is down after it.
-use Rattle.std.proofs.Common.{◌≡◌, ◌⊎◌, inl, inr, ⊎_elim, ◌+◌, ◌≤◌, ℕ, List, [], ◌∷◌, ◌++◌, length, Bool, true, Option, Some, None, Ok, Err}
+use Rattle.std.proofs.Common.{◌≡◌, ◌⊎◌, inl, inr, ⊎_elim, ◌+◌, ◌^◌, ◌≤◌, ℕ, List, [], ◌∷◌, ◌++◌, length, Bool, true, Option, Some, None, Ok, Err}
 use Rattle.std.proofs.Common.{refl, sym, ap, ◌∙◌}
 use Rattle.std.specs.Prelude.{Result, ◌==◌, ◌||◌, not, nat_le, nat_lt, is_some}
 use Rattle.c8_game.specs.Rules.{Rules, AreInRange}
@@ -53,11 +53,12 @@ plain o is plays = record { told = is; plays = plays }
 
 -- ---- calls of the own player
 
-tick_plain : (rules : Rules) (k : KnownValue) (m : Memory) (keys : ℕ) → IsPlain (tick rules k m keys)
+tick_plain : (rules : Rules) (k : KnownValue) (m : Memory) (input : ℕ) → IsPlain (tick rules k m input)
 unfolding tick
-tick_plain rules k m keys =
+tick_plain rules k m input =
     either IsPlain (player_in k k.me).leaving _ _ (plain _ refl refl) (either IsPlain (nat_le rules.frames k.ticks) _ _ (plain _ refl refl)
-    (either IsPlain (nat_le (confirmed k + rules.window) k.ticks) _ _ (plain _ refl refl) (plain _ refl refl)))
+    (either IsPlain (nat_le (confirmed k + rules.window) k.ticks) _ _ (plain _ refl refl)
+    (either IsPlain (nat_le (256 ^ rules.width) input) _ _ (plain _ refl refl) (plain _ refl refl))))
 
 leave_plain : (k : KnownValue) (m : Memory) (leaver : ℕ) → IsPlain (leave k m leaver)
 unfolding leave
@@ -182,7 +183,7 @@ checkpoint_told t k m = either (λ x. mode_told x.reply ≡ Open) (player_in k k
 -- ---- any call
 
 call_plain : (rules : Rules) (t : Told) (k : KnownValue) (m : Memory) (call : Call) → mode_told (outcome rules t k m call).reply ≡ Open
-call_plain rules t k m (Tick keys) = (tick_plain rules k m keys).told
+call_plain rules t k m (Tick input) = (tick_plain rules k m input).told
 call_plain rules t k m (Deliver told) = (either IsPlain (player_in k k.me).leaving _ _ (plain _ refl refl) (told_plain rules t k m told)).told
 call_plain rules t k m (Say to what) = (say_quiet rules t k m to what).told
 call_plain rules t k m (Show watcher) = (show_quiet k m watcher).told
@@ -200,8 +201,8 @@ a_play o r keeps is = ap are_plays (sym keeps) ∙ is.plays
 call_adds : (rules : Rules) (me room : ℕ) (journal : List Record) (m : Memory) (call : Call) (r : Record) → AreInRange rules → 1 ≤ me
     → me ≤ rules.players → IsJournal rules me room journal → IsMemory rules room me journal m
     → (outcome rules (told_of rules me journal) (known_of rules me journal) m call).keeps ≡ Some r → Adds rules me journal r
-call_adds rules me room journal m (Tick keys) r range from to is memory keeps =
-    inl (a_play _ r keeps (tick_plain rules (known_of rules me journal) m keys))
+call_adds rules me room journal m (Tick input) r range from to is memory keeps =
+    inl (a_play _ r keeps (tick_plain rules (known_of rules me journal) m input))
 call_adds rules me room journal m (Deliver told) r range from to is memory keeps =
     let k : KnownValue = known_of rules me journal in
     inl (a_play _ r keeps (either IsPlain (player_in k k.me).leaving _ _ (plain _ refl refl) (told_plain rules (told_of rules me journal) k m told)))
@@ -256,7 +257,7 @@ keeps_memory rules me room journal m call r range from to is memory fits keeps =
 -- the disk never refuses a saying
 refused_tells : (rules : Rules) (t : Told) (k : KnownValue) (m : Memory) (call : Call) (r : Record) (why : DiskError)
     → (outcome rules t k m call).keeps ≡ Some r → Down ≡ mode_told (refused_by_disk call why)
-refused_tells rules t k m (Tick keys) r why keeps = refl
+refused_tells rules t k m (Tick input) r why keeps = refl
 refused_tells rules t k m (Deliver told) r why keeps = refl
 refused_tells rules t k m (Say to what) r why keeps = absurd (let none = sym (say_quiet rules t k m to what).keeps ∙ keeps in cc)
 refused_tells rules t k m (Show watcher) r why keeps = absurd (let none = sym (show_quiet k m watcher).keeps ∙ keeps in cc)

@@ -1,6 +1,6 @@
 -- A refused call changes nothing, unless the disk refuses a record or the sender's machine differs.
 use Rattle.std.proofs.Common.{◌≡◌, ◌≢◌, ℕ, List, [], ◌∷◌, length, true, Option, Some, None, Ok, Err, refl, ap}
-use Rattle.std.specs.Prelude.{◌+◌, ◌==◌, ◌||◌, not, nat_le, nat_lt, is_some, Result}
+use Rattle.std.specs.Prelude.{◌+◌, ◌^◌, ◌==◌, ◌||◌, not, nat_le, nat_lt, is_some, Result}
 use Rattle.c8_game.specs.Rules.{Rules}
 use Rattle.c8_disk.specs.declared.error.DiskError.{DiskError}
 use Rattle.c8_wire.specs.declared.error.WireError.{WireError}
@@ -54,13 +54,14 @@ refused_fits m why other = answered_fits m (Delivered (Err why)) (λ e. other cc
 desync_fits : (m : Memory) → OutcomeFits m (answered (record m { alarm = true }) (Delivered (Err refusals.Desync)))
 desync_fits m = record { plain = λ is. absurd (is.0 refl); desync = λ is. record { none = refl; same = refl } }
 
-tick_fits : (rules : Rules) (k : KnownValue) (m : Memory) (keys : ℕ) → OutcomeFits m (tick rules k m keys)
+tick_fits : (rules : Rules) (k : KnownValue) (m : Memory) (input : ℕ) → OutcomeFits m (tick rules k m input)
 unfolding tick
-tick_fits rules k m keys =
+tick_fits rules k m input =
     either (OutcomeFits m) (player_in k k.me).leaving _ _ (answered_fits m _ (λ e. cc e))
     (either (OutcomeFits m) (nat_le rules.frames k.ticks) _ _ (answered_fits m _ (λ e. cc e))
     (either (OutcomeFits m) (nat_le (confirmed k + rules.window) k.ticks) _ _ (answered_fits m _ (λ e. cc e))
-    (taken_fits m _ (λ none. none) (λ e. cc e))))
+    (either (OutcomeFits m) (nat_le (256 ^ rules.width) input) _ _ (answered_fits m _ (λ e. cc e))
+    (taken_fits m _ (λ none. none) (λ e. cc e)))))
 
 leave_fits : (k : KnownValue) (m : Memory) (leaver : ℕ) → OutcomeFits m (leave k m leaver)
 unfolding leave
@@ -179,7 +180,7 @@ deliver_fits rules t k m (Err error) = either (OutcomeFits m) (player_in k k.me)
     (refused_fits m _ (λ e. cc e))
 
 call_fits : (rules : Rules) (t : Told) (k : KnownValue) (m : Memory) (call : Call) → OutcomeFits m (outcome rules t k m call)
-call_fits rules t k m (Tick keys) = tick_fits rules k m keys
+call_fits rules t k m (Tick input) = tick_fits rules k m input
 call_fits rules t k m (Deliver told) = deliver_fits rules t k m told
 call_fits rules t k m (Say to what) = say_is (OutcomeFits m) rules t k m to what (λ answer. answered_fits m _ (λ e. cc e))
 call_fits rules t k m (Show watcher) = show_is (OutcomeFits m) k m watcher (λ answer. answered_fits m _ (λ e. cc e))
@@ -198,7 +199,7 @@ show_keeps_none k m watcher = show_is (λ o. o.keeps ≡ None) k m watcher (λ a
 disk_is_not_plain : (rules : Rules) (t : Told) (k : KnownValue) (m : Memory) (call : Call) (r : Record) (why : DiskError)
     → (outcome rules t k m call).keeps ≡ Some r
     → IsPlainRefusal (refused_by_disk call why) → ⊥
-disk_is_not_plain rules t k m (Tick keys) r why keeps plain = plain why refl
+disk_is_not_plain rules t k m (Tick input) r why keeps plain = plain why refl
 disk_is_not_plain rules t k m (Deliver told) r why keeps plain = plain.1 why refl
 disk_is_not_plain rules t k m (Say to what) r why keeps plain = let none = say_keeps_none rules t k m to what in cc
 disk_is_not_plain rules t k m (Show watcher) r why keeps plain = let none = show_keeps_none k m watcher in cc
@@ -207,7 +208,7 @@ disk_is_not_plain rules t k m (Decide leaver) r why keeps plain = plain why refl
 disk_is_not_plain rules t k m Checkpoint r why keeps plain = plain why refl
 
 disk_is_not_desync : (call : Call) (why : DiskError) → refused_by_disk call why ≢ Delivered (Err refusals.Desync)
-disk_is_not_desync (Tick keys) why = λ e. cc e
+disk_is_not_desync (Tick input) why = λ e. cc e
 disk_is_not_desync (Deliver told) why = λ e. cc e
 disk_is_not_desync (Say to what) why = λ e. cc e
 disk_is_not_desync (Show watcher) why = λ e. cc e
@@ -216,7 +217,7 @@ disk_is_not_desync (Decide leaver) why = λ e. cc e
 disk_is_not_desync Checkpoint why = λ e. cc e
 
 down_is_not_desync : (call : Call) → when_down call ≢ Delivered (Err refusals.Desync)
-down_is_not_desync (Tick keys) = λ e. cc e
+down_is_not_desync (Tick input) = λ e. cc e
 down_is_not_desync (Deliver told) = λ e. cc e
 down_is_not_desync (Say to what) = λ e. cc e
 down_is_not_desync (Show watcher) = λ e. cc e

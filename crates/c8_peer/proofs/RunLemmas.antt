@@ -425,7 +425,7 @@ reached_tells rules room me s range from to low reached =
 -- ---- what was said stays true
 
 disk_says_nothing : (call : Call) (why : DiskError) (packet : Packet) → refused_by_disk call why ≢ Said (Ok packet)
-disk_says_nothing (states.Tick keys) why packet = λ e. cc e
+disk_says_nothing (states.Tick input) why packet = λ e. cc e
 disk_says_nothing (states.Deliver told) why packet = λ e. cc e
 disk_says_nothing (states.Say to what) why packet = λ e. cc e
 disk_says_nothing (states.Show watcher) why packet = λ e. cc e
@@ -434,7 +434,7 @@ disk_says_nothing (states.Decide leaver) why packet = λ e. cc e
 disk_says_nothing states.Checkpoint why packet = λ e. cc e
 
 down_says_nothing : (call : Call) (packet : Packet) → when_down call ≢ Said (Ok packet)
-down_says_nothing (states.Tick keys) packet = λ e. cc e
+down_says_nothing (states.Tick input) packet = λ e. cc e
 down_says_nothing (states.Deliver told) packet = λ e. cc e
 down_says_nothing (states.Say to what) packet = λ e. cc e
 down_says_nothing (states.Show watcher) packet = λ e. cc e
@@ -548,18 +548,18 @@ run_keeps_rows rules room me n s t deeds answers range from to low lawful run wi
 -- ---- what a crash leaves on a disk
 
 -- a crash inside a call leaves what a stop in a run finds
-inside_done : (s : State) (call : Call) (o : Outcome) (keeps : Option Record) (image : List ℕ)
-    → KeepsWithOrWithout s.journal (or_pending keeps s.pending) image
-    → (on_disk : DiskOutcome) × (leaves : Bool) × Keeps (found (done s call o keeps on_disk).state leaves) image
-inside_done s call o None image = ⊎_elim (λ without. (Works, false, without)) (λ with. (Works, true, with))
-inside_done s call o (Some r) image = ⊎_elim (λ without. (Refuses Failed, false, without)) (λ with. (Refuses Failed, true, with))
+inside_done : (width : ℕ) (s : State) (call : Call) (o : Outcome) (keeps : Option Record) (image : List ℕ)
+    → KeepsWithOrWithout width s.journal (or_pending keeps s.pending) image
+    → (on_disk : DiskOutcome) × (leaves : Bool) × Keeps width (found (done s call o keeps on_disk).state leaves) image
+inside_done width s call o None image = ⊎_elim (λ without. (Works, false, without)) (λ with. (Works, true, with))
+inside_done width s call o (Some r) image = ⊎_elim (λ without. (Refuses Failed, false, without)) (λ with. (Refuses Failed, true, with))
 
-inside_mode : (s : State) (call : Call) (o : Outcome) (mode : Mode) (image : List ℕ)
-    → KeepsWithOrWithout s.journal (or_pending (added_at mode o.keeps) s.pending) image
-    → (on_disk : DiskOutcome) × (leaves : Bool) × Keeps (found (at_mode s call o mode on_disk).state leaves) image
-inside_mode s call o Open image = inside_done s call o o.keeps image
-inside_mode s call o Down image = ⊎_elim (λ without. (Works, false, without)) (λ with. (Works, true, with))
-inside_mode s call o Away image = ⊎_elim (λ without. (Works, false, without)) (λ with. (Works, true, with))
+inside_mode : (width : ℕ) (s : State) (call : Call) (o : Outcome) (mode : Mode) (image : List ℕ)
+    → KeepsWithOrWithout width s.journal (or_pending (added_at mode o.keeps) s.pending) image
+    → (on_disk : DiskOutcome) × (leaves : Bool) × Keeps width (found (at_mode s call o mode on_disk).state leaves) image
+inside_mode width s call o Open image = inside_done width s call o o.keeps image
+inside_mode width s call o Down image = ⊎_elim (λ without. (Works, false, without)) (λ with. (Works, true, with))
+inside_mode width s call o Away image = ⊎_elim (λ without. (Works, false, without)) (λ with. (Works, true, with))
 
 module _ {D : Type 0} where
   -- calls are deeds
@@ -575,16 +575,16 @@ module _ {D : Type 0} where
   sound_lawful g p sound = record { journal = sound.found_is; memory = λ opened. sound.memory; settled = sound.none_pending }
 
   pub inside_call : (p : PeerValue D) (call : Call) (image : List ℕ) → MayLeave p call image
-      → (on_disk : DiskOutcome) × (leaves : Bool) × Keeps (found (step p.rules p.me p.state call on_disk).state leaves) image
-  inside_call p call image left = inside_mode p.state call
+      → (on_disk : DiskOutcome) × (leaves : Bool) × Keeps p.rules.width (found (step p.rules p.me p.state call on_disk).state leaves) image
+  inside_call p call image left = inside_mode p.rules.width p.state call
       (outcome p.rules (told_of p.rules p.me p.state.journal) (known_of p.rules p.me p.state.journal) p.state.memory call) p.state.mode image left
 
   pub left_bodies : (g : Ghosts D) (p : PeerValue D) (image : List ℕ) → IsSound g p → g.may_leave p.disk image
-      → (finds : Bool) × Keeps (found p.state finds) image
+      → (finds : Bool) × Keeps p.rules.width (found p.state finds) image
   left_bodies g p image sound left = ⊎_elim (λ without. (false, without)) (λ with. (true, with)) (sound.leaves image left)
 
   pub left_records : (g : Ghosts D) (p : PeerValue D) (image : List ℕ) → IsSound g p → g.may_leave p.disk image
-      → (finds : Bool) × (records_of (kept image) ≡ found p.state finds)
+      → (finds : Bool) × (records_of p.rules.width (kept image) ≡ found p.state finds)
   left_records g p image sound left =
       let (finds, keeps) = left_bodies g p image sound left in
-      (finds, ap records_of keeps ∙ journal_back p.rules p.me p.room (found p.state finds) (sound.found_is finds))
+      (finds, ap (records_of p.rules.width) keeps ∙ journal_back p.rules p.me p.room (found p.state finds) (sound.found_is finds))

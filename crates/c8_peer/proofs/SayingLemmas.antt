@@ -5,7 +5,7 @@ use Rattle.std.specs.Prelude.{◌*◌, ◌==◌, ◌||◌, not, nat_le, is_none,
 use Rattle.std.proofs.lemmas.Bool.{cases_lt, cases_eq, ne_eqb, eqb-true, eqb-false, leb-true, not-false, or_parts, and_parts, both_ways, eq-eqb}
 use Rattle.std.proofs.lemmas.List.{length-drop, get_or_past}
 use Rattle.c8_game.specs.Rules.{Rules, AreInRange}
-use Rattle.c8_wire.specs.Sizes.{longest_run, most_rows}
+use Rattle.c8_wire.specs.Sizes.{most_rows}
 use Rattle.c8_wire.specs.Carried.{fits_in}
 use Rattle.c8_wire.specs.Packet.{Packet}
 use Rattle.c8_known.specs.Journal as journals
@@ -22,7 +22,7 @@ use Rattle.c8_digest.specs.Marks.{mark_step, newest_of}
 use Rattle.c8_record.specs.Checks.{begun_at}
 use Rattle.c8_roll.specs.Roll.{mark_after}
 use Rattle.c8_roll.specs.checked.RollLaws.{newest_up_to, marks_on_the_way}
-use Rattle.c8_window.specs.Window.{acked_of, pending_of}
+use Rattle.c8_window.specs.Window.{acked_of, most_pending, pending_of}
 use Rattle.c8_round.specs.Round.{owed, answer_from}
 use Rattle.c8_record.specs.Allowed.{IsJournal, IsOrderly}
 use Rattle.c8_record.specs.checked.JournalLaws.{of_game, journal_known}
@@ -90,7 +90,7 @@ show_said k m watcher p said =
 -- only a saying is answered with a packet
 pub what_is_said : (rules : Rules) (t : Told) (k : KnownValue) (m : Memory) (call : Call) (p : Packet)
     → (outcome rules t k m call).reply ≡ Said (Ok p) → IsSaid rules t k m p ⊎ IsShown k m call p
-what_is_said rules t k m (Tick keys) p said = inl (tick_is (Tells rules t k m p) rules k m keys (λ answer keeps e. absurd cc) said)
+what_is_said rules t k m (Tick input) p said = inl (tick_is (Tells rules t k m p) rules k m input (λ answer keeps e. absurd cc) said)
 what_is_said rules t k m (Deliver (Err error)) p said = inl (no_packet_is (Tells rules t k m p) rules t k m error (λ answer keeps e. absurd cc) said)
 what_is_said rules t k m (Deliver (Ok came)) p said =
     inl (deliver_is (Tells rules t k m p) rules t k m came (record {
@@ -245,8 +245,8 @@ data_true rules me journal m to true_checks known acked plays =
     ap (λ (p : PlayerValue). p.held) (said_is rules me k.me journal known.me)
     ∙ ap (λ (q : ℕ). held rules q journal) (own_player rules me journal) in (
       omega (arith, count_is rules me to journal plays),
-      stands_less (acked_of m.acks to) (fits_in rules.wire (pending_of m.acks k to)) (pending_of m.acks k to) (held rules me journal)
-          (stands_in (player_in k k.me).held (held rules me journal) longest_run (acked_of m.acks to) own
+      stands_less (acked_of m.acks to) (fits_in rules.wire k.width (pending_of m.acks k to)) (pending_of m.acks k to) (held rules me journal)
+          (stands_in (player_in k k.me).held (held rules me journal) most_pending (acked_of m.acks to) own
           (omega (arith, acked, ap (λ (xs : List ℕ). length xs) own))),
       mark_true rules me journal true_checks,
     )
@@ -259,7 +259,7 @@ run_stands : (rules : Rules) (me q start : ℕ) (journal : List Record) → Play
     → start ≤ count_in (known_of rules me journal) q → Stands start (run_from rules (known_of rules me journal) q start) (held rules q journal)
 run_stands rules me q start journal plays from =
     stands_in (player_in (known_of rules me journal) q).held (held rules q journal)
-    (fits_in rules.wire (drop start (player_in (known_of rules me journal) q).held)) start
+    (fits_in rules.wire (known_of rules me journal).width (drop start (player_in (known_of rules me journal) q).held)) start
     (ap (λ (p : PlayerValue). p.held) (said_is rules me q journal plays)) from
 
 freeze_true : (rules : Rules) (me : ℕ) (journal : List Record) (m : Memory) (to leaver : ℕ) → IsOrderly (known_of rules me journal)
@@ -331,7 +331,7 @@ show_true rules me room journal m watcher one is =
     let all : length (confirmed_rows k) ≡ confirmed k = length-map-range_with_len (row k) 0 (confirmed k) in
     let few = is.shown watcher in (
       sym (own_player rules me journal) ∙ one,
-      stands_in (confirmed_rows k) (confirmed_rows k) most_rows (seen_by m.seen watcher) refl (omega (arith, few, all)),
+      stands_in (confirmed_rows k) (confirmed_rows k) (most_rows k.width) (seen_by m.seen watcher) refl (omega (arith, few, all)),
     )
 
 -- ---- all of it

@@ -134,9 +134,9 @@ hear_message rules t k m head (packets.Cut c) = hear_cut k m head.from c
 hear_message rules t k m head (packets.Show shown) = refused m (refusals.Hand hands.NotMine)
 hear_message rules t k m head (packets.Seen ack) = refused m (refusals.Hand hands.NotMine)
 
--- the datagram has another wire version than the game
+-- the datagram has another wire version, or inputs of another width, than the game
 abbrev pub is_of_other_wire : Rules → HeadValue → Bool
-is_of_other_wire rules head = not (version_number head.version == version_number rules.wire)
+is_of_other_wire rules head = not (version_number head.version == version_number rules.wire) || not (head.width == rules.width)
 
 abbrev pub unless_hand : Memory → Option HandError → Outcome → Outcome
 unless_hand m None outcome = outcome

@@ -20,13 +20,14 @@ pub record IsSaving (rules : Rules) (me : ℕ) (journal : List Record) : Type 0 
   pub bytes : (p : Pieces) → (checks_of journal).under_way ≡ Some p
       → p.bytes ≡ take (before_piece p.count) ((told_of rules me journal).saved p.frames)
 
--- The memory is in order. The links are those of this player in this match, with the game's wire version and an epoch
--- that the journal has had. All epochs fit 32 bits. Nobody has acknowledged more than the own inputs, and no watcher
+-- The memory is in order. The links are those of this player in this match, with the game's wire version and width of
+-- inputs and an epoch that the journal has had. All epochs fit 32 bits. Nobody has acknowledged more than the own inputs, and no watcher
 -- more rows than are confirmed. The checkpoints are in order too.
 pub record IsMemory (rules : Rules) (room me : ℕ) (journal : List Record) (m : Memory) : Type 0 where
   pub player : m.links.me ≡ me
   pub players : m.links.players ≡ rules.players
   pub version : m.links.version ≡ rules.wire
+  pub width : m.links.width ≡ rules.width
   pub session : m.links.session ≡ session_of rules room
   pub epoch : had_epoch m.links.epoch journal ≡ true
   pub epoch_fits : m.links.epoch < 2 ^ 32
@@ -35,9 +36,9 @@ pub record IsMemory (rules : Rules) (room me : ℕ) (journal : List Record) (m :
   pub shown : (watcher : ℕ) → seen_by m.seen watcher ≤ confirmed (known_of rules me journal)
   pub saving : IsSaving rules me journal
 
--- a key set has 16 bits, a delivered packet is well formed, and watchers sit in seats 5 and 6
+-- an input has 64 bits, a delivered packet is well formed, and watchers sit in seats 5 and 6
 abbrev pub IsCall : Call → Type 0
-IsCall (Tick keys) = keys < 2 ^ 16
+IsCall (Tick input) = input < 2 ^ 64
 IsCall (Deliver (Ok packet)) = IsPacket packet
 IsCall (Deliver (Err error)) = Unit {0}
 IsCall (Say to what) = Unit {0}

@@ -29,11 +29,11 @@ disk_after (Err refusal) = refusal.1
 
 -- the body that an opening adds to a journal of these bodies
 abbrev pub opening_body : Rules → ℕ → ℕ → List (List ℕ) → List ℕ
-opening_body rules room me bodies = body_of (opening_record rules room me (records_of bodies))
+opening_body rules room me bodies = body_of rules.width (opening_record rules room me (records_of rules.width bodies))
 
 -- these bodies are a journal of this match and player, and its epochs are not spent
 abbrev pub MayBegin : Rules → ℕ → ℕ → List (List ℕ) → Type 0
-MayBegin rules room me bodies = AreJournalBodies rules me room bodies × (epoch (records_of bodies) < last_epoch)
+MayBegin rules room me bodies = AreJournalBodies rules me room bodies × (epoch (records_of rules.width bodies) < last_epoch)
 
 -- ---- the disk
 
@@ -74,7 +74,7 @@ module _ {D : Type 0} (g : Ghosts D) (disk : D) (rules : Rules) (room me : ℕ) 
   ReadRun result = Then (OpenLog g.lends (g.seen disk)) (ReplayRun rules me room (bodies_found g disk) result)
 
   abbrev pub AllRead : Run
-  AllRead = ReadRun (Ok (epoch (records_of (bodies_found g disk))))
+  AllRead = ReadRun (Ok (epoch (records_of rules.width (bodies_found g disk))))
 
   abbrev pub WriteRun : Run
   WriteRun = AppendWithin (g.capacity disk) (length (bodies_found g disk)) (opening_body rules room me (bodies_found g disk))
@@ -96,8 +96,9 @@ module _ {D : Type 0} (g : Ghosts D) (disk : D) (rules : Rules) (room me : ℕ) 
     pub rules_are : p.rules ≡ rules
     pub room_is : p.room ≡ room
     pub me_is : p.me ≡ me
-    pub opening : (s : State) → stepped (Opened (Ok (epoch p.state.journal))) p ≡ opened rules room me s (records_of (bodies_found g disk)) Stands
-    pub may : MayBecome rules room me (records_of (bodies_found g disk)) Stands
+    pub opening : (s : State) → stepped (Opened (Ok (epoch p.state.journal))) p ≡ opened rules room me s
+        (records_of rules.width (bodies_found g disk)) Stands
+    pub may : MayBecome rules room me (records_of rules.width (bodies_found g disk)) Stands
     pub bodies : AreJournalBodies rules me room (bodies_found g disk)
     pub sound : IsSound g p
     pub ran : p.last_run + (begun_at rules p.state.journal).frames ≡ ticks p.state.journal
@@ -112,7 +113,7 @@ module _ {D : Type 0} (g : Ghosts D) (disk : D) (rules : Rules) (room me : ℕ) 
   -- What was found is a journal of this match and player, and its epochs are spent.
   pub record IsSpent (left : D) : Type 0 where
     pub bodies : AreJournalBodies rules me room (bodies_found g disk)
-    pub spent : last_epoch ≤ epoch (records_of (bodies_found g disk))
+    pub spent : last_epoch ≤ epoch (records_of rules.width (bodies_found g disk))
     pub settled : IsSettled g disk left
     pub asks : Asks g AllRead (Ok tt) disk left
 
@@ -120,7 +121,7 @@ module _ {D : Type 0} (g : Ghosts D) (disk : D) (rules : Rules) (room me : ℕ) 
   -- or without.
   pub record IsNotWritten (left : D) : Type 0 where
     pub bodies : AreJournalBodies rules me room (bodies_found g disk)
-    pub not_spent : epoch (records_of (bodies_found g disk)) < last_epoch
+    pub not_spent : epoch (records_of rules.width (bodies_found g disk)) < last_epoch
     pub leaves : AllKeepBodies (bodies_found g disk) (Some (opening_body rules room me (bodies_found g disk))) (g.may_leave left)
 
   -- Why a player of the game is refused, and how the disk is then. Memory is refused before the disk is touched. A

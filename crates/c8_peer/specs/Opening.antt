@@ -85,7 +85,7 @@ MayBecome rules room me found Stands = IsJournal rules me room found × (epoch f
 MayBecome rules room me found (NotWritten why) = IsJournal rules me room found × (epoch found < last_epoch) × (me ≤ rules.players)
 MayBecome rules room me found NoMemory = me ≤ rules.players
 MayBecome rules room me found (NotRead why) = me ≤ rules.players
-MayBecome rules room me found (Unfit error) = IsRefusal rules me room (map body_of found) error × (me ≤ rules.players)
+MayBecome rules room me found (Unfit error) = IsRefusal rules me room (map (body_of rules.width) found) error × (me ≤ rules.players)
 MayBecome rules room me found Spent = IsJournal rules me room found × (last_epoch ≤ epoch found) × (me ≤ rules.players)
 
 -- neither the disk nor the memory refused

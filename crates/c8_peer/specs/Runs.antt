@@ -30,6 +30,7 @@ never_opened = record {
       me = 0;
       players = 0;
       version = versions.One;
+      width = 2;
       session = 0;
       epoch = 0;
       one = no_link;
@@ -140,15 +141,15 @@ pub record IsStoppedOpening (rules : Rules) (room me : ℕ) (s : State) (image :
   pub opening : Opening
   pub leaves : Bool
   pub may : MayDo rules room me s (StopsOpening finds opening leaves)
-  pub keeps : Keeps (found (opened rules room me s (found s finds) opening).state leaves) image
+  pub keeps : Keeps rules.width (found (opened rules room me s (found s finds) opening).state leaves) image
 
 module _ {D : Type 0} (disk : Ghosts D) where
   -- each image that a crash of the disk may leave now keeps the journal of a state, with its pending record or without
-  abbrev pub Tells : State → D → Type 0
-  Tells s d = (image : List ℕ) → disk.may_leave d image → (finds : Bool) × Keeps (found s finds) image
+  abbrev pub Tells : ℕ → State → D → Type 0
+  Tells width s d = (image : List ℕ) → disk.may_leave d image → (finds : Bool) × Keeps width (found s finds) image
 
   -- A refused opening. It is a deed with this answer, and the disk that is left has the journal of the state after it.
   pub record IsRefusedDeed (rules : Rules) (room me : ℕ) (s : State) (finds : Bool) (error : OpenError) (left : D) : Type 0 where
     pub opening : Opening
     pub deed : IsDone rules room me s (Opens finds opening) (Some (Opened (Err error))) (opened rules room me s (found s finds) opening).state
-    pub tells : Tells (opened rules room me s (found s finds) opening).state left
+    pub tells : Tells rules.width (opened rules room me s (found s finds) opening).state left

@@ -51,7 +51,7 @@ lacks_link m to (Cut leaver) = not (link_to m.links to).is_open
 
 -- a player's held inputs from `start` on, as many as one datagram carries
 abbrev pub run_from : Rules → KnownValue → ℕ → ℕ → List ℕ
-run_from rules k q start = carried rules.wire (drop start (player_in k q).held)
+run_from rules k q start = carried rules.wire k.width (drop start (player_in k q).held)
 
 -- the newest mark: the one at the greatest multiple of 32 confirmed frames, which always exists
 abbrev pub newest_mark : Told → FrameMark
@@ -70,7 +70,7 @@ message rules t k m to Data = packets.Data (record {
   mark_frame = (newest_mark t).frame;
   mark = (newest_mark t).mark;
   start = acked_of m.acks to;
-  words = carried rules.wire (pending_of m.acks k to);
+  words = carried rules.wire k.width (pending_of m.acks k to);
 })
 message rules t k m to (Freeze leaver) = packets.Freeze (record { leaver = leaver; have = count_in k leaver })
 message rules t k m to (Frozen leaver) = packets.Frozen (record {
@@ -104,7 +104,7 @@ say rules t k m to what =
 abbrev pub rows_for : KnownValue → Memory → ℕ → Message
 rows_for k m watcher = packets.Show (record {
   start = seen_by m.seen watcher;
-  rows = take most_rows (drop (seen_by m.seen watcher) (confirmed_rows k));
+  rows = take (most_rows k.width) (drop (seen_by m.seen watcher) (confirmed_rows k));
 })
 
 abbrev pub show_packet : KnownValue → Memory → ℕ → Packet

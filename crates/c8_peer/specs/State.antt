@@ -82,7 +82,7 @@ pub data Saying : Type 0 where
 -- The calls. A delivery has what the bytes spell: a packet, or the refusal of the wire format. Each checkpoint call
 -- records one piece.
 pub data Call : Type 0 where
-  Tick : (keys : ℕ) → Call
+  Tick : (input : ℕ) → Call
   Deliver : (told : Result Packet WireError) → Call
   Say : (to : ℕ) → (what : Saying) → Call
   -- says rows to a watcher

@@ -19,7 +19,7 @@ use Rattle.c8_peer.specs.Saying.{say, show}
 
 -- what a call of an open peer does, given what its journal tells
 abbrev pub outcome : Rules → Told → KnownValue → Memory → Call → Outcome
-outcome rules t k m (Tick keys) = tick rules k m keys
+outcome rules t k m (Tick input) = tick rules k m input
 outcome rules t k m (Deliver told) = deliver rules t k m told
 outcome rules t k m (Say to what) = say rules t k m to what
 outcome rules t k m (Show watcher) = show k m watcher
@@ -34,7 +34,7 @@ pub data DiskOutcome : Type 0 where
 
 -- the answer if the disk refused the record; a saying records nothing, so its answer is never used
 abbrev pub refused_by_disk : Call → DiskError → Reply
-refused_by_disk (Tick keys) why = Ticked (Err (ticks.Disk why))
+refused_by_disk (Tick input) why = Ticked (Err (ticks.Disk why))
 refused_by_disk (Deliver told) why = Delivered (Err (refusals.Disk why))
 refused_by_disk (Say to what) why = Said (Err unsayables.Down)
 refused_by_disk (Show watcher) why = Said (Err unsayables.Down)
@@ -44,7 +44,7 @@ refused_by_disk Checkpoint why = Checked (Err (checks.Disk why))
 
 -- the answer of a peer that is down
 abbrev pub when_down : Call → Reply
-when_down (Tick keys) = Ticked (Err ticks.Down)
+when_down (Tick input) = Ticked (Err ticks.Down)
 when_down (Deliver told) = Delivered (Err refusals.Down)
 when_down (Say to what) = Said (Err unsayables.Down)
 when_down (Show watcher) = Said (Err unsayables.Down)

@@ -291,16 +291,16 @@ pub fn calls_are_deeds<D: Disk>()
 /// - `inside`: a crash inside a call leaves an image that keeps what a stop in a run finds.
 pub fn what_disks_tell<D: Disk>()
     ensures reading { (p : PeerValue D) → IsSound D.Disk p
-        → (finds : Bool) × Keeps (found p.state finds) (D.seen p.disk) }
+        → (finds : Bool) × Keeps p.rules.width (found p.state finds) (D.seen p.disk) }
     ensures bodies { (p : PeerValue D) (image : List ℕ)
         → IsSound D.Disk p → D.may_leave p.disk image
-        → (finds : Bool) × Keeps (found p.state finds) image }
+        → (finds : Bool) × Keeps p.rules.width (found p.state finds) image }
     ensures records { (p : PeerValue D) (image : List ℕ)
         → IsSound D.Disk p → D.may_leave p.disk image
-        → (finds : Bool) × (records_of (kept image) ≡ found p.state finds) }
+        → (finds : Bool) × (records_of p.rules.width (kept image) ≡ found p.state finds) }
     ensures inside { (p : PeerValue D) (call : Call) (image : List ℕ) → MayLeave p call image
         → (on_disk : DiskOutcome) × (leaves : Bool)
-        × Keeps (found (step p.rules p.me p.state call on_disk).state leaves) image }
+        × Keeps p.rules.width (found (step p.rules p.me p.state call on_disk).state leaves) image }
 {}
 
 /// Each opening that meets its contract is a deed of a run, if a read of its disk gives the journal of
@@ -312,26 +312,28 @@ pub fn what_disks_tell<D: Disk>()
 /// - `refused`: so is one that is refused, and the disk that it leaves has the journal of the state after it.
 /// - `inside`: a crash inside an opening leaves an image that keeps what a stop in a run finds.
 pub fn openings_are_deeds<D: Disk>()
-    ensures settled { (disk : D) (s : State) (finds : Bool)
-        → Only (D.seen disk) (D.may_leave disk) → Keeps (found s finds) (D.seen disk)
-        → Tells D.Disk s disk }
+    ensures settled { (disk : D) (width : ℕ) (s : State) (finds : Bool)
+        → Only (D.seen disk) (D.may_leave disk) → Keeps width (found s finds) (D.seen disk)
+        → Tells D.Disk width s disk }
     ensures opened { (disk : D) (rules : Rules) (room me : ℕ) (s : State) (finds : Bool)
         (p : PeerValue D)
         → IsOpened D.Disk disk rules room me p → (s.mode ≡ Open → ⊥)
-        → records_of (kept (D.seen disk)) ≡ found s finds
+        → records_of rules.width (kept (D.seen disk)) ≡ found s finds
         → IsDone rules room me s (Opens finds Stands)
         (Some (Opened (Ok (epoch p.state.journal)))) p.state }
     ensures refused { (disk left : D) (rules : Rules) (room me : ℕ) (s : State) (finds : Bool)
         (error : OpenError)
         → IsRefusedOpening D.Disk disk rules room me error left → (s.mode ≡ Open → ⊥)
-        → Keeps (found s finds) (D.seen disk) → records_of (kept (D.seen disk)) ≡ found s finds
-        → Tells D.Disk s disk
+        → Keeps rules.width (found s finds) (D.seen disk)
+        → records_of rules.width (kept (D.seen disk)) ≡ found s finds
+        → Tells D.Disk rules.width s disk
         → IsRefusedDeed D.Disk rules room me s finds error left }
     ensures inside { (disk : D) (rules : Rules) (room me : ℕ) (s : State) (finds : Bool)
         (image : List ℕ)
         → OpeningLeaves D.Disk disk rules room me image → me ≤ rules.players
         → (s.mode ≡ Open → ⊥)
-        → Keeps (found s finds) (D.seen disk) → records_of (kept (D.seen disk)) ≡ found s finds
-        → Tells D.Disk s disk
+        → Keeps rules.width (found s finds) (D.seen disk)
+        → records_of rules.width (kept (D.seen disk)) ≡ found s finds
+        → Tells D.Disk rules.width s disk
         → IsStoppedOpening rules room me s image }
 {}

@@ -70,15 +70,15 @@ impl<'g, D: Disk> Model for Peer<'g, D> {
       room = p.room;
       me = p.known.me;
       disk = p.journal.disk;
-      state = state_of p.journal.bodies p.journal.pending p.journal.is_down p.memory;
+      state = state_of p.game.now.width p.journal.bodies p.journal.pending p.journal.is_down p.memory;
       last_run = last_run_of p.roll;
     } };
 
     ghost invariant = { λ p. IsPeer p.game.now p.room p.journal p.known p.memory
-        × IsRolled p.game.now (records_of p.journal.bodies) p.known (checked p.checks)
+        × IsRolled p.game.now (records_of p.game.now.width p.journal.bodies) p.known (checked p.checks)
         (value_of p.roll) (last_run_of p.roll)
         × KeepsRows p.game.now.window p.known (rows_run p.roll)
-        × IsPlanned p.game.now p.known.me (records_of p.journal.bodies) p.checks };
+        × IsPlanned p.game.now p.known.me (records_of p.game.now.width p.journal.bodies) p.checks };
 }
 
 /// Shows the player, the epoch, the ticks, the confirmed frames, and whether the peer is down.
@@ -125,7 +125,7 @@ impl<'g, D: Disk> Peer<'g, D> {
         ensures crash { AddsNone (D.may_leave self.old.disk) (D.may_leave self.new.disk) }
         ensures crash_keeps { AddsNone (D.may_leave self.new.disk) (D.may_leave self.old.disk) }
         ensures any_moment { LeavesOnly D.Disk self.old.disk self.new.disk
-            (KeepsWithOrWithout self.old.state.journal self.old.state.pending) }
+            (KeepsWithOrWithout self.old.rules.width self.old.state.journal self.old.state.pending) }
     {
         self.journal.arm(arm);
     }
@@ -170,7 +170,7 @@ impl<'g, D: Disk> Peer<'g, D> {
           state = record self.old.state { pending = Some (value_of lent.now); mode = Down };
         }) }
         ensures any_moment { LeavesOnly D.Disk self.old.disk self.new.disk
-            (KeepsWithOrWithout self.old.state.journal (Some (value_of lent.now))) }
+            (KeepsWithOrWithout self.old.rules.width self.old.state.journal (Some (value_of lent.now))) }
         ensures failed { IsErrOf result DiskError.Failed
             → (slot_length * (length self.old.state.journal + 1) + 1 ≤ D.capacity self.old.disk)
             × (D.failures self.old.disk < D.failures self.new.disk) }
@@ -181,17 +181,17 @@ impl<'g, D: Disk> Peer<'g, D> {
         ensures same { IsSameDisk D.Disk self.old.disk self.new.disk }
         ensures asks { MatchResult result
             (λ _. Asks D.Disk (AppendWithin (D.capacity self.old.disk)
-            (length self.old.state.journal) (body_of (value_of lent.now))) (Ok tt)
+            (length self.old.state.journal) (body_of self.old.rules.width (value_of lent.now))) (Ok tt)
             self.old.disk self.new.disk)
             (λ why. Asks D.Disk (AppendWithin (D.capacity self.old.disk)
-            (length self.old.state.journal) (body_of (value_of lent.now))) (Err why)
+            (length self.old.state.journal) (body_of self.old.rules.width (value_of lent.now))) (Err why)
             self.old.disk self.new.disk) }
         ensures journal { LeavesJournal D.Disk self.new }
     {
         // For the proof: a journal that is up has no pending body, and no peer is too far ahead.
         let _up = self.journal.is_down();
         journals_stay_within_the_window();
-        match self.journal.append(&body_of(lent)) {
+        match self.journal.append(&body_of(lent, self.game.width())) {
             Ok(()) => {
                 make_known(&mut self.known, lent);
                 go_on(&mut self.roll, &self.known);

@@ -15,10 +15,10 @@ use crate::kind::Kind;
 use crate::memory::Memory;
 use arrayvec::ArrayVec;
 use c8_digest::FrameMark;
-use c8_game::{Player, Row, WireVersion};
+use c8_game::{Input, Player, Row, Width, WireVersion};
 use c8_known::Known;
 use c8_refusals::Unsayable;
-use c8_wire::{Body, MOST_ROWS, fits};
+use c8_wire::{Body, MOST_ROWS, fits, most_rows};
 
 /// Checks whether the peer may say `kind` to player `to`. The refusals are in the order of `Unsayable`, after `Down`.
 #[tactic(auto, unfolding(crate::specs::Saying::say))]
@@ -119,7 +119,7 @@ pub(crate) fn message<'a>(
             mark_frame,
             mark,
             start: memory.window.acked(to),
-            run: carried(wire, memory.window.pending(to, known)),
+            run: carried(wire, known.width(), memory.window.pending(to, known)),
         },
         Kind::Freeze(leaver) => Body::Freeze {
             leaver,
@@ -167,31 +167,33 @@ fn cut<'a>(
 }
 
 /// Returns the held inputs of a player from `start` on, as many as one datagram carries.
-fn run_from(known: &Known, wire: WireVersion, player: Player, start: u32) -> &[u16]
+fn run_from(known: &Known, wire: WireVersion, player: Player, start: u32) -> &[Input]
     requires plays { Plays known.now player.number }
     requires within { start ≤ count_in known.now player.number }
     ensures { (rules : Rules) → wire ≡ rules.wire
         → result.now ≡ run_from rules known.now player.number start }
 {
-    carried(wire, known.inputs(player, start, known.count(player)))
+    let inputs = known.inputs(player, start, known.count(player));
+    carried(wire, known.width(), inputs)
 }
 
 /// Returns the longest front of `inputs` that one datagram carries.
-fn carried(wire: WireVersion, inputs: &[u16]) -> &[u16]
-    ensures { result.now ≡ carried wire inputs.entry.now }
+fn carried(wire: WireVersion, width: Width, inputs: &[Input]) -> &[Input]
+    ensures { result.now ≡ carried wire width.bytes inputs.entry.now }
 {
-    let (front, _) = inputs.split_at(fits(wire, inputs));
+    let (front, _) = inputs.split_at(fits(wire, width, inputs));
     front
 }
 
-/// Copies the confirmed rows from frame `start` on, at most 16: as many as one SHOW has.
+/// Copies the confirmed rows from frame `start` on, as many as one SHOW has: 16, or fewer of wide inputs.
 pub(crate) fn rows_from(known: &Known, start: u32) -> ArrayVec<Row, MOST_ROWS>
     requires { start ≤ confirmed known.now }
-    ensures { result.items ≡ take most_rows (drop start (confirmed_rows known.now)) }
+    ensures { result.items
+        ≡ take (most_rows known.now.width) (drop start (confirmed_rows known.now)) }
 {
     let left = known.confirmed() - start;
     let mut rows = ArrayVec::new();
-    for place in 0..left.min(MOST_ROWS as u32) {
+    for place in 0..left.min(most_rows(known.width()) as u32) {
         rows.push(known.row(start + place));
     }
     rows

@@ -9,7 +9,7 @@ use crate::console::Console;
 use crate::desk::Desk;
 use crate::key_row::KeyRow;
 use c8_game::{Game, Row};
-use c8_machine::Machine;
+use c8_machine::{Keys, Machine};
 use c8_texts::Played;
 use std::time::Duration;
 
@@ -40,8 +40,8 @@ pub fn play_alone<C: Console>(
         desk.sit_out();
         let keys = desk.begin();
         desk.entered();
-        let held = Row { sets: [keys; 4] };
-        played.machine.frame(game, game.joined(&held));
+        let held = Row { inputs: [keys; 4] };
+        played.machine.frame(game, Keys::from(game.joined(&held)));
         played.frames = frame + 1;
         let bell = chime.bell(played.machine.tone());
         desk.show(played.machine.screen(), below.row(now, bell));

@@ -1,6 +1,6 @@
 //! A console, with its held keys, painter and frame clock.
 
-ghost use Rattle.std.specs.Prelude.{◌≡◌, ◌≤◌, ◌<◌, ◌++◌, ℕ, true, false, List, []};
+ghost use Rattle.std.specs.Prelude.{◌≡◌, ◌≤◌, ◌<◌, ◌^◌, ◌++◌, ℕ, true, false, List, []};
 ghost use Rattle.c8_screen.specs.Points.{points_of};
 ghost use Rattle.c8_terminal.specs.Decoder.{IsOfKeypad, read_by};
 ghost use Rattle.c8_terminal.specs.Held.{press_at, hold_of};
@@ -12,7 +12,7 @@ ghost use Rattle.c8_play.specs.Desk.{typing, seen_at, drawn_at, IsSameDesk, MayF
 
 use crate::below::{FIRST_ROW, write_lines};
 use crate::console::{Console, KEY_BYTES};
-use c8_game::Keys;
+use c8_game::Input;
 use c8_screen::Screen;
 use c8_terminal::{Beat, Decoder, Held, Lateness, Painter, Signal};
 use mio::event::Source;
@@ -129,11 +129,12 @@ impl<C: Console> Desk<C> {
         }
     }
 
-    /// Begins the next frame, and returns the keys that are held in it. Unless `entered` follows, they stay held in the
-    /// next frame too.
-    pub fn begin(&mut self) -> Keys
+    /// Begins the next frame, and returns the keys that are held in it: key `k` is bit `k`. Unless `entered` follows, they
+    /// stay held in the next frame too.
+    pub fn begin(&mut self) -> Input
         ensures read { HasRead (typing C.Console self.old) (typing C.Console self.new) }
-        ensures held { AreHeld (typing C.Console self.new) result.0 }
+        ensures held { AreHeld (typing C.Console self.new) result }
+        ensures no_more { result < 2 ^ 16 }
         ensures seen { MayForget self.old self.new }
         ensures drawn { drawn_at C.Console self.new ≡ drawn_at C.Console self.old }
     {

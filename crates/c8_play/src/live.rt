@@ -277,7 +277,8 @@ enum Entry {
     Refused,
 }
 
-/// Makes the turn of a frame. It enters the held keys, unless this player leaves out a tick.
+/// Makes the turn of a frame. It enters the held keys, unless this player leaves out a tick. Inputs of 1 byte have no bit
+/// for keys 8 to F.
 fn enter<D: Disk, W: Wire, C: Console>(
     session: &mut Session<'_, D>,
     wire: &mut W,
@@ -296,7 +297,8 @@ fn enter<D: Disk, W: Wire, C: Console>(
         let _taken = make_turn(session, None, wire)?;
         return Ok(Entry::LeftOut);
     }
-    if make_turn(session, Some(keys), wire)? {
+    let input = keys.cut(session.peer().width());
+    if make_turn(session, Some(input), wire)? {
         desk.entered();
         Ok(Entry::Taken)
     } else {

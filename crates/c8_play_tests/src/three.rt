@@ -5,7 +5,7 @@ ghost use Rattle.std.specs.Prelude.{[]};
 use crate::console::{Log, Still, Written};
 use crate::waits::asked_for;
 use c8_disk::MemDisk;
-use c8_game::{Game, Keys, Player};
+use c8_game::{Game, Input, Player};
 use c8_peer::{Kind, Peer};
 use c8_play::{Desk, KeyWords, Tempo, play_frames};
 use c8_session::Session;
@@ -50,7 +50,7 @@ impl<'g> Wire for Way<'g> {
     fn send(&mut self, to: Seat, datagram: &[u8]) -> Result<(), WireFailed> {
         if to.number == self.peer.me().number {
             let _heard = self.peer.deliver(datagram);
-            let _ticked = self.peer.tick(Keys(0));
+            let _ticked = self.peer.tick(Input(0));
             self.next = Some(Kind::Hello);
         }
         Ok(())

@@ -269,6 +269,7 @@ may_tell rules room run goes p q n m one other apart up_to fresh back =
     subst (λ (j : List Record). Begins (held rules p (journal_of w p)) (held rules p j)) (sym journal.is)
     (held_begins rules p (journal_of w p) journal.rest) in
     record {
+      narrow = laws.narrow;
       one = one.plays.from_one;
       one_plays = one.plays.in_game;
       other = other.plays.from_one;

@@ -285,8 +285,8 @@ unfolding acted
 acted_ordered rules room w (worlds.Open p) h range well laws all =
     if_player (λ (a : After). AreAllOrdered rules a.world) (is_player rules p) _ _
     (λ is. mode_opens rules room w p h (peer_of w p).mode range well all (plays_if rules p is)) all
-acted_ordered rules room w (worlds.Tick p keys) h range well laws all =
-    call_ordered rules room w p (states.Tick keys) h.on_disk range well laws all (λ packet is. absurd cc)
+acted_ordered rules room w (worlds.Tick p input) h range well laws all =
+    call_ordered rules room w p (states.Tick input) h.on_disk range well laws all (λ packet is. absurd cc)
 acted_ordered rules room w (worlds.Say p to what) h range well laws all =
     call_ordered rules room w p (states.Say to what) h.on_disk range well laws all (λ packet is. absurd cc)
 acted_ordered rules room w (worlds.Give number p) h range well laws all =

@@ -167,6 +167,7 @@ data_told rules room w p q range reached laws laws_then are takes fresh back =
     let within = own_within rules room p (journal_of w p) range are.plays (laws.journals p are.plays) in
     let fewer = begins_length (held rules p (journal_of w q)) (held rules p (journal_of w p)) (laws.begins p q are.plays are.also) in
     let may : MayTell rules p s q t = record {
+      narrow = laws.narrow;
       one = are.plays.from_one;
       one_plays = are.plays.in_game;
       other = are.also.from_one;

@@ -16,6 +16,7 @@ use Rattle.std.specs.Prelude.{◌≢◌}
 use Rattle.c8_known.specs.Growth.{Begins}
 use Rattle.std.specs.List.{slice_get}
 use Rattle.c8_refusals.specs.declared.error.Refused.TheVariants.{Desync}
+use Rattle.c8_progress.proofs.BringingLemmas.{IsNarrow}
 
 -- how many inputs of its addressee a datagram acknowledges
 abbrev pub ack_in : Message → Option ℕ
@@ -28,8 +29,9 @@ ack_in (packets.Cut c) = None
 ack_in (packets.Show m) = None
 ack_in (packets.Seen ack) = None
 
--- What the laws of c8_world say of every reached world.
+-- What the laws of c8_world say of every reached world, in a game whose inputs have one byte or two.
 pub record HasLaws (rules : Rules) (room : ℕ) (w : World) : Type 0 where
+  pub narrow : IsNarrow rules.width
   pub begins : (p q : ℕ) → IsPlayer rules p → IsPlayer rules q → Begins (held rules p (journal_of w q)) (held rules p (journal_of w p))
   pub journals : (p : ℕ) → IsPlayer rules p → IsJournal rules p room (journal_of w p)
   pub acks : (x : Packet) (n : ℕ) → IsAmong w.said x → IsPlayer rules x.head.from → ack_in x.message ≡ Some n
@@ -68,9 +70,10 @@ ack_true rules w x (packets.Cut c) n is told e = absurd cc
 ack_true rules w x (packets.Show m) n is told e = absurd cc
 ack_true rules w x (packets.Seen ack) n is told e = absurd cc
 
-pub has_laws : (rules : Rules) (room : ℕ) (w : World) → IsHeadline rules room w w
+pub has_laws : (rules : Rules) (room : ℕ) (w : World) → IsNarrow rules.width → IsHeadline rules room w w
     → ((p : ℕ) → IsPlayer rules p → IsJournal rules p room (journal_of w p)) → HasLaws rules room w
-has_laws rules room w h journals = record {
+has_laws rules room w narrow h journals = record {
+  narrow = narrow;
   begins = λ p q plays also. h.held_begins q p also plays;
   journals = journals;
   acks = λ x n among plays e. ack_true rules w x x.message n refl (h.said x among) e;
@@ -84,12 +87,12 @@ has_laws rules room w h journals = record {
 }
 
 -- the laws, as c8_world's functions state them
-pub all_laws : (rules : Rules) (room : ℕ) → AreInRange rules → room < 2 ^ 64
+pub all_laws : (rules : Rules) (room : ℕ) → AreInRange rules → rules.width ≤ 2 → room < 2 ^ 64
     → ((r : Rules) (n : ℕ) (w v : World) (events : List Event) (answers : List Answer) → AreInRange r → n < 2 ^ 64 → IsReached r n w
     → Chain r n w events answers v → IsHeadline r n w v)
     → ((r : Rules) (n : ℕ) (w : World) (p : ℕ) (finds : Bool) → AreInRange r → n < 2 ^ 64 → IsReached r n w → IsPlayer r p
     → IsJournal r p n (found (peer_of w p) finds))
     → Laws rules room
-all_laws rules room range low headline journals x reached =
-    has_laws rules room x (headline rules room x x [] [] range low reached refl)
+all_laws rules room range narrow low headline journals x reached =
+    has_laws rules room x (range.some_width, narrow) (headline rules room x x [] [] range low reached refl)
     (λ p plays. journals rules room x p false range low reached plays)

@@ -6,7 +6,7 @@ use Rattle.std.specs.List.{slice_get, list_all, range_with_len}
 use Rattle.std.proofs.lemmas.Bool.{cases_eq, cases_lt, ne_eqb, eq-eqb, lt-ltb, leb-true, and_parts}
 use Rattle.std.proofs.lemmas.List.{length-take, length-drop, length-map}
 use Rattle.std.proofs.lemmas.List.FromFn.{length-range_with_len}
-use Rattle.c8_game.specs.Rules.{Rules, session_of, set_at}
+use Rattle.c8_game.specs.Rules.{Rules, session_of, input_at}
 use Rattle.c8_game.specs.Wire.{version_number}
 use Rattle.c8_game.specs.declared.row.Row.{Row}
 use Rattle.c8_wire.specs.Seats.{is_watcher}
@@ -122,7 +122,7 @@ unfolding acted
 acted_rows rules room w watcher (worlds.Open r) h sits keeps =
     if_player (λ (a : After). Keeps watcher w a.world) (is_player rules r) _ _ (λ is. opens_rows rules room w watcher r h (peer_of w r).mode)
     (same_rows watcher w w refl)
-acted_rows rules room w watcher (worlds.Tick r keys) h sits keeps = at_rows rules w watcher r (states.Tick keys) h.on_disk
+acted_rows rules room w watcher (worlds.Tick r input) h sits keeps = at_rows rules w watcher r (states.Tick input) h.on_disk
 acted_rows rules room w watcher (worlds.Say r to what) h sits keeps = at_rows rules w watcher r (states.Say to what) h.on_disk
 acted_rows rules room w watcher (worlds.Give number r) h sits keeps = given_rows rules w watcher r h.on_disk (slice_get w.said number)
 acted_rows rules room w watcher (worlds.Leave leaver) h sits keeps = at_rows rules w watcher 1 (states.Leave leaver) h.on_disk
@@ -160,9 +160,9 @@ or_true false other is = is
 all_four : (a b c d : Bool) → a ≡ true → b ≡ true → c ≡ true → d ≡ true → (a && (b && (c && (d && true)))) ≡ true
 all_four a b c d one two three four = rw (one, two, three, four) refl
 
-set_of_game : (rules : Rules) (k : KnownValue) (frame place value : ℕ) → length k.players ≡ rules.players
+input_of_game : (rules : Rules) (k : KnownValue) (frame place value : ℕ) → length k.players ≡ rules.players
     → value ≡ or_empty (input_of (player_in k (suc place)) frame) → (nat_lt place rules.players || value == 0) ≡ true
-set_of_game rules k frame place value players is =
+input_of_game rules k frame place value players is =
     elim (cases_lt place rules.players) [
       | inl within ↦ rw (lt-ltb place rules.players within) refl
       | inr past ↦
@@ -174,9 +174,9 @@ set_of_game rules k frame place value players is =
 
 row_of_game : (rules : Rules) (k : KnownValue) (frame : ℕ) → length k.players ≡ rules.players → is_of_game rules (row k frame) ≡ true
 row_of_game rules k frame players =
-    all_four _ _ _ _ (set_of_game rules k frame 0 (set_at (row k frame) 0) players refl)
-    (set_of_game rules k frame 1 (set_at (row k frame) 1) players refl) (set_of_game rules k frame 2 (set_at (row k frame) 2) players refl)
-    (set_of_game rules k frame 3 (set_at (row k frame) 3) players refl)
+    all_four _ _ _ _ (input_of_game rules k frame 0 (input_at (row k frame) 0) players refl)
+    (input_of_game rules k frame 1 (input_at (row k frame) 1) players refl) (input_of_game rules k frame 2 (input_at (row k frame) 2) players refl)
+    (input_of_game rules k frame 3 (input_at (row k frame) 3) players refl)
 
 rows_pass : (P : Row → Bool) (f : ℕ → Row) (places : List ℕ) → ((n : ℕ) → P (f n) ≡ true) → list_all P (map f places) ≡ true
 rows_pass P f [] each = refl
@@ -209,7 +209,8 @@ confirmed_length k = length-map (range_with_len 0 (confirmed k)) (row k) ∙ len
 -- A SHOW that player 1 says, with the rows that come after those it takes the watcher to have.
 pub record FitsShow (rules : Rules) (room : ℕ) (k : KnownValue) (m : Memory) (watcher : ℕ) (rows : List Row) : Type 0 where
   pub session : m.links.session ≡ session_of rules room
-  pub version : m.links.version ≡ rules.wire
+  pub version : (m.links.version ≡ rules.wire) × (m.links.width ≡ rules.width)
+  pub width : k.width ≡ rules.width
   pub players : length k.players ≡ rules.players
   pub few : confirmed k ≤ rules.frames
   pub known : seen_by m.seen watcher ≤ confirmed k
@@ -224,31 +225,32 @@ fits_taken rules room k m watcher w fits =
     let watch : WatchValue = watch_of rules room w watcher in
     let start : ℕ = seen_by m.seen watcher in
     let all : List Row = confirmed_rows k in
-    let shown : List Row = take most_rows (drop start all) in
+    let shown : List Row = take (most_rows k.width) (drop start all) in
     let long = confirmed_length k in
     let few = fits.few in
     let known = fits.known in
     let begins : Begins shown (drop start fits.truth) =
-    begins_more shown (drop start all) (drop start fits.truth) (begins_take most_rows (drop start all))
+    begins_more shown (drop start all) (drop start fits.truth) (begins_take (most_rows k.width) (drop start all))
     (begins_drop start all fits.truth fits.shown) in
     record {
       shown = record { start = start; rows = shown };
       message = refl;
       of_match = rw (
         eq-eqb m.links.session (session_of rules room) fits.session,
-        eq-eqb (version_number m.links.version) (version_number rules.wire) (ap version_number fits.version),
+        eq-eqb (version_number m.links.version) (version_number rules.wire) (ap version_number fits.version.0),
+        eq-eqb m.links.width rules.width fits.version.1,
       ) refl;
       seat = refl;
-      of_game = confirmed_of_game rules k start most_rows fits.players;
-      within = omega (arith, long, few, known, length-take most_rows (drop start all), length-drop start all);
+      of_game = confirmed_of_game rules k start (most_rows k.width) fits.players;
+      within = omega (arith, long, few, known, length-take (most_rows k.width) (drop start all), length-drop start all);
       after = fits.after;
       same = begin_one (drop start watch.rows) shown (drop start fits.truth) (begins_drop start watch.rows fits.truth fits.begins) begins;
     }
 
--- the watcher then has sixteen rows more than player 1 took it to have, or all that were confirmed
+-- the watcher then has as many rows more as a SHOW may have than player 1 took it to have, or all that were confirmed
 pub show_brings : (rules : Rules) (room : ℕ) (k : KnownValue) (m : Memory) (watcher : ℕ) (w : World)
     → FitsShow rules room k m watcher (rows_of w watcher)
-    → min (confirmed k) (seen_by m.seen watcher + most_rows)
+    → min (confirmed k) (seen_by m.seen watcher + most_rows k.width)
     ≤ length (hear (watch_of rules room w watcher) (Ok (show_packet k m watcher))).watch.rows
 show_brings rules room k m watcher w fits =
     let start : ℕ = seen_by m.seen watcher in
@@ -257,4 +259,4 @@ show_brings rules room k m watcher w fits =
     taken_reaches (watch_of rules room w watcher) (show_packet k m watcher) (fits_taken rules room k m watcher w fits) in
     let long = confirmed_length k in
     let known = fits.known in
-    omega (arith, reaches, long, known, length-take most_rows (drop start all), length-drop start all)
+    omega (arith, reaches, long, known, length-take (most_rows k.width) (drop start all), length-drop start all)

@@ -1,5 +1,5 @@
 -- Fair rounds: what a turn of a peer is, and when a match goes on. Begin at `FairRounds`.
-use Rattle.std.specs.Prelude.{◌≡◌, ◌≢◌, ◌<◌, ◌≤◌, ◌⊎◌, ℕ, zero, suc, length, true, false, Some, None}
+use Rattle.std.specs.Prelude.{◌≡◌, ◌≢◌, ◌<◌, ◌^◌, ◌≤◌, ◌⊎◌, ℕ, zero, suc, length, true, false, Some, None}
 use Rattle.std.specs.List.{slice_get}
 use Rattle.c8_game.specs.Rules.{Rules}
 use Rattle.c8_wire.specs.Packet as packets
@@ -84,8 +84,9 @@ pub record Ticks (rules : Rules) (room : ℕ) (run : Run rules room) (p from to 
   pub at : ℕ
   pub after : from ≤ at
   pub before : at < to
-  pub keys : ℕ
-  pub ticks : run.event at ≡ Do (Tick p keys)
+  pub input : ℕ
+  pub fits : input < 256 ^ rules.width
+  pub ticks : run.event at ≡ Do (Tick p input)
 
 -- player 1 decides a leaver's cut, or its round is not ready, or player 1 has cut its list already
 pub record Decides (rules : Rules) (room : ℕ) (run : Run rules room) (leaver from to : ℕ) : Type 0 where

@@ -45,16 +45,17 @@ module _ (rules : Rules) (me room : ℕ) (bodies : List (List ℕ)) where
 
   -- what the records before say, as the code has it
   same_past : (n : ℕ) (now : KnownValue) (checks : ChecksValue) (last : ℕ) → IsReadTo rules me room bodies n now checks last
-      → ◌≡◌ {A = Past} (record { count = n; epoch = last; checks = checks; known = now }) (past_of rules me (records_of (take n bodies)))
+      → ◌≡◌ {A = Past} (record { count = n; epoch = last; checks = checks; known = now }) (past_of rules me (records_of rules.width (take n bodies)))
   same_past n now checks last read =
-      let count : n ≡ length (records_of (take n bodies)) = sym (length-map (take n bodies) record_of ∙ length-take-le n bodies read.within) in
+      let count : n ≡ length (records_of rules.width (take n bodies)) =
+      sym (length-map (take n bodies) (record_of rules.width) ∙ length-take-le n bodies read.within) in
       λ i. record { count = count i; epoch = read.epoch i; checks = read.saved i; known = read.known i }
 
   pub read_of_game : (n : ℕ) (now : KnownValue) (checks : ChecksValue) (last : ℕ) → IsReadTo rules me room bodies n now checks last
       → IsOfGame rules now.me now
   unfolding known_of
   read_of_game n now checks last read = subst (λ (k : KnownValue). IsOfGame rules k.me k) (sym read.known)
-      (of_game rules me (records_of (take n bodies)))
+      (of_game rules me (records_of rules.width (take n bodies)))
 
   next_body : (n : ℕ) (body : List ℕ) → slice_get bodies n ≡ Some body → take (n + 1) bodies ≡ take n bodies ++ body ∷ []
   next_body n body is = take_more bodies n body (slice_get_within bodies n body is)
@@ -66,22 +67,23 @@ module _ (rules : Rules) (me room : ℕ) (bodies : List (List ℕ)) where
       → IsReadTo rules me room bodies (n + 1) new saved later
   unfolding known_of
   read_more n old new checks saved last later body read is taken =
-      let before : List Record = records_of (take n bodies) in
-      let r : Record = record_of body in
+      let before : List Record = records_of rules.width (take n bodies) in
+      let r : Record = record_of rules.width body in
       let allowed : IsAllowed rules me room before r =
       subst (λ (past : Past). IsAllowedAfter rules room past r) (same_past n old checks last read) taken.allowed in
       let next = next_body n body is in
-      let records : records_of (take (n + 1) bodies) ≡ before ++ r ∷ [] = ap records_of next ∙ map-append record_of (take n bodies) (body ∷ []) in
-      let now : new ≡ known_of rules me (records_of (take (n + 1) bodies)) =
+      let records : records_of rules.width (take (n + 1) bodies) ≡ before ++ r ∷ [] = ap (records_of rules.width) next
+      ∙ map-append (record_of rules.width) (take n bodies) (body ∷ []) in
+      let now : new ≡ known_of rules me (records_of rules.width (take (n + 1) bodies)) =
       taken.known ∙ ap (λ (k : KnownValue). with_record k r) read.known ∙ sym (known_more rules me room before r allowed)
       ∙ ap (known_of rules me) (sym records) in
       record {
         within = omega (arith, slice_get_within bodies n body is);
         whose = ap (λ (k : KnownValue). k.me) now;
         journal = record {
-          spelled = subst (λ (some : List (List ℕ)). All (λ b. Spells b (record_of b)) some) (sym next)
-              (All-append (λ b. Spells b (record_of b)) (take n bodies) (body ∷ []) read.journal.spelled
-              (one_holds (λ b. Spells b (record_of b)) body taken.spelled));
+          spelled = subst (λ (some : List (List ℕ)). All (λ b. Spells rules.width b (record_of rules.width b)) some) (sym next)
+              (All-append (λ b. Spells rules.width b (record_of rules.width b)) (take n bodies) (body ∷ []) read.journal.spelled
+              (one_holds (λ b. Spells rules.width b (record_of rules.width b)) body taken.spelled));
           journal = subst (λ (some : List Record). IsJournal rules me room some) (sym records)
               (journal_more rules me room before r read.journal.journal allowed);
         };
@@ -95,12 +97,12 @@ module _ (rules : Rules) (me room : ℕ) (bodies : List (List ℕ)) where
   read_all n now checks last read all =
       let whole : take n bodies ≡ bodies = ap (λ (m : ℕ). take m bodies) all ∙ take-length bodies in (
         subst (λ (some : List (List ℕ)). AreJournalBodies rules me room some) whole read.journal,
-        read.known ∙ ap (λ (some : List (List ℕ)). known_of rules me (records_of some)) whole,
-        read.epoch ∙ ap (λ (some : List (List ℕ)). epoch (records_of some)) whole,
-        read.saved ∙ ap (λ (some : List (List ℕ)). checks_of (records_of some)) whole,
+        read.known ∙ ap (λ (some : List (List ℕ)). known_of rules me (records_of rules.width some)) whole,
+        read.epoch ∙ ap (λ (some : List (List ℕ)). epoch (records_of rules.width some)) whole,
+        read.saved ∙ ap (λ (some : List (List ℕ)). checks_of (records_of rules.width some)) whole,
       )
 
-  other_game : (body : List ℕ) (r : Record) → slice_get bodies 0 ≡ Some body → Spells body r → IsOfOtherGame rules room r
+  other_game : (body : List ℕ) (r : Record) → slice_get bodies 0 ≡ Some body → Spells rules.width body r → IsOfOtherGame rules room r
       → IsRefusal rules me room bodies WrongGame
   other_game body (Head player form id named) first spells other = (player, id, named, (body, form, first, spells), other)
   other_game body (Epoch player number form) first spells other = absurd other
@@ -112,7 +114,7 @@ module _ (rules : Rules) (me room : ℕ) (bodies : List (List ℕ)) where
   other_game body (State player frames piece bytes) first spells other = absurd other
   other_game body (Check player frames digest) first spells other = absurd other
 
-  other_player : (body : List ℕ) (r : Record) → slice_get bodies 0 ≡ Some body → Spells body r → IsOfOtherPlayer rules me room r
+  other_player : (body : List ℕ) (r : Record) → slice_get bodies 0 ≡ Some body → Spells rules.width body r → IsOfOtherPlayer rules me room r
       → IsRefusal rules me room bodies WrongPlayer
   other_player body (Head player form id named) first spells other = (
     player,
@@ -120,8 +122,8 @@ module _ (rules : Rules) (me room : ℕ) (bodies : List (List ℕ)) where
       body,
       form,
       first,
-      subst (λ (one : List ℕ). Spells body (Head player form one room)) other.0
-          (subst (λ (one : ℕ). Spells body (Head player form id one)) other.1 spells),
+      subst (λ (one : List ℕ). Spells rules.width body (Head player form one room)) other.0
+          (subst (λ (one : ℕ). Spells rules.width body (Head player form id one)) other.1 spells),
     ),
     other.2,
   )
@@ -138,8 +140,8 @@ module _ (rules : Rules) (me room : ℕ) (bodies : List (List ℕ)) where
   said : (n : ℕ) (now : KnownValue) (checks : ChecksValue) (last : ℕ) → IsReadTo rules me room bodies n now checks last
       → (some : List (List ℕ)) → take n bodies ≡ some → AreSaid rules me some now checks
   said n now checks last read some is = (
-    read.known ∙ ap (λ (before : List (List ℕ)). known_of rules me (records_of before)) is,
-    read.saved ∙ ap (λ (before : List (List ℕ)). checks_of (records_of before)) is,
+    read.known ∙ ap (λ (before : List (List ℕ)). known_of rules me (records_of rules.width before)) is,
+    read.saved ∙ ap (λ (before : List (List ℕ)). checks_of (records_of rules.width before)) is,
   )
 
   -- why a body is refused after those before it
@@ -166,7 +168,7 @@ module _ (rules : Rules) (me room : ℕ) (bodies : List (List ℕ)) where
             before = read.journal;
             bad = λ b r there spells may.
                 let same : b ≡ body = cc in
-                unfit.2 r (subst (λ (one : List ℕ). Spells one r) same spells)
+                unfit.2 r (subst (λ (one : List ℕ). Spells rules.width one r) same spells)
                 (subst (λ (past : Past). IsAllowedAfter rules room past r) (sym (same_past n now checks last read)) may);
           },
           λ player id named begins none.
@@ -175,7 +177,8 @@ module _ (rules : Rules) (me room : ℕ) (bodies : List (List ℕ)) where
               let there = begins.2 in
               let first : slice_get bodies 0 ≡ Some body = subst (λ (k : ℕ). slice_get bodies k ≡ Some body) none is in
               let same : b ≡ body = cc in
-              unfit.1 (Head player form id named) (subst (λ (one : List ℕ). Spells one (Head player form id named)) same begins.3) none tt,
+              unfit.1 (Head player form id named)
+              (subst (λ (one : List ℕ). Spells rules.width one (Head player form id named)) same begins.3) none tt,
         ),
         (read.known, read.saved),
       )

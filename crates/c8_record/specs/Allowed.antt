@@ -124,7 +124,7 @@ IsOpening (Check player frames digest) = ⊥
 -- holds. The first record is a HEAD. After its own LEAVE, a player other than player one adds only
 -- openings.
 pub record IsAllowedAfter (rules : Rules) (room : ℕ) (past : Past) (r : Record) : Type 0 where
-  pub spelled : HasSpelling r
+  pub spelled : HasSpelling rules.width r
   pub plays : Plays past.known (player_of r)
   pub may : MayFollow rules room past r
   pub begins : past.count ≡ 0 → IsHead r

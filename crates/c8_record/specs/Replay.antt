@@ -15,28 +15,30 @@ use Rattle.c8_record.specs.declared.error.ReplayError.TheVariants.{WrongGame, Wr
 
 -- Each body spells a record, and the records are a journal of the player, the game and the room.
 pub record AreJournalBodies (rules : Rules) (me room : ℕ) (bodies : List (List ℕ)) : Type 0 where
-  pub spelled : All (λ body. Spells body (record_of body)) bodies
-  pub journal : IsJournal rules me room (records_of bodies)
+  pub spelled : All (λ body. Spells rules.width body (record_of rules.width body)) bodies
+  pub journal : IsJournal rules me room (records_of rules.width bodies)
 
 -- the first body spells this HEAD
-abbrev pub BeginsWithHead : List (List ℕ) → ℕ → List ℕ → ℕ → Type 0
-BeginsWithHead bodies player id room = (body : List ℕ) × (form : ℕ) × (slice_get bodies 0 ≡ Some body) × Spells body (Head player form id room)
+abbrev pub BeginsWithHead : ℕ → List (List ℕ) → ℕ → List ℕ → ℕ → Type 0
+BeginsWithHead width bodies player id room =
+    (body : List ℕ) × (form : ℕ) × (slice_get bodies 0 ≡ Some body) × Spells width body (Head player form id room)
 
 -- Body n is the first that does not spell a record, or whose record is not allowed there.
 pub record IsFirstBad (rules : Rules) (me room : ℕ) (bodies : List (List ℕ)) (n : ℕ) : Type 0 where
   pub within : n < length bodies
   pub before : AreJournalBodies rules me room (take n bodies)
-  pub bad : (body : List ℕ) (r : Record) → slice_get bodies n ≡ Some body → Spells body r → IsAllowed rules me room (records_of (take n bodies)) r → ⊥
+  pub bad : (body : List ℕ) (r : Record) → slice_get bodies n ≡ Some body → Spells rules.width body r
+      → IsAllowed rules me room (records_of rules.width (take n bodies)) r → ⊥
 
 -- Why bodies are refused. The first is a HEAD of another game or room; or it is a HEAD of this game and
 -- room, and of another player; or else body n is the first that does not spell a record or whose record
 -- is not allowed there.
 abbrev pub IsRefusal : Rules → ℕ → ℕ → List (List ℕ) → ReplayError → Type 0
 IsRefusal rules me room bodies WrongGame =
-    (player : ℕ) × (id : List ℕ) × (named : ℕ) × BeginsWithHead bodies player id named × ((id ≢ id_of rules) ⊎ (named ≢ room))
-IsRefusal rules me room bodies WrongPlayer = (player : ℕ) × BeginsWithHead bodies player (id_of rules) room × (player ≢ me)
+    (player : ℕ) × (id : List ℕ) × (named : ℕ) × BeginsWithHead rules.width bodies player id named × ((id ≢ id_of rules) ⊎ (named ≢ room))
+IsRefusal rules me room bodies WrongPlayer = (player : ℕ) × BeginsWithHead rules.width bodies player (id_of rules) room × (player ≢ me)
 IsRefusal rules me room bodies (BadRecord n) =
-    IsFirstBad rules me room bodies n × ((player : ℕ) (id : List ℕ) (named : ℕ) → BeginsWithHead bodies player id named → n ≢ 0)
+    IsFirstBad rules me room bodies n × ((player : ℕ) (id : List ℕ) (named : ℕ) → BeginsWithHead rules.width bodies player id named → n ≢ 0)
 IsRefusal rules me room bodies (Disk why) = ⊥
 
 -- how many bodies were taken before the refused one; never used for a failure of the disk
@@ -48,14 +50,16 @@ taken_before (Disk why) = 0
 
 -- what the records of these bodies make known, and what they say about checkpoints
 abbrev pub AreSaid : Rules → ℕ → List (List ℕ) → KnownValue → ChecksValue → Type 0
-AreSaid rules me bodies known checks = (known ≡ known_of rules me (records_of bodies)) × (checks ≡ checks_of (records_of bodies))
+AreSaid rules me bodies known checks = (known ≡ known_of rules me (records_of rules.width bodies))
+    × (checks ≡ checks_of (records_of rules.width bodies))
 
 -- The result of a replay. Either all records are taken, and the answer is the last epoch, or 0 without
 -- records. Or a body is refused, and the records before it are taken.
 abbrev pub IsReplayed : Rules → ℕ → ℕ → List (List ℕ) → Result ℕ ReplayError → KnownValue → ChecksValue → Type 0
 IsReplayed rules me room bodies (Ok last) known checks =
-    AreJournalBodies rules me room bodies × (known ≡ known_of rules me (records_of bodies)) × (last ≡ epoch (records_of bodies))
-    × (checks ≡ checks_of (records_of bodies))
+    AreJournalBodies rules me room bodies × (known ≡ known_of rules me (records_of rules.width bodies))
+    × (last ≡ epoch (records_of rules.width bodies))
+    × (checks ≡ checks_of (records_of rules.width bodies))
 IsReplayed rules me room bodies (Err error) known checks =
     IsRefusal rules me room bodies error × AreSaid rules me (take (taken_before error) bodies) known checks
 

@@ -2,12 +2,11 @@
 ghost use Rattle.std.specs.Prelude.{◌≡◌, ◌≢◌, ◌↔◌, ℕ, true, MatchResult};
 ghost use Rattle.c8_game.specs.Rules.{id_of};
 ghost use Rattle.c8_known.specs.Known.{Plays, IsKnown, IsOfGame};
-ghost use Rattle.c8_wire.specs.Lent.{version_of, words};
-ghost use Rattle.c8_game.specs.declared.wire.WireVersion.TheVariants as versions;
+ghost use Rattle.c8_wire.specs.Lent.{words};
 ghost use Rattle.c8_wire.specs.Spelling.{words_bytes};
 ghost use Rattle.c8_record.specs.Allowed.{MayEpoch, MayOwn, MayGot, MayFreeze, MayLeave, MayCut, MayState, MayEnd, IsAllowedAfter};
 ghost use Rattle.c8_record.specs.Body.{HasSpelling};
-ghost use Rattle.c8_record.specs.Lent.{value_of, IsOfWords};
+ghost use Rattle.c8_record.specs.Lent.{value_of, IsOfWords, AreWordsOf, word_width};
 ghost use Rattle.c8_record.specs.Seen.{value_of as value_in};
 ghost use Rattle.c8_record.specs.checked.Taken.{past_in, IsUnfit};
 
@@ -27,8 +26,8 @@ pub(crate) fn judge(
     lent: &Record<'_>,
 ) -> Result<(), ReplayError>
     requires of_game { IsOfGame replay.now.game.now known.now.me known.now }
-    requires spelled { HasSpelling (value_of lent.now) }
-    requires words { IsOfWords lent.now }
+    requires spelled { HasSpelling replay.now.game.now.width (value_of lent.now) }
+    requires words { IsOfWords replay.now.game.now.width lent.now }
     ensures known { IsKnown known.now }
     ensures judged { MatchResult result
         (λ _. IsAllowedAfter replay.now.game.now replay.now.room
@@ -56,7 +55,7 @@ fn judge_first(
     lent: &Record<'_>,
 ) -> Result<(), ReplayError>
     requires first { replay.now.count ≡ 0 }
-    requires spelled { HasSpelling (value_of lent.now) }
+    requires spelled { HasSpelling replay.now.game.now.width (value_of lent.now) }
     ensures { MatchResult result
         (λ _. IsAllowedAfter replay.now.game.now replay.now.room
         (past_in replay.now (value_in checks.now) known.now) (value_of lent.now))
@@ -85,8 +84,8 @@ fn judge_first(
 /// Returns whether a record may follow the earlier ones.
 fn may_follow(replay: &Replay<'_>, checks: &Checks, known: &Known, lent: &Record<'_>) -> bool
     requires later { replay.now.count ≢ 0 }
-    requires spelled { HasSpelling (value_of lent.now) }
-    requires words { IsOfWords lent.now }
+    requires spelled { HasSpelling replay.now.game.now.width (value_of lent.now) }
+    requires words { IsOfWords replay.now.game.now.width lent.now }
     ensures { (result ≡ true) ↔ IsAllowedAfter replay.now.game.now replay.now.room
         (past_in replay.now (value_in checks.now) known.now) (value_of lent.now) }
 {
@@ -150,19 +149,19 @@ fn may_state(
     piece: u32,
     run: Run<'_>,
 ) -> bool
-    requires { version_of run ≡ versions.One }
+    requires { AreWordsOf word_width run }
     ensures { (result ≡ true) ↔ MayState known.now (value_in checks.now) player.number frames piece
-        (words_bytes (words run.entry)) }
+        (words_bytes word_width (words run.entry)) }
 {
     let me = known.me();
     player.number == me.number && checks.may_take(known.confirmed(), frames, piece, run.bytes())
 }
 
 fn may_end(known: &Known, checks: &Checks, player: Player, frames: u32, run: Run<'_>) -> bool
-    requires { version_of run ≡ versions.One }
+    requires { AreWordsOf word_width run }
     ensures { (result ≡ true)
         ↔ MayEnd known.now (value_in checks.now) player.number frames
-        (words_bytes (words run.entry)) }
+        (words_bytes word_width (words run.entry)) }
 {
     let me = known.me();
     player.number == me.number && checks.may_check(frames, run.bytes())

@@ -22,7 +22,7 @@ pub fn make_known(known: &mut Known, lent: &Record<'_>)
     match *lent {
         Record::Head { .. } | Record::Epoch { .. } | Record::State { .. } | Record::Check { .. } =>
             {}
-        Record::Own { keys, .. } => known.own(keys),
+        Record::Own { input, .. } => known.own(input),
         Record::Got { player, run, .. } => known.take(player, run),
         Record::Freeze { player } => known.freeze(player),
         Record::Leave { player } => known.leave(player),

@@ -13,23 +13,29 @@ ghost use Rattle.c8_record.specs.declared.error.ReplayError.{ReplayError};
 ghost use Rattle.c8_record.specs.Allowed.{IsAllowed, IsJournal, IsOrderly, AreInOrder};
 ghost use Rattle.c8_record.specs.Replay.{AreJournalBodies, IsRefusal};
 
-/// A record that can be spelled has one spelling, of 143 bytes, which reads back as that record only.
+/// A record that can be spelled in a width has one spelling in it, of 143 bytes, which reads back as that
+/// record only.
 pub fn a_spelling_reads_back()
-    ensures length { (r : Record) → HasSpelling r → length (body_of r) ≡ 143 }
-    ensures back { (r : Record) → HasSpelling r → record_of (body_of r) ≡ r }
-    ensures only { (body : List ℕ) (r : Record) → Spells body r → r ≡ record_of body }
+    ensures length { (width : ℕ) (r : Record) → HasSpelling width r
+        → length (body_of width r) ≡ 143 }
+    ensures back { (width : ℕ) (r : Record) → HasSpelling width r
+        → record_of width (body_of width r) ≡ r }
+    ensures only { (width : ℕ) (body : List ℕ) (r : Record) → Spells width body r
+        → r ≡ record_of width body }
 {}
 
 /// The bodies of a journal are the spellings of its records, and the spellings of a journal's records
 /// are its bodies.
 pub fn bodies_are_the_spellings()
     ensures bodies { (rules : Rules) (me room : ℕ) (bodies : List (List ℕ))
-        → AreJournalBodies rules me room bodies → map body_of (records_of bodies) ≡ bodies }
+        → AreJournalBodies rules me room bodies
+        → map (body_of rules.width) (records_of rules.width bodies) ≡ bodies }
     ensures records { (rules : Rules) (me room : ℕ) (journal : List Record)
-        → IsJournal rules me room journal → records_of (map body_of journal) ≡ journal }
+        → IsJournal rules me room journal
+        → records_of rules.width (map (body_of rules.width) journal) ≡ journal }
     ensures spell { (rules : Rules) (me room : ℕ) (journal : List Record)
         → IsJournal rules me room journal
-        → AreJournalBodies rules me room (map body_of journal) }
+        → AreJournalBodies rules me room (map (body_of rules.width) journal) }
 {}
 
 /// A journal with one more allowed record is a journal. A prefix of a journal is a journal.

@@ -1,7 +1,7 @@
 //! The records of a journal: the spelling of each in the 143 bytes of a slot's body, the rules of their
 //! order, what a peer knows after it reads its journal, and checkpoints.
 //!
-//! `view` reads a record from a body in place, and `body_of` writes one. `make_known` adds a record to
+//! `view` reads a record from a body in place, and `body_of` writes one, both in the width of the game's inputs. `make_known` adds a record to
 //! what is known. `replay` reads a whole journal from a log, `replay_bytes` from the bytes of a disk.
 //! docs/FORMATS.md specifies the bytes and the rules.
 //!

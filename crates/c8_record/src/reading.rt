@@ -1,30 +1,33 @@
 //! Reads a record from a body.
-ghost use Rattle.std.specs.Prelude.{◌≡◌, ◌<◌, ◌*◌, ◌↔◌, true, take, drop, MatchOption, IfSome};
-ghost use Rattle.c8_wire.specs.Lent.{version_of, words, spelled};
-ghost use Rattle.c8_game.specs.declared.wire.WireVersion.TheVariants as versions;
+ghost use Rattle.std.specs.Prelude.{◌≡◌, ◌<◌, ◌*◌, ◌↔◌, ◌⊎◌, true, take, drop, MatchOption, IfSome};
+ghost use Rattle.c8_game.specs.Inputs.{Fits};
+ghost use Rattle.c8_pairs.specs.Sizes.{run_bytes};
+ghost use Rattle.c8_wire.specs.Lent.{words, spelled};
 ghost use Rattle.c8_wire.specs.Reading.{number_at};
 ghost use Rattle.c8_known.specs.Journal as journals;
-ghost use Rattle.c8_record.specs.Body.{bytes_at, Spells, record_of, run_place, run_at, IsForm};
-ghost use Rattle.c8_record.specs.Lent.{value_of, IsSliceOf, IsComplete, IsOfWords};
+ghost use Rattle.c8_record.specs.Body.{Spells, record_of, run_place, run_at, most_inputs, IsForm};
+ghost use Rattle.c8_record.specs.Lent.{value_of, IsSliceOf, IsComplete, IsOfWords, AreWordsOf};
 ghost use Rattle.c8_wire.specs.Spelling.{words_bytes};
-ghost use Rattle.c8_wire.specs.Sizes.{longest_run};
 
-use crate::record::{DIGEST_WORDS, RUN_PLACE, Record};
+use crate::record::{DIGEST_WORDS, RUN_PLACE, Record, WORD};
 use crate::spelled::is_body_of;
-use c8_game::{Keys, Player};
+use byteorder::{BigEndian, ByteOrder};
+use c8_game::{Input, Player, Width};
 use c8_log::BODY_LENGTH;
-use c8_wire::{LONGEST_RUN, Run, u16_at, u32_at, u64_at};
+use c8_pairs::{LONGEST_RUN, RUN_BYTES};
+use c8_wire::{Run, u16_at, u32_at, u64_at};
 
-/// Reads a record in place; the result borrows from the body. Returns `None` if the body is not the
-/// spelling of a record. It does not check whether the rules allow the record.
-pub fn view(body: &[u8; BODY_LENGTH]) -> Option<Record<'_>>
-    ensures value { MatchOption result ((r : journals.Record) → Spells body.now r → ⊥)
-        (λ lent. Spells body.now (value_of lent)) }
+/// Reads a record in place, in a game with inputs of this width; the result borrows from the body.
+/// Returns `None` if the body is not the spelling of a record. It does not check whether the rules allow
+/// the record.
+pub fn view(body: &[u8; BODY_LENGTH], width: Width) -> Option<Record<'_>>
+    ensures value { MatchOption result ((r : journals.Record) → Spells width.bytes body.now r → ⊥)
+        (λ lent. Spells width.bytes body.now (value_of lent)) }
     ensures slice { IfSome result (λ lent. IsSliceOf body.now lent) }
-    ensures words { IfSome result (λ lent. IsOfWords lent) }
+    ensures words { IfSome result (IsOfWords width.bytes) }
 {
-    let lent = read(body)?;
-    if !is_complete(&lent) || !is_body_of(body, &lent) {
+    let lent = read(body, width)?;
+    if !is_complete(&lent) || !is_body_of(body, &lent, width) {
         return None;
     }
     Some(lent)
@@ -33,18 +36,16 @@ pub fn view(body: &[u8; BODY_LENGTH]) -> Option<Record<'_>>
 /// Returns the record that the body spells if it spells one. Returns `None` if a field alone shows that
 /// it spells none.
 #[tactic(auto, unfolding(crate::specs::Body::record_of))]
-fn read(body: &[u8; BODY_LENGTH]) -> Option<Record<'_>>
-    ensures value { MatchOption result ((r : journals.Record) → Spells body.now r → ⊥)
-        (λ lent. value_of lent ≡ record_of body.now) }
+fn read(body: &[u8; BODY_LENGTH], width: Width) -> Option<Record<'_>>
+    ensures value { MatchOption result ((r : journals.Record) → Spells width.bytes body.now r → ⊥)
+        (λ lent. value_of lent ≡ record_of width.bytes body.now) }
     ensures slice { IfSome result (λ lent. IsSliceOf body.now lent) }
-    ensures words { IfSome result (λ lent. IsOfWords lent) }
+    ensures words { IfSome result (IsOfWords width.bytes) }
 {
-    let kind = body[0];
     let player = Player::new(body[1])?;
     let number = u32_at(body, 2);
     let start = u32_at(body, 6);
-    let run = run_of(body)?;
-    match kind {
+    match body[0] {
         1 => Some(Record::Head {
             player,
             form: start,
@@ -59,27 +60,30 @@ fn read(body: &[u8; BODY_LENGTH]) -> Option<Record<'_>>
         3 => Some(Record::Own {
             player,
             start,
-            keys: Keys(u16_at(body, RUN_PLACE)),
+            input: input_of(body, width),
         }),
-        4 => Some(Record::Got { player, start, run }),
+        4 => {
+            let run = run_of(body, width)?;
+            Some(Record::Got { player, start, run })
+        }
         5 => Some(Record::Freeze { player }),
         6 => Some(Record::Leave { player }),
         7 => Some(Record::Cut {
             player,
             length: number,
             start,
-            run,
+            run: run_of(body, width)?,
         }),
         8 => Some(Record::State {
             player,
             frames: number,
             piece: start,
-            run,
+            run: run_of(body, WORD)?,
         }),
         9 => Some(Record::Check {
             player,
             frames: number,
-            run,
+            run: run_of(body, WORD)?,
         }),
         _ => None,
     }
@@ -96,21 +100,37 @@ fn id_of(body: &[u8; BODY_LENGTH]) -> &[u8; 32]
     }
 }
 
-/// Returns the run in the body, or `None` if its count is above 64.
-fn run_of(body: &[u8; BODY_LENGTH]) -> Option<Run<'_>>
-    ensures slice { MatchOption result (longest_run < number_at 10 2 body.now)
-        (λ run. spelled run ≡ take (2 * number_at 10 2 body.now) (drop run_place body.now)) }
-    ensures words { IfSome result (λ run. words run ≡ run_at body.now) }
-    ensures bytes { IfSome result (λ run. words_bytes (words run) ≡ bytes_at body.now) }
-    ensures version { IfSome result (λ run. version_of run ≡ versions.One) }
+/// Returns the input in the body of an `Own`.
+fn input_of(body: &[u8; BODY_LENGTH], width: Width) -> Input
+    ensures value { result ≡ number_at 12 width.bytes body.now }
+    ensures fits { Fits width.bytes result }
+{
+    let (_, rest) = body.split_at(RUN_PLACE);
+    Input(BigEndian::read_uint(rest, usize::from(width.bytes)))
+}
+
+/// Returns the run in the body, with inputs of a width. `None` if there are more than 64, or they have more than 128
+/// bytes.
+fn run_of(body: &[u8; BODY_LENGTH], width: Width) -> Option<Run<'_>>
+    ensures slice { MatchOption result
+        ((most_inputs < number_at 10 2 body.now) ⊎ (run_bytes < width.bytes * number_at 10 2 body.now))
+        (λ run. spelled run ≡ take (width.bytes * number_at 10 2 body.now) (drop run_place body.now)) }
+    ensures words { IfSome result (λ run. words run ≡ run_at width.bytes body.now) }
+    ensures bytes { IfSome result (λ run. words_bytes width.bytes (words run)
+        ≡ take (width.bytes * number_at 10 2 body.now) (drop run_place body.now)) }
+    ensures plain { IfSome result (AreWordsOf width.bytes) }
 {
     let count = usize::from(u16_at(body, 10));
     if count > LONGEST_RUN {
         return None;
     }
+    let length = usize::from(width.bytes) * count;
+    if length > RUN_BYTES {
+        return None;
+    }
     let (_, rest) = body.split_at(RUN_PLACE);
-    let (run, _) = rest.split_at(2 * count);
-    Some(Run::new(run))
+    let (run, _) = rest.split_at(length);
+    Some(Run::new(run, width))
 }
 
 /// Returns whether the record has what its kind needs to be spelled.

@@ -152,7 +152,7 @@ fn take_body(
     ensures known_stays { OnErr result (known.new ≡ known.old) }
     ensures checks_stay { OnErr result (value_in checks.new ≡ value_in checks.old) }
 {
-    let Some(lent) = view(body) else {
+    let Some(lent) = view(body, replay.game.width()) else {
         return Err(ReplayError::BadRecord(replay.count));
     };
     judge(replay, checks, known, &lent)?;
@@ -164,7 +164,7 @@ fn take_body(
 /// Notes what a record says about checkpoints. The record must be allowed after those noted so far.
 fn note(checks: &mut Checks, lent: &Record<'_>)
     requires may { MaySay (value_in checks.old) (value_of lent.now) }
-    requires words { IsOfWords lent.now }
+    requires words { (width : ℕ) × IsOfWords width lent.now }
     ensures { value_in checks.new ≡ with_check (value_in checks.old) (value_of lent.now) }
 {
     match *lent {

@@ -73,6 +73,9 @@ pub enum TickError {
     /// This peer's player was dropped, and its journal says so.
     #[error("this player has been dropped")]
     Dropped,
+    /// The input has more bytes than the inputs of the game. Nothing has changed.
+    #[error("an input of more bytes than the game's")]
+    Wide,
     /// The disk refused the record. The peer is down: its readers answer as before the call, and the next opening that
     /// reads the journal decides whether the input stands.
     #[error("the disk refused a call")]
@@ -93,6 +96,7 @@ impl TickError {
             TickError::Dropped => 3,
             TickError::Disk(_) => 4,
             TickError::Down => 5,
+            TickError::Wide => 6,
         }
     }
 
@@ -104,6 +108,7 @@ impl TickError {
             TickError::Dropped => "Dropped",
             TickError::Disk(_) => "Disk",
             TickError::Down => "Down",
+            TickError::Wide => "Wide",
         }
     }
 }
@@ -114,8 +119,8 @@ pub enum Refused {
     /// The bytes are not a datagram.
     #[error("{0}")]
     Wire(WireError),
-    /// The datagram is in another version of the format than the game's.
-    #[error("not in the version of datagrams that the game names")]
+    /// The datagram is in another version of the format than the game's, or has inputs of another width.
+    #[error("not in the version and width of datagrams that the game names")]
     OtherWire,
     /// The datagram is not for this peer, this match or these epochs.
     #[error("{0}")]

@@ -45,7 +45,7 @@ pub record IsRunOfRows (rules : Rules) (rows : List Row) (played : Played) : Typ
 -- machine too; its text is not specified.
 abbrev pub IsShown : Rules → Form → List Row → Shown → Type 0
 IsShown rules form rows (Report played) = (form ≡ forms.Report) × IsRunOfRows rules rows played
-IsShown rules form rows (Keys text) = (form ≡ forms.Keys) × (text.items ≡ keys_text rules.players rows) × SpellRows rules text.items rows
+IsShown rules form rows (Keys text) = (form ≡ forms.Keys) × (text.items ≡ keys_text rules.width rules.players rows) × SpellRows rules text.items rows
 IsShown rules form rows (Page played page) = (form ≡ forms.Page) × IsRunOfRows rules rows played
 
 -- The image keeps a journal, and this is what is shown of its first confirmed rows.

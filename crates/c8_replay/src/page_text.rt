@@ -95,11 +95,11 @@ button { background: var(--main); border-color: var(--main); color: var(--on-mai
 pub(crate) const BEFORE_DROPS: &str = r##"</script>
 <script type="text/plain" id="drops">"##;
 
-/// Between the drops and the key sets, which have four digits for each player of each frame.
+/// Between the drops and the inputs: one for each player of each frame, all with the same number of digits.
 pub(crate) const BEFORE_KEYS: &str = r##"</script>
 <script type="text/plain" id="keys">"##;
 
-/// Between the key sets and the changes of the pictures. A comma ends the changes of a frame. A change is four digits:
+/// Between the inputs and the changes of the pictures. A comma ends the changes of a frame. A change is four digits:
 /// two for the place of a byte of the screen, and two for its bits that change.
 pub(crate) const BEFORE_PICTURES: &str = r##"</script>
 <script type="text/plain" id="pictures">"##;
@@ -159,6 +159,7 @@ const drops = textOf('drops').split('\n').filter(line => line).map(line => line.
 const picture = new Picture(part('screen'));
 followColors(it => picture.become(it));
 const numbers = Array.from({ length: players }, (_, place) => place + 1);
+const width = frames ? keys.length / (players * frames) : 0;
 let shown = 0, isPlaying = false, last = 0, owed = 0;
 function change(screen, frame) {
   const changes = pictures[frame];
@@ -166,8 +167,8 @@ function change(screen, frame) {
   for (let at = 0; at < changes.length; at += DIGITS) screen[byte(at)] ^= byte(at + 2);
 }
 function heldBy(player) {
-  const at = DIGITS * (players * (shown - 1) + player - 1);
-  return shown ? parseInt(keys.slice(at, at + DIGITS), 16) : 0;
+  const end = width * (players * (shown - 1) + player);
+  return shown ? parseInt(keys.slice(end - Math.min(width, DIGITS), end), 16) : 0;
 }
 function showKeys(player) {
   const held = heldBy(player), drop = drops.find(([who]) => who === player);

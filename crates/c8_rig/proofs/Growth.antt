@@ -45,7 +45,7 @@ one most bytes few (suc k) d within = absurd (omega (arith, within))
 
 short_said : (most : ℕ) (act : Act) (bytes : List ℕ) → length bytes ≤ most → All (λ these. length these ≤ most) (said_in act bytes)
 short_said most (Open p) bytes few = λ k d none. absurd (omega (arith, none))
-short_said most (Tick p keys) bytes few = λ k d none. absurd (omega (arith, none))
+short_said most (Tick p input) bytes few = λ k d none. absurd (omega (arith, none))
 short_said most (Say p to what) bytes few = one most bytes few
 short_said most (Give number p) bytes few = λ k d none. absurd (omega (arith, none))
 short_said most (Leave leaver) bytes few = λ k d none. absurd (omega (arith, none))
@@ -78,7 +78,7 @@ nothing (bytes ∷ said) none = absurd (omega (arith, none))
 
 no_saying : (act : Act) (bytes : List ℕ) (more : List (List ℕ)) → said_in act bytes ++ more ≡ [] → (said_in act bytes ≡ []) × (more ≡ [])
 no_saying (Open p) bytes more e = (refl, e)
-no_saying (Tick p keys) bytes more e = (refl, e)
+no_saying (Tick p input) bytes more e = (refl, e)
 no_saying (Say p to what) bytes more e = absurd cc
 no_saying (Give number p) bytes more e = (refl, e)
 no_saying (Leave leaver) bytes more e = (refl, e)

@@ -239,10 +239,10 @@ turn : AreRead → (rules : Rules) (room : ℕ) (w : World) (act : Act) (bytes :
     → Turns rules room w (record { act = act; bytes = bytes }) t
 unfolding acted
 turn reads rules room w (Open p) bytes said t size plays are was follows = opens rules room w p bytes t size plays follows
-turn reads rules room w (Tick p keys) bytes said t size plays are was follows =
-    silent_turns rules room w (record { act = Tick p keys; bytes = bytes }) t (calls.Tick keys) size plays tt refl
+turn reads rules room w (Tick p input) bytes said t size plays are was follows =
+    silent_turns rules room w (record { act = Tick p input; bytes = bytes }) t (calls.Tick input) size plays tt refl
     (λ on_disk. (
-      (call_at rules w p (calls.Tick keys) on_disk).answer,
+      (call_at rules w p (calls.Tick input) on_disk).answer,
       record { happening = with_outcome on_disk; may = follows.done.may; is = refl },
     )) follows
 turn reads rules room w (Say p to what) bytes said t size plays are was follows = says rules room w p to what bytes t size plays follows

@@ -24,7 +24,7 @@ pub record NoteValue : Type 0 where
 -- a peer says something
 abbrev pub IsSaying : Act → Type 0
 IsSaying (Open p) = ⊥
-IsSaying (Tick p keys) = ⊥
+IsSaying (Tick p input) = ⊥
 IsSaying (Say p to what) = Unit {0}
 IsSaying (Give number p) = ⊥
 IsSaying (Leave leaver) = ⊥
@@ -38,7 +38,7 @@ IsSaying (Fresh watcher) = ⊥
 -- an act of a peer that neither says nor delivers anything
 abbrev pub IsDoing : Act → Type 0
 IsDoing (Open p) = Unit {0}
-IsDoing (Tick p keys) = Unit {0}
+IsDoing (Tick p input) = Unit {0}
 IsDoing (Say p to what) = ⊥
 IsDoing (Give number p) = ⊥
 IsDoing (Leave leaver) = Unit {0}
@@ -53,7 +53,7 @@ IsDoing (Fresh watcher) = ⊥
 
 abbrev pub said_in : Act → List ℕ → List (List ℕ)
 said_in (Open p) bytes = []
-said_in (Tick p keys) bytes = []
+said_in (Tick p input) bytes = []
 said_in (Say p to what) bytes = bytes ∷ []
 said_in (Give number p) bytes = []
 said_in (Leave leaver) bytes = []
@@ -72,7 +72,7 @@ said_by (n ∷ log) = said_in n.act n.bytes ++ said_by log
 -- a delivery has the bytes that were said under this number; nobody watches
 abbrev pub WasSaid : List (List ℕ) → Act → List ℕ → Type 0
 WasSaid said (Open p) bytes = Unit {0}
-WasSaid said (Tick p keys) bytes = Unit {0}
+WasSaid said (Tick p input) bytes = Unit {0}
 WasSaid said (Say p to what) bytes = Unit {0}
 WasSaid said (Give number p) bytes = slice_get said number ≡ Some bytes
 WasSaid said (Leave leaver) bytes = Unit {0}
@@ -118,7 +118,7 @@ IsAnything answer = Unit {0}
 -- The note leads player p's peer to this state: a Say says its bytes, and a Give delivers what its bytes spell.
 abbrev pub Follows : Rules → ℕ → ℕ → State → Act → List ℕ → State → Type 0
 Follows rules room p s (Open q) bytes t = IsOpenedAnew rules room p s t
-Follows rules room p s (Tick q keys) bytes t = IsCalled rules room p s (calls.Tick keys) IsAnything t
+Follows rules room p s (Tick q input) bytes t = IsCalled rules room p s (calls.Tick input) IsAnything t
 Follows rules room p s (Say q to what) bytes t = IsCalled rules room p s (calls.Say to what) (SpellsAnswer bytes) t
 Follows rules room p s (Give number q) bytes t = IsCalled rules room p s (calls.Deliver (read bytes)) IsAnything t
 Follows rules room p s (Leave leaver) bytes t = IsCalled rules room p s (calls.Leave leaver) IsAnything t

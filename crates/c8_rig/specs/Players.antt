@@ -21,7 +21,7 @@ module _ {D : Type 0} (disk : Ghosts D) where
   -- A note stands for one call of the peer. A saying changes nothing, and an open peer is not opened again.
   abbrev pub IsPlayed : PeerValue D → Act → List ℕ → PeerValue D → Type 0
   IsPlayed old (Open q) bytes new = ⊥
-  IsPlayed old (Tick q keys) bytes new = IsCallAt old (calls.Tick keys) new
+  IsPlayed old (Tick q input) bytes new = IsCallAt old (calls.Tick input) new
   IsPlayed old (Say q to what) bytes new = IsSaid old (calls.Say to what) bytes × (new ≡ old)
   IsPlayed old (Give number q) bytes new = IsCallAt old (calls.Deliver (read bytes)) new
   IsPlayed old (Leave leaver) bytes new = IsCallAt old (calls.Leave leaver) new

@@ -43,7 +43,7 @@ fn is_same_act(one: Act, other: Act) -> bool
 {
     match (one, other) {
         (Act::Open(a), Act::Open(b)) => a.number == b.number,
-        (Act::Tick(a, keys), Act::Tick(b, others)) => a.number == b.number && keys.0 == others.0,
+        (Act::Tick(a, input), Act::Tick(b, other)) => a.number == b.number && input == other,
         (Act::Say(a, to, kind), Act::Say(b, other_to, other_kind)) => a.number == b.number
             && to.number == other_to.number
             && is_same_kind(kind, other_kind),

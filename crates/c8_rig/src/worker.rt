@@ -11,7 +11,7 @@ use crate::ether::{Entry, Ether, Room};
 use crate::laws::peers_play_on;
 use crate::watch::Watch;
 use c8_disk::Disk;
-use c8_game::{Game, Keys, Player};
+use c8_game::{Game, Input, Player, Width};
 use c8_peer::laws::openings_are_deeds;
 use c8_peer::{Kind, Peer};
 use c8_transport::Worker;
@@ -29,6 +29,7 @@ struct Seat<'a, 'g, B: Room, R, D: Disk> {
     ether: &'a Ether<B>,
     entry: Entry,
     peer: Peer<'g, D>,
+    width: Width,
     random: Pcg32,
     ghost at: { entry.ether ≡ B.ether },
     ghost own: { entry.player ≡ peer.me },
@@ -43,15 +44,15 @@ impl<'a, 'g, B: Room, R: Wait, D: Disk> Seat<'a, 'g, B, R, D> {
         self.random.next_u32()
     }
 
-    /// Enters a key set. The error is that memory for the note ran out; then nothing is done. The same holds for the
+    /// Enters an input. The error is that memory for the note ran out; then nothing is done. The same holds for the
     /// calls below.
-    fn tick(&mut self, keys: Keys) -> Result<(), AllocError>
+    fn tick(&mut self, input: Input) -> Result<(), AllocError>
         ensures { HasPlayed D.Disk self.old.entry self.old.peer self.new.entry self.new.peer }
     {
         peers_play_on::<D>();
-        let act = Act::Tick(self.peer.me(), keys);
+        let act = Act::Tick(self.peer.me(), input);
         self.ether.note(self.rt, &mut self.entry, act)?;
-        let _ticked = self.peer.tick(keys);
+        let _ticked = self.peer.tick(input);
         Ok(())
     }
 
@@ -158,8 +159,8 @@ impl<'a, 'g, B: Room, R: Wait, D: Disk> Seat<'a, 'g, B, R, D> {
     {
         match self.word() % 8 {
             0 | 1 => {
-                let keys = (self.word() & 0xffff) as u16;
-                self.tick(Keys(keys))
+                let word = u64::from(self.word());
+                self.tick(spread(word).cut(self.width))
             }
             2..=4 => {
                 let choice = self.word();
@@ -213,7 +214,7 @@ pub fn rig_worker<'g, B: Room, R: Wait, D: Disk + Drop, G: Watch>(
     ensures entry { (result.0.ether ≡ entry.ether) × (result.0.player ≡ entry.player) }
     ensures peer { IfSome result.1 (λ peer. IsPeerOf game.entry.now entry.player peer) }
     ensures led { IfSome result.1 (λ peer. Leads game.entry.now 0 entry.player
-        (away_with (records_of (kept (D.seen disk)))) result.0.notes peer.state) }
+        (away_with (records_of game.entry.now.width (kept (D.seen disk)))) result.0.notes peer.state) }
     ensures played { IfSome result.1 (λ peer.
         HasPlayedOn D.Disk game.entry.now entry.player disk result.0.notes peer) }
 {
@@ -233,11 +234,17 @@ pub fn rig_worker<'g, B: Room, R: Wait, D: Disk + Drop, G: Watch>(
         ether,
         entry,
         peer,
+        width: game.width(),
         random,
     };
     seat.play(turns, gate);
     let Seat { entry, peer, .. } = seat;
     (entry, Some(peer))
+}
+
+/// Returns the input whose low four bytes and high four bytes are those of a word.
+fn spread(word: u64) -> Input {
+    Input((word & 0xffff_ffff) * 0x1_0000_0001)
 }
 
 /// Returns the player with a number, or player 4 for any other number.

@@ -8,7 +8,7 @@ use Rattle.c8_world.specs.declared.event.Event.TheVariants.{Do, Stop, Fail}
 
 abbrev pub act_names : Act → ℕ → Bool
 act_names (Open player) seat = false
-act_names (Tick player keys) seat = false
+act_names (Tick player input) seat = false
 act_names (Say player to what) seat = false
 act_names (Give number player) seat = false
 act_names (Leave leaver) seat = false

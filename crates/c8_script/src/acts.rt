@@ -1,17 +1,19 @@
 //! Writes acts as lines of a script.
 
-use c8_game::Player;
+use c8_game::{Player, Width};
 use c8_peer::Kind;
 use c8_wire::Watcher;
 use c8_world::Act;
 use std::io;
 use std::io::Write;
 
-/// Writes an act as a line of a script, as `tick 1 00ff`. `read_script` reads it back.
-pub fn write_act<W: Write>(out: &mut W, act: Act) -> io::Result<()> {
+/// Writes an act as a line of a script of a game whose inputs have this width, as `tick 1 00ff`. `read_script` reads it back.
+pub fn write_act<W: Write>(out: &mut W, act: Act, width: Width) -> io::Result<()> {
     match act {
         Act::Open(Player { number }) => writeln!(out, "open {number}"),
-        Act::Tick(Player { number }, keys) => writeln!(out, "tick {number} {keys}"),
+        Act::Tick(Player { number }, input) => {
+            writeln!(out, "tick {number} {}", input.digits(width))
+        }
         Act::Say(Player { number }, to, kind) => {
             write!(out, "say {number} {} ", to.number)?;
             write_kind(out, kind)

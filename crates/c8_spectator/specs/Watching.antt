@@ -2,7 +2,7 @@
 use Rattle.std.specs.Prelude.{ℕ, ◌+◌, ◌-◌, ◌==◌, ◌||◌, List, [], ◌∷◌, ◌++◌, length, drop, Bool, false, not, nat_lt, Option, Some, None}
 use Rattle.std.specs.Prelude.{Result, Ok, Err, if◌then◌else◌}
 use Rattle.std.specs.List.{list_all}
-use Rattle.c8_game.specs.Rules.{Rules, session_of, set_at}
+use Rattle.c8_game.specs.Rules.{Rules, session_of, input_at}
 use Rattle.c8_game.specs.Wire.{version_number}
 use Rattle.c8_game.specs.declared.row.Row.{Row}
 use Rattle.c8_wire.specs.declared.error.WireError.{WireError}
@@ -29,20 +29,21 @@ first_watch rules room seat = record { rules = rules; room = room; seat = seat; 
 
 -- ---- refusals, in the order of judging
 
--- a datagram of another match, or in another version than the game's
+-- a datagram of another match, or in another version or with inputs of another width than the game's
 abbrev pub is_of_other_match : WatchValue → HeadValue → Bool
 is_of_other_match w head = not (head.session == session_of w.rules w.room) || not (version_number head.version == version_number w.rules.wire)
+    || not (head.width == w.rules.width)
 
--- only players of the game have keys
+-- only players of the game have inputs
 abbrev pub is_of_game : Rules → Row → Bool
-is_of_game rules row = list_all (λ place. nat_lt place rules.players || set_at row place == 0) (0 ∷ 1 ∷ 2 ∷ 3 ∷ [])
+is_of_game rules row = list_all (λ place. nat_lt place rules.players || input_at row place == 0) (0 ∷ 1 ∷ 2 ∷ 3 ∷ [])
 
 abbrev pub are_of_game : Rules → List Row → Bool
 are_of_game rules rows = list_all (is_of_game rules) rows
 
--- two rows have the same four key sets
+-- two rows have the same four inputs
 abbrev pub are_same : Row → Row → Bool
-are_same a b = list_all (λ place. set_at a place == set_at b place) (0 ∷ 1 ∷ 2 ∷ 3 ∷ [])
+are_same a b = list_all (λ place. input_at a place == input_at b place) (0 ∷ 1 ∷ 2 ∷ 3 ∷ [])
 
 -- two lists of rows differ at a place where both have a row
 unfoldable pub differ : List Row → List Row → Bool
@@ -50,7 +51,7 @@ differ [] others = false
 differ (row ∷ rows) [] = false
 differ (row ∷ rows) (other ∷ others) = not (are_same row other) || differ rows others
 
--- Why rows are refused: one has keys of a player that is not in the game; they go beyond the last frame;
+-- Why rows are refused: one has an input of a player that is not in the game; they go beyond the last frame;
 -- there is a gap before them; or one differs from the row that was taken.
 unfoldable pub refusal_of_rows : WatchValue → ShowMessage → Option WatchError
 refusal_of_rows w m =
@@ -119,6 +120,7 @@ seen w = record {
   head = record {
     kind = kinds.Seen;
     version = w.rules.wire;
+    width = w.rules.width;
     session = session_of w.rules w.room;
     from = w.seat;
     to = 1;

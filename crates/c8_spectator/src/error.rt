@@ -8,14 +8,15 @@ use thiserror::Error;
 /// Why a watcher does not take a datagram: the first of these that applies, in this order.
 #[derive(Clone, Copy, Debug, PartialEq, Eq, Error)]
 pub enum WatchError {
-    /// The datagram is of another match, or in another version of the format than the game's.
+    /// The datagram is of another match, or in another version of the format or with inputs of another width than the
+    /// game's.
     #[error("from another match, or in another version of the format")]
     Session,
     /// The datagram is not a SHOW, or not for this seat.
     #[error("no rows for this watcher")]
     NotMine,
-    /// A row has keys of a player that is not in the game.
-    #[error("keys of a player who is not in the game")]
+    /// A row has an input of a player that is not in the game.
+    #[error("an input of a player who is not in the game")]
     Absent,
     /// The rows go beyond the last frame of the game.
     #[error("rows past the last frame")]

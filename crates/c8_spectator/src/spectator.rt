@@ -13,7 +13,7 @@ use crate::error::{NotTaken, WatchError};
 use crate::judging::{are_of_game, differ};
 use crate::taken::Taken;
 use c8_game::{Game, MOST_FRAMES, Player, Row};
-use c8_machine::Machine;
+use c8_machine::{Keys, Machine};
 use c8_wire::{
     Body, Datagram, DatagramKind, Head, LONGEST_DATAGRAM, Said, Seat, Show, Watcher, view, write,
 };
@@ -165,11 +165,14 @@ impl<'g> Spectator<'g> {
         }
     }
 
-    /// Returns whether a datagram is of another match, or in another version than the game's.
+    /// Returns whether a datagram is of another match, or in another version or with inputs of another width than the
+    /// game's.
     fn is_of_other_match(&self, head: &Head) -> bool
         ensures { result ≡ is_of_other_match self.now (head_value head.now) }
     {
-        head.session != self.session || head.version.number() != self.game.wire().number()
+        head.session != self.session
+            || head.version.number() != self.game.wire().number()
+            || head.width.bytes != self.game.width().bytes
     }
 
     /// Takes the rows of a SHOW to this seat, or refuses them.
@@ -234,7 +237,8 @@ impl<'g> Spectator<'g> {
         requires { length self.old.rows < self.old.rules.frames }
         ensures { self.new ≡ with_rows self.old (row ∷ []) }
     {
-        self.shown.frame(self.game, self.game.joined(&row));
+        self.shown
+            .frame(self.game, Keys::from(self.game.joined(&row)));
         let _kept = self.rows.push(row);
     }
 
@@ -248,6 +252,7 @@ impl<'g> Spectator<'g> {
         let head = Head {
             kind: DatagramKind::Seen,
             version: self.game.wire(),
+            width: self.game.width(),
             session: self.session,
             from: Seat::from(self.seat),
             to: Seat::from(Player::CHAIR),

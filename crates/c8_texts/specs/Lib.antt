@@ -1,6 +1,6 @@
 pub mod Errors
+pub mod InputLines
 pub mod KeyLines
-pub mod KeySets
 pub mod Report
 pub mod Run
 pub mod ShowErrors

@@ -36,7 +36,7 @@ use Rattle.c8_known.specs.Confirmed.{confirmed_rows}
 
 -- the answer to a disk that refuses a record is another one
 calm_by_disk : (J : ℕ → List Record) (p q : ℕ) (call : Call) (why : DiskError) → AnswersCalmly J p q (refused_by_disk call why)
-calm_by_disk J p q (states.Tick keys) why = unrefused J p q _ (λ x e. cc e)
+calm_by_disk J p q (states.Tick input) why = unrefused J p q _ (λ x e. cc e)
 calm_by_disk J p q (states.Deliver told) why = calm_other J p q _ (λ e. cc e) (λ e. cc e) (λ e. cc e)
 calm_by_disk J p q (states.Say to what) why = unrefused J p q _ (λ x e. cc e)
 calm_by_disk J p q (states.Show watcher) why = unrefused J p q _ (λ x e. cc e)
@@ -146,7 +146,8 @@ unfolding acted
 acted_well rules room w (Open p) h range sound =
     after_if (λ (a : After). a.answer ≢ refused_for BadAck) (is_player rules p) _ _
     (λ is. opens_otherwise rules room w p h (peer_of w p).mode BadAck) (λ none e. cc e)
-acted_well rules room w (Tick p keys) h range sound = λ e. (calm_call_at rules room w p (states.Tick keys) h.on_disk range sound tt BadAck e).ack refl
+acted_well rules room w (Tick p input) h range sound = λ e. (calm_call_at rules room w p (states.Tick input) h.on_disk range sound tt BadAck e).ack
+    refl
 acted_well rules room w (Say p to what) h range sound =
     λ e. (calm_call_at rules room w p (states.Say to what) h.on_disk range sound tt BadAck e).ack refl
 acted_well rules room w (Give number p) h range sound =

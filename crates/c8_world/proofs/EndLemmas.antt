@@ -54,18 +54,18 @@ same_row_of a b frame same within =
 
 -- a replay of what a disk keeps gives what the journal says, with the pending record or without
 pub replayed_known : (rules : Rules) (room p : ℕ) (s : State) (disk : MemDisk) (result : Result ℕ ReplayError) (known : KnownValue)
-    (checks : ChecksValue) → Tells s disk
+    (checks : ChecksValue) → Tells rules.width s disk
     → ((finds : Bool) → IsJournal rules p room (found s finds))
-    → ((journal : List Record) → IsJournal rules p room journal → records_of (map body_of journal) ≡ journal)
-    → ((journal : List Record) → IsJournal rules p room journal → AreJournalBodies rules p room (map body_of journal))
+    → ((journal : List Record) → IsJournal rules p room journal → records_of rules.width (map (body_of rules.width) journal) ≡ journal)
+    → ((journal : List Record) → IsJournal rules p room journal → AreJournalBodies rules p room (map (body_of rules.width) journal))
     → ((bodies : List (List ℕ)) (error : ReplayError) → AreJournalBodies rules p room bodies → IsRefusal rules p room bodies error → ⊥)
     → IsReplayed rules p room (kept (bytes_of disk)) result known checks
-    → (finds : Bool) × (known ≡ known_of rules p (found s finds)) × Keeps (found s finds) (bytes_of disk)
+    → (finds : Bool) × (known ≡ known_of rules p (found s finds)) × Keeps rules.width (found s finds) (bytes_of disk)
 replayed_known rules room p s disk (Ok last) known checks tells journals back spell unrefused is =
-    let now = found_now s disk tells in
-    (now.0, is.1 ∙ ap (known_of rules p) (ap records_of now.1 ∙ back (found s now.0) (journals now.0)), now.1)
+    let now = found_now rules.width s disk tells in
+    (now.0, is.1 ∙ ap (known_of rules p) (ap (records_of rules.width) now.1 ∙ back (found s now.0) (journals now.0)), now.1)
 replayed_known rules room p s disk (Err error) known checks tells journals back spell unrefused is =
-    let now = found_now s disk tells in
+    let now = found_now rules.width s disk tells in
     let bodies : AreJournalBodies rules p room (kept (bytes_of disk)) =
     subst (λ (xs : List (List ℕ)). AreJournalBodies rules p room xs) (sym now.1) (spell (found s now.0) (journals now.0)) in
     absurd (unrefused (kept (bytes_of disk)) error bodies is.0)
@@ -224,7 +224,7 @@ are_ends t w standings players agree some stand players_are agreed =
     let d : Standing = first_of standings many in
     let picked = all_picked t.rules.players (λ p finds.
     ((other : Standing) → known_at (slice_index_or standings (p - 1) other) ≡ known_of t.rules p (found (peer_of w p) finds))
-    × IsRead (peer_of w p) (node_of t p) finds)
+    × IsRead t.rules.width (peer_of w p) (node_of t p) finds)
     (λ p from to.
     let one = stand.each p d (record { from_one = omega (arith, from); in_game = to }) in
     let within : p - 1 < length standings = omega (arith, from, to, size) in

@@ -2,7 +2,7 @@
 use Rattle.c8_known.specs.Growth.{Stands}
 use Rattle.std.proofs.Common.{◌≡◌, ◌≢◌, ℕ, ◌+◌, ◌-◌, ◌≤◌, ⊎_elim, List, [], ◌∷◌, length, drop, Bool, true, false, not, cond, Option, Some}
 use Rattle.std.proofs.Common.{None, Ok, Err, refl, sym, ap, subst, ◌∙◌, arith}
-use Rattle.std.specs.Prelude.{◌==◌, ◌&&◌, ◌||◌, nat_lt, nat_le, is_some}
+use Rattle.std.specs.Prelude.{◌^◌, ◌==◌, ◌&&◌, ◌||◌, nat_lt, nat_le, is_some}
 use Rattle.std.proofs.lemmas.Bool.{eq-eqb, eqb-true, both_ways, ltb-false, leb-true, and_parts, or_parts, not-false}
 use Rattle.std.proofs.lemmas.List.{length-drop}
 use Rattle.c8_game.specs.Rules.{Rules}
@@ -131,21 +131,22 @@ unless_hand_by P m (Some error) x refuses admits = refuses error
 
 -- ---- ticks, leaves and decisions
 
-good_tick : (rules : Rules) (room : ℕ) (J : ℕ → List Record) (said : List Packet) (p : ℕ) (m : Memory) (keys : ℕ) → AreSound rules room J
+good_tick : (rules : Rules) (room : ℕ) (J : ℕ → List Record) (said : List Packet) (p : ℕ) (m : Memory) (input : ℕ) → AreSound rules room J
     → IsPlayer rules p → IsAwake rules room J said p m
-    → IsGood rules room J said p (tick rules (known_of rules p (J p)) m keys)
+    → IsGood rules room J said p (tick rules (known_of rules p (J p)) m input)
 unfolding tick
-good_tick rules room J said p m keys sound plays awake =
+good_tick rules room J said p m input sound plays awake =
     let P : Outcome → Type 0 = IsGood rules room J said p in
     let refuses = λ (reply : Reply). good_answered rules room J said p m reply awake.chair awake.links in
     let k : KnownValue = known_of rules p (J p) in
     branch P (player_in k k.me).leaving _ _ (λ is. refuses _) (λ stays.
     branch P (nat_le rules.frames k.ticks) _ _ (λ is. refuses _) (λ before.
     branch P (nat_le (confirmed k + rules.window) k.ticks) _ _ (λ is. refuses _) (λ within.
-    good_recorded rules room J said p m _ (records.Own k.me (count_in k k.me) keys) awake.chair awake.links (λ allowed.
-    subst (λ (me : ℕ). Fits rules room J p (records.Own me (count_in k k.me) keys)) (sym (me_is rules p (J p)))
-    (fits_own rules room J p (count_in k k.me) keys sound plays
-    (subst (λ (me : ℕ). MayAdd rules room J p (records.Own me (count_in k k.me) keys)) (me_is rules p (J p)) allowed))))))
+    branch P (nat_le (256 ^ rules.width) input) _ _ (λ is. refuses _) (λ few.
+    good_recorded rules room J said p m _ (records.Own k.me (count_in k k.me) input) awake.chair awake.links (λ allowed.
+    subst (λ (me : ℕ). Fits rules room J p (records.Own me (count_in k k.me) input)) (sym (me_is rules p (J p)))
+    (fits_own rules room J p (count_in k k.me) input sound plays
+    (subst (λ (me : ℕ). MayAdd rules room J p (records.Own me (count_in k k.me) input)) (me_is rules p (J p)) allowed)))))))
 
 good_leave : (rules : Rules) (room : ℕ) (J : ℕ → List Record) (said : List Packet) (p : ℕ) (m : Memory) (leaver : ℕ) → AreSound rules room J
     → IsPlayer rules p → IsAwake rules room J said p m
@@ -396,7 +397,7 @@ good_welcome rules room J said p m packet ack awake among admitted =
 good_message : (laws : ArePeersLawful) (rules : Rules) (room : ℕ) (J : ℕ → List Record) (said : List Packet) (p : ℕ) (m : Memory)
     (packet : Packet) (message : Message) → AreSound rules room J → IsPlayer rules p → IsAwake rules room J said p m → IsAmong said packet
     → links.refusal m.links packet.head ≡ None → IsPlayer rules packet.head.from → packet.head.from ≢ p
-    → IsTrueMessage rules packet.head.from packet.head.to (J packet.head.from) message → IsMessage message
+    → IsTrueMessage rules packet.head.from packet.head.to (J packet.head.from) message → IsMessage packet.head.width message
     → IsGood rules room J said p (hear_message rules (told_of rules p (J p)) (known_of rules p (J p)) m packet.head message)
 good_message laws rules room J said p m packet packets.Hello sound plays awake among admitted from apart is_true fits =
     good_answered rules room J said p _ _ awake.chair (named_heard said p m.links packet awake.lawful.player among admitted awake.links)
@@ -500,7 +501,7 @@ good_checkpoint rules room J said p m sound plays awake =
 -- ---- any call of an open peer in a world: each datagram that is delivered was sent
 
 abbrev pub IsWorldly : Rules → (ℕ → List Record) → List Packet → Call → Type 0
-IsWorldly rules J said (Tick keys) = Unit {0}
+IsWorldly rules J said (Tick input) = Unit {0}
 IsWorldly rules J said (Deliver (Ok packet)) = IsAmong said packet × IsSaid rules J packet
 IsWorldly rules J said (Deliver (Err error)) = ⊥
 IsWorldly rules J said (Say to what) = Unit {0}
@@ -512,7 +513,7 @@ IsWorldly rules J said Checkpoint = Unit {0}
 pub good_call : (laws : ArePeersLawful) (rules : Rules) (room : ℕ) (J : ℕ → List Record) (said : List Packet) (p : ℕ) (m : Memory)
     (call : Call) → AreSound rules room J → IsPlayer rules p → IsAwake rules room J said p m → IsWorldly rules J said call
     → IsGood rules room J said p (outcome rules (told_of rules p (J p)) (known_of rules p (J p)) m call)
-good_call laws rules room J said p m (Tick keys) sound plays awake worldly = good_tick rules room J said p m keys sound plays awake
+good_call laws rules room J said p m (Tick input) sound plays awake worldly = good_tick rules room J said p m input sound plays awake
 good_call laws rules room J said p m (Deliver (Ok packet)) sound plays awake worldly =
     good_delivery laws rules room J said p m packet sound plays awake worldly.0 worldly.1
 good_call laws rules room J said p m (Deliver (Err error)) sound plays awake worldly = absurd worldly

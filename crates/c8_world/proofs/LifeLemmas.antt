@@ -184,7 +184,7 @@ same_match old mid new first last = record { rules = last.rules ∙ first.rules;
 
 pub other_act : (a : acts.Act) (p : ℕ) → ((player : Player) → a ≡ act_ofs.Open player → ⊥) → act_of a ≢ Open p
 other_act (act_ofs.Open player) p other e = other player refl
-other_act (act_ofs.Tick player keys) p other e = cc e
+other_act (act_ofs.Tick player input) p other e = cc e
 other_act (act_ofs.Say player to what) p other e = cc e
 other_act (act_ofs.Give number player) p other e = cc e
 other_act (act_ofs.Leave leaver) p other e = cc e

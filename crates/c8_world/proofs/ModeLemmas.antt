@@ -113,7 +113,7 @@ module _ (laws : ArePeersLawful) (rules : Rules) (room p : ℕ) (plays : IsPlaye
   acted_tells : (w : World) (act : Act) (h : Happening) → length w.peers ≡ rules.players → Tells w (player_of act) (acted rules room w act h)
   unfolding acted
   acted_tells w (Open q) h nodes = open_tells w q h nodes
-  acted_tells w (Tick q keys) h nodes = call_tells w q (states.Tick keys) h.on_disk nodes
+  acted_tells w (Tick q input) h nodes = call_tells w q (states.Tick input) h.on_disk nodes
   acted_tells w (Say q to what) h nodes = call_tells w q (states.Say to what) h.on_disk nodes
   acted_tells w (Give number q) h nodes = give_tells w q h.on_disk (slice_get w.said number) nodes
   acted_tells w (Leave leaver) h nodes = call_tells w 1 (states.Leave leaver) h.on_disk nodes
@@ -273,7 +273,7 @@ acted_not_down : (rules : Rules) (room : ℕ) (w : World) (act : Act) (h : Happe
     → (peer_of w (player_of act)).mode ≡ states.Open → (acted rules room w act h).answer ≡ IsDown → ⊥
 unfolding acted
 acted_not_down rules room w (Open q) h in_game up down = open_not_down rules room w q h in_game up down
-acted_not_down rules room w (Tick q keys) h in_game up down = call_not_down rules w q (states.Tick keys) h.on_disk in_game up down
+acted_not_down rules room w (Tick q input) h in_game up down = call_not_down rules w q (states.Tick input) h.on_disk in_game up down
 acted_not_down rules room w (Say q to what) h in_game up down = call_not_down rules w q (states.Say to what) h.on_disk in_game up down
 acted_not_down rules room w (Give number q) h in_game up down = give_not_down rules w q h.on_disk (slice_get w.said number) in_game up down
 acted_not_down rules room w (Leave leaver) h in_game up down = call_not_down rules w 1 (states.Leave leaver) h.on_disk in_game up down

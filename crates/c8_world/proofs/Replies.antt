@@ -2,7 +2,7 @@
 use Rattle.c8_known.specs.Growth.{Stands}
 use Rattle.std.proofs.Common.{◌≡◌, ◌≢◌, ℕ, ◌+◌, ◌≤◌, List, [], ◌∷◌, length, false, not, Option, Some, None, Result, Ok, Err, refl, sym, ap}
 use Rattle.std.proofs.Common.{subst, ◌∙◌, arith, true}
-use Rattle.std.specs.Prelude.{◌==◌, ◌||◌, nat_lt, nat_le, is_some}
+use Rattle.std.specs.Prelude.{◌^◌, ◌==◌, ◌||◌, nat_lt, nat_le, is_some}
 use Rattle.std.proofs.lemmas.Bool.{both_ways, ltb-true, eq-eqb, or_parts, not-false, eqb-true, and_parts}
 use Rattle.c8_game.specs.Rules.{Rules, AreInRange}
 use Rattle.c8_wire.specs.declared.kinds.DatagramKind.{DatagramKind}
@@ -294,14 +294,15 @@ calm_delivery rules room J said p m packet range sound plays awake is_said =
 
 -- ---- the other calls
 
-calm_tick : (J : ℕ → List Record) (p q : ℕ) (rules : Rules) (k : KnownValue) (m : Memory) (keys : ℕ) → EndsCalmly J p q (tick rules k m keys)
+calm_tick : (J : ℕ → List Record) (p q : ℕ) (rules : Rules) (k : KnownValue) (m : Memory) (input : ℕ) → EndsCalmly J p q (tick rules k m input)
 unfolding tick
-calm_tick J p q rules k m keys =
+calm_tick J p q rules k m input =
     let P : Outcome → Type 0 = EndsCalmly J p q in
     let told = λ (result : Result (Unit {0}) TickError). unrefused J p q (Ticked result) (λ why e. cc e) in
     branch P (player_in k k.me).leaving _ _ (λ is. told _) (λ stays.
     branch P (nat_le rules.frames k.ticks) _ _ (λ is. told _) (λ before.
-    branch P (nat_le (confirmed k + rules.window) k.ticks) _ _ (λ is. told _) (λ within. told _)))
+    branch P (nat_le (confirmed k + rules.window) k.ticks) _ _ (λ is. told _) (λ within.
+    branch P (nat_le (256 ^ rules.width) input) _ _ (λ is. told _) (λ fits. told _))))
 
 calm_leave : (J : ℕ → List Record) (p q : ℕ) (k : KnownValue) (m : Memory) (leaver : ℕ) → EndsCalmly J p q (leave k m leaver)
 unfolding leave
@@ -358,7 +359,7 @@ calm_checkpoint J p q t k m =
 
 -- the sender of the datagram that is delivered; 0 for other calls
 abbrev pub teller_of : Call → ℕ
-teller_of (Tick keys) = 0
+teller_of (Tick input) = 0
 teller_of (Deliver (Ok packet)) = packet.head.from
 teller_of (Deliver (Err error)) = 0
 teller_of (Say to what) = 0
@@ -370,7 +371,7 @@ teller_of Checkpoint = 0
 pub calm_call : (rules : Rules) (room : ℕ) (J : ℕ → List Record) (said : List Packet) (p : ℕ) (m : Memory) (call : Call) → AreInRange rules
     → AreSound rules room J → IsPlayer rules p → IsAwake rules room J said p m → IsWorldly rules J said call
     → EndsCalmly J p (teller_of call) (outcome rules (told_of rules p (J p)) (known_of rules p (J p)) m call)
-calm_call rules room J said p m (Tick keys) range sound plays awake worldly = calm_tick J p 0 rules (known_of rules p (J p)) m keys
+calm_call rules room J said p m (Tick input) range sound plays awake worldly = calm_tick J p 0 rules (known_of rules p (J p)) m input
 calm_call rules room J said p m (Deliver (Ok packet)) range sound plays awake worldly =
     calm_delivery rules room J said p m packet range sound plays awake worldly.1
 calm_call rules room J said p m (Deliver (Err error)) range sound plays awake worldly = absurd worldly

@@ -165,7 +165,7 @@ give_here rules w p on_disk (Some packet) =
 
 abbrev pub acted_here : Rules → ℕ → World → Act → Happening → After
 acted_here rules room w (Open p) h = acted rules room w (Open p) h
-acted_here rules room w (Tick p keys) h = acted rules room w (Tick p keys) h
+acted_here rules room w (Tick p input) h = acted rules room w (Tick p input) h
 acted_here rules room w (Say p to what) h = acted rules room w (Say p to what) h
 acted_here rules room w (Give number p) h = give_here rules w p h.on_disk (slice_get w.said number)
 acted_here rules room w (Leave leaver) h = acted rules room w (Leave leaver) h
@@ -192,7 +192,7 @@ own_of rules w p (Some packet) = Some (own_for (told_of rules p (journal_of w p)
 
 abbrev pub named_by : World → Act → Option Marks
 named_by w (Open p) = None
-named_by w (Tick p keys) = None
+named_by w (Tick p input) = None
 named_by w (Say p to what) = None
 named_by w (Give number p) = named_of (slice_get w.said number)
 named_by w (Leave leaver) = None
@@ -205,7 +205,7 @@ named_by w (Fresh watcher) = None
 
 abbrev pub own_by : Rules → World → Act → Option Marks
 own_by rules w (Open p) = None
-own_by rules w (Tick p keys) = None
+own_by rules w (Tick p input) = None
 own_by rules w (Say p to what) = None
 own_by rules w (Give number p) = own_of rules w p (slice_get w.said number)
 own_by rules w (Leave leaver) = None
@@ -243,7 +243,7 @@ acted_is : (rules : Rules) (room : ℕ) (w : World) (act : Act) (h : Happening) 
     → acted rules room w act h ≡ acted_here rules room w act h
 unfolding acted
 acted_is rules room w (Open p) h same = refl
-acted_is rules room w (Tick p keys) h same = refl
+acted_is rules room w (Tick p input) h same = refl
 acted_is rules room w (Say p to what) h same = refl
 acted_is rules room w (Give number p) h same = give_is rules w p h.on_disk (slice_get w.said number) same
 acted_is rules room w (Leave leaver) h same = refl
@@ -274,7 +274,7 @@ stands_here w p h Spent = false
 
 abbrev pub may_here : World → Act → Happening → Bool
 may_here w (Open p) h = stands_here w p h h.opening
-may_here w (Tick p keys) h = nat_lt keys (2 ^ 16)
+may_here w (Tick p input) h = nat_lt input (2 ^ 64)
 may_here w (Say p to what) h = true
 may_here w (Give number p) h = true
 may_here w (Leave leaver) h = true
@@ -306,7 +306,7 @@ stands_is rules room w p h Spent sound plays is = absurd cc
 may_is : (rules : Rules) (room : ℕ) (w : World) (act : Act) (h : Happening) → IsSound rules room w → may_here w act h ≡ true
     → MayAct rules room w act h
 may_is rules room w (Open p) h sound is = λ plays. stands_is rules room w p h h.opening sound (plays_if rules p plays) is
-may_is rules room w (Tick p keys) h sound is = ltb-true keys (2 ^ 16) is
+may_is rules room w (Tick p input) h sound is = ltb-true input (2 ^ 64) is
 may_is rules room w (Say p to what) h sound is = tt
 may_is rules room w (Give number p) h sound is = tt
 may_is rules room w (Leave leaver) h sound is = tt

@@ -89,7 +89,7 @@ acted_same : (rules : Rules) (room : ℕ) (w : World) (act : Act) (h : Happening
     → acted rules room w act (record h { leaves = leaves }) ≡ acted rules room w act h
 unfolding acted
 acted_same rules room w (Open p) h leaves = refl
-acted_same rules room w (Tick p keys) h leaves = refl
+acted_same rules room w (Tick p input) h leaves = refl
 acted_same rules room w (Say p to what) h leaves = refl
 acted_same rules room w (Give number p) h leaves = refl
 acted_same rules room w (Leave leaver) h leaves = refl
@@ -103,7 +103,7 @@ acted_same rules room w (Fresh watcher) h leaves = refl
 may_same : (rules : Rules) (room : ℕ) (w : World) (act : Act) (h : Happening) (leaves : Bool) → MayAct rules room w act h
     → MayAct rules room w act (record h { leaves = leaves })
 may_same rules room w (Open p) h leaves may = may
-may_same rules room w (Tick p keys) h leaves may = may
+may_same rules room w (Tick p input) h leaves may = may
 may_same rules room w (Say p to what) h leaves may = may
 may_same rules room w (Give number p) h leaves may = may
 may_same rules room w (Leave leaver) h leaves may = may

@@ -321,9 +321,9 @@ asked_happens t self place p old new x act call answer view is at within plays h
 
 -- ---- the calls that acts are
 
-pub tick_call : (p keys : ℕ) → keys < 2 ^ 16 → (rules : Rules) (room : ℕ) (w : World) → IsCallOf rules room w (Tick p keys) p (states.Tick keys)
+pub tick_call : (p input : ℕ) → input < 2 ^ 64 → (rules : Rules) (room : ℕ) (w : World) → IsCallOf rules room w (Tick p input) p (states.Tick input)
 unfolding acted
-tick_call p keys few rules room w = record { by = refl; is = λ h. refl; may = λ h. few }
+tick_call p input few rules room w = record { by = refl; is = λ h. refl; may = λ h. few }
 
 pub leave_call : (leaver : ℕ) → (rules : Rules) (room : ℕ) (w : World) → IsCallOf rules room w (Leave leaver) 1 (states.Leave leaver)
 unfolding acted

@@ -279,7 +279,7 @@ said_is (Decided result) packet (n, e) = absurd cc
 said_is (Checked result) packet (n, e) = absurd cc
 
 none_by_disk : (call : Call) (why : DiskError) → said_by (refused_by_disk call why) ≡ []
-none_by_disk (states.Tick keys) why = refl
+none_by_disk (states.Tick input) why = refl
 none_by_disk (states.Deliver told) why = refl
 none_by_disk (states.Say to what) why = refl
 none_by_disk (states.Show watcher) why = refl
@@ -712,7 +712,15 @@ seen_said rules room w watcher range few sound watches =
     record {
       told = omega (arith, begins, all);
       spelled = record {
-        head = record { session = session_low rules room; seats = rw watches refl; sender_epoch = omega arith; addressee_epoch = omega arith };
+        head = record {
+          some_width = range.some_width;
+          width = range.width;
+          early = range.early;
+          session = session_low rules room;
+          seats = rw watches refl;
+          sender_epoch = omega arith;
+          addressee_epoch = omega arith;
+        };
         kind = refl;
         fits = tt;
         message = omega (arith, begins, all, within, range.frames);
@@ -726,7 +734,7 @@ unfolding acted
 acted_sound laws rules room w (Open p) h range few sound may =
     if_player (λ (a : After). Reaches rules room w a.world) (is_player rules p) _ _
     (λ is. mode_opens laws rules room w p h (peer_of w p).mode range few sound (plays_if rules p is) (may is)) (stays_as rules room w sound)
-acted_sound laws rules room w (Tick p keys) h range few sound may = call_sound laws rules room w p (states.Tick keys) h.on_disk range sound may tt
+acted_sound laws rules room w (Tick p input) h range few sound may = call_sound laws rules room w p (states.Tick input) h.on_disk range sound may tt
 acted_sound laws rules room w (Say p to what) h range few sound may = call_sound laws rules room w p (states.Say to what) h.on_disk range sound tt tt
 acted_sound laws rules room w (Give number p) h range few sound may =
     given_sound laws rules room w p number h.on_disk (slice_get w.said number) range sound refl

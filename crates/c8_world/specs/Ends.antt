@@ -44,14 +44,14 @@ AreSameRows a b = rows_below a (both a b) ≡ rows_below b (both a b)
 
 -- Whether the pending record counts. It does if the peer is away and a read of its disk finds the record, and in no
 -- other case.
-abbrev pub IsRead : State → Option Node → Bool → Type 0
-IsRead s None finds = ⊥
-IsRead s (Some (nodes.Held peer)) finds = finds ≡ false
-IsRead s (Some (nodes.Away disk)) finds = Keeps (found s finds) (bytes_of disk)
+abbrev pub IsRead : ℕ → State → Option Node → Bool → Type 0
+IsRead width s None finds = ⊥
+IsRead width s (Some (nodes.Held peer)) finds = finds ≡ false
+IsRead width s (Some (nodes.Away disk)) finds = Keeps width (found s finds) (bytes_of disk)
 
 -- A player at a node knows what its journal says.
 abbrev pub IsStanding : Rules → ℕ → State → Option Node → Standing → Type 0
-IsStanding rules p s node standing = (finds : Bool) × (known_at standing ≡ known_of rules p (found s finds)) × IsRead s node finds
+IsStanding rules p s node standing = (finds : Bool) × (known_at standing ≡ known_of rules p (found s finds)) × IsRead rules.width s node finds
 
 -- player 1, the first of them, has not dropped the player at a place
 abbrev pub HasStayedAt : List Standing → ℕ → Type 0
@@ -88,7 +88,7 @@ known_read rules w reads p = known_of rules p (read_by w reads p)
 -- - `players`: what each player has.
 -- - `agree`: whether any two undropped players have the same rows, up to the frames that both count as confirmed.
 pub record AreEnds (t : TableValue) (w : World) (reads : Reads) (players : List Tally) (agree : Bool) : Type 0 where
-  pub read : (p : ℕ) → IsPlayer t.rules p → IsRead (peer_of w p) (node_of t p) (reads p)
+  pub read : (p : ℕ) → IsPlayer t.rules p → IsRead t.rules.width (peer_of w p) (node_of t p) (reads p)
   pub players_are : players ≡ map (λ p. tally_of (known_read t.rules w reads p)) (range_with_len 1 t.rules.players)
   pub agree_is : (agree ≡ true) ↔ ((p r : ℕ) → IsPlayer t.rules p → IsPlayer t.rules r → HasStayed t.rules w reads p → HasStayed t.rules w reads r
       → AreSameRows (known_read t.rules w reads p) (known_read t.rules w reads r))

@@ -9,7 +9,7 @@ use Rattle.c8_world.specs.World.{Act, Open, Tick, Say, Give, Leave, Decide, Chec
 
 abbrev pub act_of : code.Act → Act
 act_of (acts.Open player) = Open player.number
-act_of (acts.Tick player keys) = Tick player.number keys.0
+act_of (acts.Tick player input) = Tick player.number input
 act_of (acts.Say player to what) = Say player.number to.number (saying_of what)
 act_of (acts.Give number player) = Give number player.number
 act_of (acts.Leave leaver) = Leave leaver.number

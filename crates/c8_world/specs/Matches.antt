@@ -60,7 +60,7 @@ opens p epoch = done (Do (Open p)) (Told (Opened (Ok epoch)))
 
 -- a player enters a key set
 abbrev pub enters : ℕ → ℕ → Line
-enters p keys = done (Do (Tick p keys)) (Told (Ticked (Ok tt)))
+enters p input = done (Do (Tick p input)) (Told (Ticked (Ok tt)))
 
 -- the datagram with a number is delivered to a player
 abbrev pub hears : ℕ → ℕ → Heard → Line
@@ -83,6 +83,7 @@ datagram rules from epoch to known message = record {
   head = record {
     kind = kind_of message;
     version = rules.wire;
+    width = rules.width;
     session = session_of rules 0;
     from = from;
     to = to;
@@ -125,6 +126,7 @@ two frames window = record {
   window = window;
   seed = 0;
   wire = versions.One;
+  width = 2;
   masks = 0x000f ∷ 0xfff0 ∷ 0 ∷ 0 ∷ [];
   program = program;
 }
@@ -138,6 +140,7 @@ three = record {
   window = 12;
   seed = 0;
   wire = versions.One;
+  width = 2;
   masks = 0x000f ∷ 0xfff0 ∷ 0xffff ∷ 0 ∷ [];
   program = program;
 }
@@ -151,6 +154,7 @@ four = record {
   window = 8;
   seed = 0;
   wire = versions.One;
+  width = 2;
   masks = 0x000f ∷ 0xfff0 ∷ 0xffff ∷ 0xffff ∷ [];
   program = program;
 }

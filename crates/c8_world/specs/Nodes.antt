@@ -28,13 +28,13 @@ pub record IsPeerOf (rules : Rules) (room p : ℕ) (peer : PeerValue MemDisk) (s
   pub state_is : peer.state ≡ s
 
 -- each image that a crash may leave of a disk now has the journal of a state, with its pending record or without
-abbrev pub Tells : State → MemDisk → Type 0
-Tells s disk = (image : List ℕ) → images_of disk image → (finds : Bool) × Keeps (found s finds) image
+abbrev pub Tells : ℕ → State → MemDisk → Type 0
+Tells width s disk = (image : List ℕ) → images_of disk image → (finds : Bool) × Keeps width (found s finds) image
 
 -- A node with a peer is in its state; if the peer is away, its disk has the journal of the state.
 abbrev pub IsNode : Rules → ℕ → ℕ → Node → State → Type 0
 IsNode rules room p (nodes.Held peer) s = IsPeerOf rules room p peer s
-IsNode rules room p (nodes.Away disk) s = (s.mode ≡ Away) × Tells s disk
+IsNode rules room p (nodes.Away disk) s = (s.mode ≡ Away) × Tells rules.width s disk
 
 -- A call at a node: an open peer answers by its step, and is then in the step's state; a peer that is not open is not
 -- asked.

@@ -155,7 +155,7 @@ IsLeftBy act w v =
 -- only openings and sending take memory
 abbrev pub TakesMemory : Act → Type 0
 TakesMemory (Open player) = Unit {0}
-TakesMemory (Tick player keys) = ⊥
+TakesMemory (Tick player input) = ⊥
 TakesMemory (Say player to what) = Unit {0}
 TakesMemory (Give number player) = ⊥
 TakesMemory (Leave leaver) = ⊥

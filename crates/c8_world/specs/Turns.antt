@@ -130,7 +130,7 @@ pub record IsMove (player : ℕ) (P : Node → Node → Type 0) (old new : Table
 -- What an act with this answer does to its player's node; sending does nothing to it, and a watcher has none.
 abbrev pub IsActed : TableValue → code.Act → codes.Answer → Node → Node → Type 0
 IsActed t (acts.Open player) answer = IsOpenedAt t.rules t.room player.number answer
-IsActed t (acts.Tick player keys) answer = IsActedBy (Tick keys.0) answer
+IsActed t (acts.Tick player input) answer = IsActedBy (Tick input) answer
 IsActed t (acts.Say player to what) answer = IsSameNode
 IsActed t (acts.Give number player) answer = IsGiven (slice_get t.pool number) answer
 IsActed t (acts.Leave leaver) answer = IsActedBy (Leave leaver.number) answer

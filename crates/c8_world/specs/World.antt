@@ -64,7 +64,7 @@ with_rows w watcher rows = record w { five = if watcher == 5 then rows else w.fi
 
 pub data Act : Type 0 where
   Open : (player : ℕ) → Act
-  Tick : (player : ℕ) → (keys : ℕ) → Act
+  Tick : (player : ℕ) → (input : ℕ) → Act
   Say : (player : ℕ) → (to : ℕ) → (what : Saying) → Act
   -- the datagram with a number is delivered to a player
   Give : (number : ℕ) → (player : ℕ) → Act
@@ -91,7 +91,7 @@ pub data Event : Type 0 where
 -- who acts, by its seat: a player, or a watcher, for which stops and failures of disks do nothing
 abbrev pub player_of : Act → ℕ
 player_of (Open player) = player
-player_of (Tick player keys) = player
+player_of (Tick player input) = player
 player_of (Say player to what) = player
 player_of (Give number player) = player
 player_of (Leave leaver) = 1
@@ -179,7 +179,7 @@ seen_by_watcher rules room w watcher = seen (watch_of rules room w watcher)
 
 unfoldable pub acted : Rules → ℕ → World → Act → Happening → After
 acted rules room w (Open p) h = open_at rules room w p h
-acted rules room w (Tick p keys) h = call_at rules w p (calls.Tick keys) h.on_disk
+acted rules room w (Tick p input) h = call_at rules w p (calls.Tick input) h.on_disk
 acted rules room w (Say p to what) h = call_at rules w p (calls.Say to what) h.on_disk
 acted rules room w (Give number p) h = give_to rules w p h.on_disk (slice_get w.said number)
 acted rules room w (Leave leaver) h = call_at rules w 1 (calls.Leave leaver) h.on_disk
@@ -205,10 +205,10 @@ after rules room w (Stop act calls pick) h =
 
 -- ---- what can happen
 
--- keys are a set of 16 keys, an opening ends in one of the ways that it may, and watchers sit in seats 5 and 6
+-- an input has 64 bits, an opening ends in one of the ways that it may, and watchers sit in seats 5 and 6
 abbrev pub MayAct : Rules → ℕ → World → Act → Happening → Type 0
 MayAct rules room w (Open p) h = is_player rules p ≡ true → MayBecome rules room p (found (peer_of w p) h.finds) h.opening
-MayAct rules room w (Tick p keys) h = keys < 2 ^ 16
+MayAct rules room w (Tick p input) h = input < 2 ^ 64
 MayAct rules room w (Say p to what) h = Unit {0}
 MayAct rules room w (Give number p) h = Unit {0}
 MayAct rules room w (Leave leaver) h = Unit {0}

@@ -1,7 +1,7 @@
 //! What can happen to the peers of a world.
 ghost use Rattle.std.specs.Prelude.{◌≡◌};
 
-use c8_game::{Keys, Player};
+use c8_game::{Input, Player};
 use c8_peer::Kind;
 use c8_wire::{Seat, Watcher};
 
@@ -10,8 +10,8 @@ use c8_wire::{Seat, Watcher};
 pub enum Act {
     /// Opens the player's peer on its disk. A peer that is down is closed first.
     Open(Player),
-    /// Enters a key set.
-    Tick(Player, Keys),
+    /// Enters an input.
+    Tick(Player, Input),
     /// Sends a datagram to another player; the sender comes first.
     Say(Player, Player, Kind),
     /// Delivers the datagram with this number, counted from 0, to a player.

@@ -16,7 +16,7 @@ ghost use Rattle.c8_world.specs.Turns.{answer_of, IsActedBy, IsOpenedAt, IsSpare
 use crate::answer::{Answer, Counts};
 use crate::ends::Standing;
 use c8_disk::{Arm, Disk, MemDisk};
-use c8_game::{Game, Keys, Player};
+use c8_game::{Game, Input, Player};
 use c8_known::Known;
 use c8_peer::laws::{openings_are_deeds, what_disks_tell};
 use c8_peer::{Kind, OpenError, Peer, Unsayable};
@@ -65,11 +65,11 @@ impl<'g> Node<'g> {
         }
     }
 
-    /// Enters a key set. Answers `Down` if the peer is not open, as do the calls below.
-    pub(crate) fn tick(&mut self, keys: Keys) -> Answer
+    /// Enters an input. Answers `Down` if the peer is not open, as do the calls below.
+    pub(crate) fn tick(&mut self, input: Input) -> Answer
         ensures asked { (rules : Rules) (room p : ℕ) (s : State) → IsNode rules room p self.old s
-            → IsAsked rules room p s (states.Tick keys.0) result self.new }
-        ensures turn { IsActedBy (states.Tick keys.0) result self.old self.new }
+            → IsAsked rules room p s (states.Tick input) result self.new }
+        ensures turn { IsActedBy (states.Tick input) result self.old self.new }
         ensures setting { setting_of (Some self.new) ≡ setting_of (Some self.old) }
     {
         match self {
@@ -77,7 +77,7 @@ impl<'g> Node<'g> {
                 if peer.is_down() {
                     return Answer::Down;
                 }
-                match peer.tick(keys) {
+                match peer.tick(input) {
                     Ok(()) => Answer::Ticked(Ok(Counts {
                         now: peer.now(),
                         confirmed: peer.confirmed(),
@@ -242,7 +242,7 @@ impl<'g> Node<'g> {
     /// Returns the disk, from which an opening reads the journal.
     fn into_disk(self) -> MemDisk
         ensures tells { (rules : Rules) (room p : ℕ) (s : State) → IsNode rules room p self.entry s
-            → Tells s result }
+            → Tells rules.width s result }
         ensures disk { result ≡ disk_in self.entry }
         ensures setting { setting_of_disk result ≡ setting_of (Some self.entry) }
     {

@@ -27,7 +27,7 @@ use crate::laws::{openings_find_journals, what_was_said_is_true};
 use crate::node::Node;
 use crate::pool::Pool;
 use c8_disk::{Arm, MemDisk};
-use c8_game::{Game, Keys, Player};
+use c8_game::{Game, Input, Player};
 use c8_peer::{Kind, OpenError, Peer};
 use c8_spectator::Spectator;
 use c8_wire::laws::what_is_spelled_is_read;
@@ -253,7 +253,7 @@ impl<'g> Table<'g> {
     {
         match act {
             Act::Open(player) => self.open(alloc, player),
-            Act::Tick(player, keys) => Ok(self.tick(player, keys)),
+            Act::Tick(player, input) => Ok(self.tick(player, input)),
             Act::Say(player, to, what) => self.say(player, to, what),
             Act::Give(number, player) => Ok(self.give(number, player)),
             Act::Leave(leaver) => Ok(self.leave(leaver)),
@@ -287,12 +287,12 @@ impl<'g> Table<'g> {
         open_node(node, alloc, self.game, player, self.room)
     }
 
-    /// Enters a player's key set.
-    fn tick(&mut self, player: Player, keys: Keys) -> Answer
+    /// Enters a player's input.
+    fn tick(&mut self, player: Player, input: Input) -> Answer
         ensures same { IsSameMatch self.old self.new }
         ensures happened { (w : World) → Holds self.old w
-            → HasHappened self.old w (Do (Tick player.number keys.0)) result self.new }
-        ensures turn { IsMove player.number (IsActedBy (calls.Tick keys.0) result)
+            → HasHappened self.old w (Do (Tick player.number input)) result self.new }
+        ensures turn { IsMove player.number (IsActedBy (calls.Tick input) result)
             self.old self.new }
         ensures disks { KeepSettings self.old self.new }
     {
@@ -302,7 +302,7 @@ impl<'g> Table<'g> {
         let Some(node) = &mut self.nodes[player.place()] else {
             unreachable!();
         };
-        node.tick(keys)
+        node.tick(input)
     }
 
     /// Sends a datagram of a player to another one.

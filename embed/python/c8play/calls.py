@@ -28,7 +28,7 @@ class EventState(c.Structure):
     _fields_ = [("kind", c.c_uint8), ("player", c.c_uint8), ("frame", c.c_uint32)]
 
 
-U8, U16, U32, U64, I32, SIZE, BYTES, FLAG = c.c_uint8, c.c_uint16, c.c_uint32, c.c_uint64, c.c_int32, c.c_size_t, c.c_char_p, c.c_bool
+U8, U32, U64, I32, SIZE, BYTES, FLAG = c.c_uint8, c.c_uint32, c.c_uint64, c.c_int32, c.c_size_t, c.c_char_p, c.c_bool
 SESSION = c.POINTER(Handle)
 
 # Each function: what it returns, and what it takes.
@@ -40,7 +40,7 @@ CALLS: dict[str, tuple[Any, ...]] = {
     "c8_journal_read": (c.c_int, BYTES, c.POINTER(I32)),
     "c8_close": (None, SESSION),
     "c8_deliver": (U32, SESSION, BYTES, SIZE),
-    "c8_tick": (U32, SESSION, U16),
+    "c8_tick": (U32, SESSION, U64),
     "c8_turn": (U32, SESSION),
     "c8_next": (U32, SESSION, BYTES, c.POINTER(U8)),
     "c8_watched": (U32, SESSION, U8),
@@ -52,9 +52,9 @@ CALLS: dict[str, tuple[Any, ...]] = {
     "c8_status": (U32, SESSION, U32, BYTES),
     "c8_is_over": (FLAG, SESSION),
     "c8_is_lost": (FLAG, SESSION),
-    "c8_step": (U32, SESSION, c.POINTER(U32), c.POINTER(U16), SIZE),
+    "c8_step": (U32, SESSION, c.POINTER(U32), c.POINTER(U64), SIZE),
     "c8_check": (U32, SESSION, U32),
-    "c8_rules": (U32, U8, U32, U8, U8, BYTES, BYTES, SIZE),
+    "c8_rules": (U32, U8, U32, U8, U8, U8, BYTES, BYTES, SIZE),
     "c8_ticked": (U32, SESSION),
     "c8_confirmed": (U32, SESSION),
     "c8_epoch": (U32, SESSION),

@@ -11,6 +11,8 @@ from .calls import IS_WINDOWS, LIBRARY, PACKET, PICTURE, ROW, ROWS, RULES, STATE
 from .refusals import Closed, Desync, DiskFailed, Dropped, End, Refusal, Threshold, done
 
 SECRET = 32
+# The most bytes of an input.
+MOST_BYTES = 8
 # Answers of c8_deliver.
 KEPT, DROPPED = 1, 2
 # The cut of a player whose inputs have no known end.
@@ -74,13 +76,15 @@ class Step(NamedTuple):
     rows: list[tuple[int, ...]]
 
 
-def rules(players: int, frames: int, delay: int, window: int, id: bytes) -> bytes:
-    """The text of a game for an engine with a machine of its own. `id` has at most 32 bytes: the version of the game. Raises ValueError if
-    there is no such text."""
+def rules(players: int, frames: int, delay: int, window: int, id: bytes, width: int = 0) -> bytes:
+    """The text of a game for an engine with a machine of its own. `id` has at most 32 bytes: the version of the game. An input has `width`
+    bytes, 1 to 8; with a width of 0 it has two, and datagrams have version 1. Raises ValueError if there is no such text."""
     if len(id) > SECRET:
         raise ValueError("an id has at most 32 bytes")
+    if not 0 <= width <= MOST_BYTES:
+        raise ValueError("an input has at most 8 bytes")
     out = c.create_string_buffer(RULES)
-    length = LIBRARY.c8_rules(players, frames, delay, window, id.ljust(SECRET, b"\0"), out, RULES)
+    length = LIBRARY.c8_rules(players, frames, delay, window, width, id.ljust(SECRET, b"\0"), out, RULES)
     if not length:
         raise ValueError("there is no such game")
     return out.raw[:length]
@@ -111,7 +115,7 @@ class Session:
     def _make(self) -> None:
         self._session = Handle()
         self._out, self._to, self._size = c.create_string_buffer(max(PACKET, STATE)), c.c_uint8(), c.c_uint32()
-        self._rows, self._newest = (c.c_uint16 * (ROW * ROWS))(), c.c_bool()
+        self._rows, self._newest = (c.c_uint64 * (ROW * ROWS))(), c.c_bool()
 
     def close(self) -> None:
         """Closes the session. Closing it again does nothing."""
@@ -144,11 +148,11 @@ class Session:
                 raise
             return False
 
-    def tick(self, keys: int) -> bool:
-        """Enters the own player's next input, 16 bits. Returns whether it was taken: not if the player is too far ahead (tick it again in the
+    def tick(self, input: int) -> bool:
+        """Enters the own player's next input, of as many bytes as the rules say. Returns whether it was taken: not if the player is too far ahead (tick it again in the
         next frame), at the end of the match, or once it was dropped."""
         try:
-            done(LIBRARY.c8_tick(self._session, keys))
+            done(LIBRARY.c8_tick(self._session, input))
         except (Threshold, End, Dropped):
             return False
         return True

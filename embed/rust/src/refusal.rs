@@ -82,6 +82,8 @@ refusals! {
     /// Player 1 has dropped this player.
     TickDropped = 403,
     TickDown = 405,
+    /// An input with more bytes than the game's inputs.
+    Wide = 406,
     // a received datagram: its bytes
     WireShort = 501,
     WireMagic = 502,

@@ -243,9 +243,9 @@ impl Session {
     ///
     /// # Errors
     ///
-    /// [`Refusal::Threshold`], [`Refusal::End`], [`Refusal::TickDropped`]; [`Refusal::DiskFailed`] or [`Refusal::DiskFull`],
-    /// and [`Refusal::TickDown`] after that.
-    pub fn tick(&mut self, input: u16) -> Result<(), Refusal> {
+    /// [`Refusal::Threshold`], [`Refusal::End`], [`Refusal::TickDropped`]; [`Refusal::Wide`] if the input has more bytes than
+    /// the rules say; [`Refusal::DiskFailed`] or [`Refusal::DiskFull`], and [`Refusal::TickDown`] after that.
+    pub fn tick(&mut self, input: u64) -> Result<(), Refusal> {
         done(self.handle.tick(input))
     }
 
@@ -341,7 +341,7 @@ impl Session {
 
     /// Calls `run` with each frame whose row changed, in order: an engine goes back to its state before that frame, runs
     /// its machine on the row, and keeps the state after it.
-    pub fn run(&mut self, steps: &mut Steps, mut run: impl FnMut(u32, [u16; 4])) {
+    pub fn run(&mut self, steps: &mut Steps, mut run: impl FnMut(u32, [u64; 4])) {
         loop {
             self.step(steps);
             steps.frames().for_each(|(frame, row)| run(frame, row));
@@ -492,7 +492,7 @@ impl Iterator for Packets<'_> {
 /// Room for the rows of a step.
 #[derive(Clone, Debug)]
 pub struct Steps {
-    rows: Vec<[u16; 4]>,
+    rows: Vec<[u64; 4]>,
     from: u32,
     count: usize,
 }
@@ -509,12 +509,12 @@ impl Steps {
     }
 
     /// The rows from there on, with an input of each of four players; 0 for a player that the game has not.
-    pub fn rows(&self) -> &[[u16; 4]] {
+    pub fn rows(&self) -> &[[u64; 4]] {
         &self.rows[..self.count]
     }
 
     /// The rows with their frames.
-    pub fn frames(&self) -> impl Iterator<Item = (u32, [u16; 4])> + '_ {
+    pub fn frames(&self) -> impl Iterator<Item = (u32, [u64; 4])> + '_ {
         (self.from..).zip(self.rows().iter().copied())
     }
 

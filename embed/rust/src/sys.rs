@@ -79,7 +79,7 @@ impl Handle {
         unsafe { c8_deliver(self.0.get(), bytes.as_ptr(), bytes.len()) }
     }
 
-    pub fn tick(&mut self, input: u16) -> u32 {
+    pub fn tick(&mut self, input: u64) -> u32 {
         unsafe { c8_tick(self.0.get(), input) }
     }
 
@@ -136,7 +136,7 @@ impl Handle {
     }
 
     /// Four words in a row are an array: a slice of arrays has no gaps.
-    pub fn step(&mut self, from: &mut u32, rows: &mut [[u16; 4]]) -> u32 {
+    pub fn step(&mut self, from: &mut u32, rows: &mut [[u64; 4]]) -> u32 {
         unsafe { c8_step(self.0.get(), from, rows.as_mut_ptr().cast(), 4 * rows.len()) }
     }
 
@@ -193,8 +193,8 @@ impl Handle {
     }
 }
 
-pub fn rules(players: u8, frames: u32, delay: u8, window: u8, id: &[u8; 32], out: &mut [u8]) -> u32 {
-    unsafe { c8_rules(players, frames, delay, window, id.as_ptr(), out.as_mut_ptr(), out.len()) }
+pub fn rules(players: u8, frames: u32, delay: u8, window: u8, width: u8, id: &[u8; 32], out: &mut [u8]) -> u32 {
+    unsafe { c8_rules(players, frames, delay, window, width, id.as_ptr(), out.as_mut_ptr(), out.len()) }
 }
 
 pub fn explain(number: u32, out: &mut [u8]) -> u32 {

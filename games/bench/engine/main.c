@@ -54,7 +54,7 @@ static void say(c8_session players[3], uint8_t from, uint8_t kind) {
 static void record(uint32_t frames) {
     static const uint8_t id[32] = "bench 1";
     c8_session players[3] = {{0}};
-    parts[TEXT].length = c8_rules(2, frames + WINDOW, 0, WINDOW, id, parts[TEXT].bytes, LONGEST);
+    parts[TEXT].length = c8_rules(2, frames + WINDOW, 0, WINDOW, 0, id, parts[TEXT].bytes, LONGEST);
     for (uint8_t me = 1; me <= 2; me++)
         must(c8_open(parts[TEXT].bytes, parts[TEXT].length, me, ROOM, 0, &players[me]), "open");
     count = 1;

@@ -43,7 +43,7 @@ pub record IsRoster (rules : Rules) (files : List Twice) (end : ℕ) (journals :
 
 -- what is gathered of the first files
 pub record IsSorted (rules : Rules) (files : List Twice) (end : ℕ) (g : Gathered) : Type 0 where
-  pub gathered : IsGathered rules (evidence_in (take end (map first_bytes files)) (take end (map later_bytes files))) g.journals
+  pub gathered : IsGathered rules (evidence_in rules.width (take end (map first_bytes files)) (take end (map later_bytes files))) g.journals
   pub sound : AreSoundBelow rules files end
   pub empty : g.empty ≡ count_by keeps_nothing (take end files)
   pub roster : IsRoster rules files end g.journals g.first g.mismatch

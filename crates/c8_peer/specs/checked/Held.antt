@@ -28,11 +28,12 @@ pub record IsPeer {D : Type 0} (rules : Rules) (room : ℕ) (journal : JournalVa
   pub from_one : 1 ≤ k.me
   pub in_game : k.me ≤ rules.players
   pub bodies : AreJournalBodies rules k.me room journal.bodies
-  pub pending : (body : List ℕ) → journal.pending ≡ Some body → Spells body (record_of body)
-  pub pending_may : (body : List ℕ) → journal.pending ≡ Some body → IsAllowed rules k.me room (records_of journal.bodies) (record_of body)
-  pub known : k ≡ known_of rules k.me (records_of journal.bodies)
-  pub memory : IsMemory rules room k.me (records_of journal.bodies) m
-  pub last : m.links.epoch ≡ epoch (records_of journal.bodies)
+  pub pending : (body : List ℕ) → journal.pending ≡ Some body → Spells rules.width body (record_of rules.width body)
+  pub pending_may : (body : List ℕ) → journal.pending ≡ Some body → IsAllowed rules k.me room (records_of rules.width journal.bodies)
+      (record_of rules.width body)
+  pub known : k ≡ known_of rules k.me (records_of rules.width journal.bodies)
+  pub memory : IsMemory rules room k.me (records_of rules.width journal.bodies) m
+  pub last : m.links.epoch ≡ epoch (records_of rules.width journal.bodies)
 
 -- The roll is that of what is known, run from where the machine began at the opening. The kept checkpoints are the
 -- journal's. `ran` frames were run last: at most a window and one, or all since that beginning.

@@ -31,9 +31,9 @@ module _ {D : Type 0} (g : Ghosts D) (disk : D) (rules : Rules) (room me : ℕ) 
   -- What was found is a journal of this match and player, all that it says is known now, and the disk is settled.
   pub record IsRead (k : KnownValue) (checks : ChecksValue) (log : LogValue D) (last : ℕ) : Type 0 where
     pub bodies : AreJournalBodies rules me room (bodies_found g disk)
-    pub known : k ≡ known_of rules me (records_of (bodies_found g disk))
-    pub checks_are : checks ≡ checks_of (records_of (bodies_found g disk))
-    pub last_is : last ≡ epoch (records_of (bodies_found g disk))
+    pub known : k ≡ known_of rules me (records_of rules.width (bodies_found g disk))
+    pub checks_are : checks ≡ checks_of (records_of rules.width (bodies_found g disk))
+    pub last_is : last ≡ epoch (records_of rules.width (bodies_found g disk))
     pub up : log.down ≡ false
     pub same : kept (g.seen log.disk) ≡ bodies_found g disk
     pub settled : IsSettled g disk log.disk
@@ -49,15 +49,16 @@ module _ {D : Type 0} (g : Ghosts D) (disk : D) (rules : Rules) (room me : ℕ) 
     pub bodies : journal.bodies ≡ bodies_found g disk ++ opening_body rules room me (bodies_found g disk) ∷ []
     pub none_pending : journal.pending ≡ None
     pub up : journal.is_down ≡ false
-    pub number_is : number ≡ epoch (records_of (bodies_found g disk) ++ opening_record rules room me (records_of (bodies_found g disk)) ∷ [])
-    pub not_spent : epoch (records_of (bodies_found g disk)) < last_epoch
+    pub number_is : number ≡ epoch (records_of rules.width (bodies_found g disk) ++ opening_record rules room me
+        (records_of rules.width (bodies_found g disk)) ∷ [])
+    pub not_spent : epoch (records_of rules.width (bodies_found g disk)) < last_epoch
 
   -- why the opening's record does not stand
   abbrev pub IsNotBegun : OpenError → D → Type 0
   IsNotBegun opens.WrongGame left = ⊥
   IsNotBegun opens.WrongPlayer left = ⊥
   IsNotBegun (opens.BadRecord n) left = ⊥
-  IsNotBegun opens.EpochsSpent left = (last_epoch ≤ epoch (records_of (bodies_found g disk))) × (left ≡ disk)
+  IsNotBegun opens.EpochsSpent left = (last_epoch ≤ epoch (records_of rules.width (bodies_found g disk))) × (left ≡ disk)
   IsNotBegun opens.Memory left = ⊥
   IsNotBegun (opens.Disk why) left = HasWritingCause g disk why left × IsNotWritten g disk rules room me left × Asks g BeginRun (Err why) disk left
 

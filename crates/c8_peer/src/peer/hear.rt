@@ -69,13 +69,16 @@ impl<'g, D: Disk> Peer<'g, D> {
         }
     }
 
+    /// Returns whether a datagram is in another version, or has inputs of another width, than the game's.
     fn is_of_other_wire(&self, datagram: &Datagram<'_>) -> bool
         ensures { result ≡ is_of_other_wire self.now.rules (packet_of datagram.now).head }
     {
-        datagram.header().version().number() != self.game.wire().number()
+        let header = datagram.header();
+        header.version().number() != self.game.wire().number()
+            || header.width().bytes != self.game.width().bytes
     }
 
-    /// Takes an admitted datagram of the game's version.
+    /// Takes an admitted datagram of the game's version and width.
     fn hear(&mut self, datagram: &Datagram<'_>) -> Result<Heard, Refused>
         requires up { self.old.state.mode ≡ Open }
         requires stays { (player_in (known_by self.old) self.old.me).leaving ≡ false }
@@ -163,7 +166,7 @@ impl<'g, D: Disk> Peer<'g, D> {
         self.memory.raise_alarm();
     }
 
-    /// Takes a SEEN of the game's version, in which a watcher acknowledges rows.
+    /// Takes a SEEN of the game's version and width, in which a watcher acknowledges rows.
     fn hear_seen(&mut self, datagram: &Datagram<'_>, rows: u32) -> Result<Heard, Refused>
         requires up { self.old.state.mode ≡ Open }
         requires stays { (player_in (known_by self.old) self.old.me).leaving ≡ false }

@@ -176,7 +176,7 @@ fn begin_epoch<D: Disk>(
 ) -> Result<(Journal<D>, u32), (OpenError, D)>
     requires up { log.down ≡ false }
     requires bodies { AreJournalBodies game.now me.number room (kept (D.seen log.disk)) }
-    requires last { last ≡ epoch (records_of (kept (D.seen log.disk))) }
+    requires last { last ≡ epoch (records_of game.now.width (kept (D.seen log.disk))) }
     ensures begun { IfOk result (λ begun.
         IsBegun D.Disk log.disk game.now room me.number begun.0 begun.1) }
     ensures refused { IfErr result (λ refusal.
@@ -205,7 +205,7 @@ fn begin_epoch<D: Disk>(
 fn opening_body(game: &Game, room: u64, me: Player, last: u32, is_first: bool) -> [u8; BODY_LENGTH]
     requires { last < last_epoch }
     ensures { (bodies : List (List ℕ)) → is_first ≡ (length bodies == 0)
-        → last ≡ epoch (records_of bodies)
+        → last ≡ epoch (records_of game.now.width bodies)
         → result ≡ opening_body game.now room me.number bodies }
 {
     let id = game.id();
@@ -223,7 +223,7 @@ fn opening_body(game: &Game, room: u64, me: Player, last: u32, is_first: bool) -
             form: FORM,
         }
     };
-    body_of(&record)
+    body_of(&record, game.width())
 }
 
 /// Turns the refusal of a journal into the refusal of its opening.

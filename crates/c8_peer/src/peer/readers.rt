@@ -14,7 +14,7 @@ ghost use Rattle.c8_peer.specs.TrueChecks.{HasTrueChecks};
 
 use super::Peer;
 use c8_disk::Disk;
-use c8_game::Player;
+use c8_game::{Player, Width};
 use c8_machine::Machine;
 use c8_record::laws::journals_stay_within_the_window;
 
@@ -34,6 +34,13 @@ impl<'g, D: Disk> Peer<'g, D> {
         ensures most { result ≤ 4 }
     {
         self.known.players()
+    }
+
+    /// Returns how many bytes an input of the game has.
+    pub fn width(&self) -> Width
+        ensures { result.bytes ≡ self.now.rules.width }
+    {
+        self.game.width()
     }
 
     fn plays(&self, player: Player) -> bool

@@ -49,7 +49,7 @@ impl<'g, D: Disk> Peer<'g, D> {
     }
 
     /// Writes a SHOW for a watcher to the front of `out`: the confirmed rows from the first that it has
-    /// not acknowledged, at most 16. Returns its length, 30 to 158 bytes. The refusals are `Down`, then
+    /// not acknowledged, at most 16, or fewer of wide inputs. Returns its length, 30 to 158 bytes. The refusals are `Down`, then
     /// `NotMine` if this is not player one. They leave `out` as it was.
     pub fn say_show(
         &self,

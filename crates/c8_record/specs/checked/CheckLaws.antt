@@ -17,6 +17,7 @@ use Rattle.c8_known.specs.Journal.{Record, Head, Epoch, Own, Got, Freeze, Leave,
 use Rattle.c8_known.specs.Known.{KnownValue, with_record, known_of}
 use Rattle.c8_known.specs.Confirmed.{confirmed}
 use Rattle.c8_known.specs.checked.ConfirmedLaws.{confirmed_rises}
+use Rattle.c8_record.specs.Lent.{word_width}
 use Rattle.c8_record.specs.Checks.{Pieces, ChecksValue, no_checks, with_check, checks_of, frames_of, origin_in, bytes_so_far, before_piece}
 use Rattle.c8_record.specs.Checks.{piece_length, is_next_after, may_take, MayCheck, opened_at, opened_since, or_first, begun_at}
 use Rattle.c8_record.specs.checked.OpenedLaws.{opened_more}
@@ -41,9 +42,9 @@ bytes_low (x ∷ xs) ys one two (suc i) = bytes_low xs ys (λ j. one (suc j)) tw
 none_low : AreBytes []
 none_low i = omega arith
 
-pub words_low : (words : List ℕ) → AreBytes (words_bytes words)
+pub words_low : (words : List ℕ) → AreBytes (words_bytes word_width words)
 words_low [] = none_low
-words_low (word ∷ words) = bytes_low (big_bytes 2 word) (words_bytes words) (word_low word) (words_low words)
+words_low (word ∷ words) = bytes_low (big_bytes 2 word) (words_bytes word_width words) (word_low word) (words_low words)
 
 -- ---- one piece more
 

@@ -9,7 +9,9 @@ use Rattle.std.proofs.lemmas.Grind.{flat_map-append}
 use Rattle.std.proofs.lemmas.List.{append-nil, length-append, take-append-le}
 use Rattle.std.proofs.lemmas.List.Sums.{fold-append}
 use Rattle.std.proofs.lemmas.Option.{slice_get_within}
+use Rattle.c8_game.specs.Inputs.{Fits}
 use Rattle.c8_game.specs.Rules.{Rules, AreInRange}
+use Rattle.c8_wire.specs.Packet.{AreInputs}
 use Rattle.c8_known.specs.Journal as journals
 use Rattle.c8_known.specs.Journal.{Record, Head, Epoch, Own, Got, Freeze, Leave, Cut, State, Check, epoch, epochs}
 use Rattle.c8_known.specs.Known.{KnownValue, player_in, count_in, is_frozen_in, known_of, with_record, IsKnown, IsOfGame, NamesPlayer}
@@ -120,7 +122,7 @@ checks_more journal r = fold-append with_check no_checks journal (r ∷ [])
 
 pub of_game : (rules : Rules) (me : ℕ) (journal : List Record) → IsOfGame rules me (known_of rules me journal)
 unfolding known_of
-of_game rules me journal = record { players = players_known rules me journal; delay = refl; limit = refl; player = refl }
+of_game rules me journal = record { players = players_known rules me journal; delay = refl; limit = refl; width = refl; player = refl }
 
 pub names_player : (rules : Rules) (room : ℕ) (past : Past) (r : Record) → length past.known.players ≡ rules.players
     → IsAllowedAfter rules room past r → NamesPlayer rules r
@@ -147,14 +149,17 @@ sound_more rules room past (Head player form id named) known of may = known
 sound_more rules room past (Epoch player number form) known of may = known
 sound_more rules room past (Own player start word) known of may =
     subst (λ (q : ℕ). IsKnown (with_record past.known (Own q start word))) (sym may.may.own)
-    (own_known past.known start word known (own_room rules past.known player start known of may.may))
+    (own_known past.known start word known (own_room rules past.known player start known of may.may)
+    (subst (λ (width : ℕ). Fits width word) (sym of.width) may.spelled.parts))
 sound_more rules room past (Got player start words) known of may =
     got_known past.known player start words known may.plays may.may.other may.may.uncut (omega (arith, may.may.next, may.may.within))
+    (subst (λ (width : ℕ). AreInputs width words) (sym of.width) may.spelled.parts.1)
 sound_more rules room past (Freeze player) known of may = freeze_known past.known player known may.plays
 sound_more rules room past (Leave player) known of may = leave_known past.known player known may.plays
 sound_more rules room past (Cut player cut start words) known of may =
     cut_known past.known player cut start words known may.plays may.may.other (leaves past.known player cut start words may.may)
     may.may.once (omega (arith, may.may.next, may.may.ends)) may.may.within
+    (subst (λ (width : ℕ). AreInputs width words) (sym of.width) may.spelled.parts)
 sound_more rules room past (State player frames piece bytes) known of may = known
 sound_more rules room past (Check player frames digest) known of may = known
 

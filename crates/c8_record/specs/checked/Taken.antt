@@ -57,11 +57,12 @@ IsUnfit rules room past r (Disk why) = ⊥
 
 -- why a body is refused
 abbrev pub IsUnfitBody : Rules → ℕ → Past → List ℕ → ReplayError → Type 0
-IsUnfitBody rules room past body WrongGame = (past.count ≡ 0) × (r : Record) × Spells body r × IsOfOtherGame rules room r
-IsUnfitBody rules room past body WrongPlayer = (past.count ≡ 0) × (r : Record) × Spells body r × IsOfOtherPlayer rules past.known.me room r
+IsUnfitBody rules room past body WrongGame = (past.count ≡ 0) × (r : Record) × Spells rules.width body r × IsOfOtherGame rules room r
+IsUnfitBody rules room past body WrongPlayer =
+    (past.count ≡ 0) × (r : Record) × Spells rules.width body r × IsOfOtherPlayer rules past.known.me room r
 IsUnfitBody rules room past body (BadRecord n) =
-    (n ≡ past.count) × ((r : Record) → Spells body r → past.count ≡ 0 → IsHead r → ⊥)
-    × ((r : Record) → Spells body r → IsAllowedAfter rules room past r → ⊥)
+    (n ≡ past.count) × ((r : Record) → Spells rules.width body r → past.count ≡ 0 → IsHead r → ⊥)
+    × ((r : Record) → Spells rules.width body r → IsAllowedAfter rules room past r → ⊥)
 IsUnfitBody rules room past body (Disk why) = ⊥
 
 -- if the record says something about checkpoints, it is allowed after these
@@ -79,20 +80,20 @@ MaySay checks (Check player frames digest) = MayCheck checks frames digest
 -- the result of a body that is taken
 pub record IsTaken (rules : Rules) (room : ℕ) (past : Past) (body : List ℕ) (new : KnownValue) (checks : ChecksValue) (later : ℕ) : Type 0 where
   pub sound : IsKnown past.known
-  pub spelled : Spells body (record_of body)
-  pub allowed : IsAllowedAfter rules room past (record_of body)
-  pub known : new ≡ with_record past.known (record_of body)
-  pub saved : checks ≡ with_check past.checks (record_of body)
-  pub last : later ≡ epoch_after past.epoch (record_of body)
+  pub spelled : Spells rules.width body (record_of rules.width body)
+  pub allowed : IsAllowedAfter rules room past (record_of rules.width body)
+  pub known : new ≡ with_record past.known (record_of rules.width body)
+  pub saved : checks ≡ with_check past.checks (record_of rules.width body)
+  pub last : later ≡ epoch_after past.epoch (record_of rules.width body)
 
 -- the first n bodies are taken
 pub record IsReadTo (rules : Rules) (me room : ℕ) (bodies : List (List ℕ)) (n : ℕ) (now : KnownValue) (checks : ChecksValue) (last : ℕ) : Type 0 where
   pub within : n ≤ length bodies
   pub whose : now.me ≡ me
   pub journal : AreJournalBodies rules me room (take n bodies)
-  pub known : now ≡ known_of rules me (records_of (take n bodies))
-  pub saved : checks ≡ checks_of (records_of (take n bodies))
-  pub epoch : last ≡ epoch (records_of (take n bodies))
+  pub known : now ≡ known_of rules me (records_of rules.width (take n bodies))
+  pub saved : checks ≡ checks_of (records_of rules.width (take n bodies))
+  pub epoch : last ≡ epoch (records_of rules.width (take n bodies))
 
 -- the slots in these bytes have the bodies after the first n
 abbrev pub AreNext : List (List ℕ) → ℕ → List ℕ → Type 0

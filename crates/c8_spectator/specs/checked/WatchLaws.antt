@@ -6,7 +6,7 @@ use Rattle.std.specs.Prelude.{◌==◌, nat_lt}
 use Rattle.std.proofs.Math.Seq.{drop-append_seam}
 use Rattle.std.proofs.lemmas.Bool.{cases_Bool, eq-eqb, eqb-true, le-ltb, ltb-false, not-false}
 use Rattle.std.proofs.lemmas.List.{append-nil, drop-drop, length-append, length-drop}
-use Rattle.c8_game.specs.Rules.{Rules, set_at}
+use Rattle.c8_game.specs.Rules.{Rules, input_at}
 use Rattle.c8_game.specs.declared.row.Row.{Row}
 use Rattle.c8_known.specs.Growth.{Begins, Stands}
 use Rattle.c8_known.specs.checked.BeginsLaws.{begins_same, begins_more, begins_append, begins_drop}
@@ -235,10 +235,10 @@ truth_shown truth w p m is begins stands = truth_heard truth w p begins (shows_o
 same_as_itself : (row : Row) → are_same row row ≡ true
 same_as_itself row =
     rw (
-      eq-eqb (set_at row 0) (set_at row 0) refl,
-      eq-eqb (set_at row 1) (set_at row 1) refl,
-      eq-eqb (set_at row 2) (set_at row 2) refl,
-      eq-eqb (set_at row 3) (set_at row 3) refl,
+      eq-eqb (input_at row 0) (input_at row 0) refl,
+      eq-eqb (input_at row 1) (input_at row 1) refl,
+      eq-eqb (input_at row 2) (input_at row 2) refl,
+      eq-eqb (input_at row 3) (input_at row 3) refl,
     )
     refl
 

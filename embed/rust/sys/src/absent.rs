@@ -25,7 +25,7 @@ pub unsafe fn c8_deliver(_: *mut c8_session, _: *const u8, _: usize) -> u32 {
     absent()
 }
 
-pub unsafe fn c8_tick(_: *mut c8_session, _: u16) -> u32 {
+pub unsafe fn c8_tick(_: *mut c8_session, _: u64) -> u32 {
     absent()
 }
 
@@ -73,7 +73,7 @@ pub unsafe fn c8_is_lost(_: *mut c8_session) -> bool {
     absent()
 }
 
-pub unsafe fn c8_step(_: *mut c8_session, _: *mut u32, _: *mut u16, _: usize) -> u32 {
+pub unsafe fn c8_step(_: *mut c8_session, _: *mut u32, _: *mut u64, _: usize) -> u32 {
     absent()
 }
 
@@ -81,7 +81,7 @@ pub unsafe fn c8_check(_: *mut c8_session, _: u32) -> u32 {
     absent()
 }
 
-pub unsafe fn c8_rules(_: u8, _: u32, _: u8, _: u8, _: *const u8, _: *mut u8, _: usize) -> u32 {
+pub unsafe fn c8_rules(_: u8, _: u32, _: u8, _: u8, _: u8, _: *const u8, _: *mut u8, _: usize) -> u32 {
     absent()
 }
 

@@ -63,7 +63,7 @@ extern "C" {
     pub fn c8_replay_open(text: *const u8, length: usize, file: i32, session: *mut c8_session) -> u32;
     pub fn c8_close(session: *mut c8_session);
     pub fn c8_deliver(session: *mut c8_session, bytes: *const u8, length: usize) -> u32;
-    pub fn c8_tick(session: *mut c8_session, input: u16) -> u32;
+    pub fn c8_tick(session: *mut c8_session, input: u64) -> u32;
     pub fn c8_turn(session: *mut c8_session) -> u32;
     pub fn c8_next(session: *mut c8_session, out: *mut u8, to: *mut u8) -> u32;
     pub fn c8_watched(session: *mut c8_session, watcher: u8) -> u32;
@@ -75,9 +75,18 @@ extern "C" {
     pub fn c8_status(session: *mut c8_session, frame: u32, out: *mut u8) -> u32;
     pub fn c8_is_over(session: *mut c8_session) -> bool;
     pub fn c8_is_lost(session: *mut c8_session) -> bool;
-    pub fn c8_step(session: *mut c8_session, from: *mut u32, rows: *mut u16, words: usize) -> u32;
+    pub fn c8_step(session: *mut c8_session, from: *mut u32, rows: *mut u64, words: usize) -> u32;
     pub fn c8_check(session: *mut c8_session, depth: u32) -> u32;
-    pub fn c8_rules(players: u8, frames: u32, delay: u8, window: u8, id: *const u8, out: *mut u8, length: usize) -> u32;
+    pub fn c8_rules(
+        players: u8,
+        frames: u32,
+        delay: u8,
+        window: u8,
+        width: u8,
+        id: *const u8,
+        out: *mut u8,
+        length: usize,
+    ) -> u32;
     pub fn c8_ticked(session: *mut c8_session) -> u32;
     pub fn c8_confirmed(session: *mut c8_session) -> u32;
     pub fn c8_epoch(session: *mut c8_session) -> u32;

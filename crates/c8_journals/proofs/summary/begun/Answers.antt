@@ -3,6 +3,7 @@ use Rattle.std.proofs.Common.{inl, refl}
 use Rattle.c8_log.specs.Slots.{kept}
 use Rattle.c8_record.specs.Lent.{value_of}
 use Rattle.c8_audit.proofs.JournalLemmas.{not_head, other_kind}
+use Rattle.c8_journals.specs.Summary.{read_width}
 use Rattle.c8_journals.proofs.SummaryLemmas.{head_summed}
 use Rattle.c8_journals.proofs.summary.begun.Goals as goal
 
@@ -12,7 +13,7 @@ returns-in_default-record c =
     let spells = rw (c.in-Some.is) at c.view.ensures.value in
     inl (
       refl,
-      other_kind (kept c.args.image.now) c.kept_body.result.now (value_of lent) c.kept_body.ensures spells
+      other_kind read_width (kept c.args.image.now) c.kept_body.result.now (value_of lent) c.kept_body.ensures spells
           (not_head lent c.in_default-record.not-Head),
     )
 

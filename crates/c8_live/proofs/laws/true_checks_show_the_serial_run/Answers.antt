@@ -17,7 +17,7 @@ returns-clause-opened g c disk rules room me p opened are =
     let from = subst (λ (n : ℕ). 1 ≤ n) opened.me_is sound.plays.0 in
     let low = subst (λ (n : ℕ). n < 2 ^ 64) opened.room_is sound.low in
     opened_tells g.D.Disk disk rules room me p opened
-    (c.openings_are_lawful.ensures.checks rules me room (records_of (bodies_found g.D.Disk disk)) range from opened.may.2 low opened.may.0
+    (c.openings_are_lawful.ensures.checks rules me room (records_of rules.width (bodies_found g.D.Disk disk)) range from opened.may.2 low opened.may.0
     opened.may.1 are)
 
 pub returns-clause-stays : goal.returns-clause-stays

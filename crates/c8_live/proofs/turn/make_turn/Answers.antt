@@ -119,7 +119,7 @@ returns-clause-entered g c =
     let joined = c.entries_join.ensures.joined [] [] in
     let turned = c.turn.ensures.turned in
     rw (from, c.end-ended.ensures.peer, c.in_ok-speak.ensures.peer) (
-    c.entries_join.ensures.through (entered_of c.args.keys c.in_ok-is_taken.is_taken) c.forget_rollbacks.new.self.peer c.hear.new.session.peer
+    c.entries_join.ensures.through (entered_of c.args.input c.in_ok-is_taken.is_taken) c.forget_rollbacks.new.self.peer c.hear.new.session.peer
     c.enter.new.session.peer c.turn.new.self.peer
     (none Hears c.forget_rollbacks.new.self.peer c.hear.new.session.peer (λ e. cc e) c.in_ok-hear.ensures.noted.heard.heard.0)
     c.in_ok-is_taken.ensures.entered

@@ -5,12 +5,9 @@ use Rattle.c8_record.proofs.reading.read.Goals as goal
 
 pub returns-in_err-player-clause-value : goal.returns-in_err-player-clause-value
 returns-in_err-player-clause-value c =
-    rw c.from_residual.ensures (λ r spells. let is = shaped c.args.body.now r spells in
+    rw c.from_residual.ensures (λ r spells. let is = shaped c.args.width.bytes c.args.body.now r spells in
     ⊎_elim (λ low. omega (arith, low, is.player_from)) (λ high. omega (arith, high, is.player_to)) (c.in_err-player.ensures).none)
 
-pub returns-in_err-run-clause-value : goal.returns-in_err-run-clause-value
-returns-in_err-run-clause-value c =
-    rw c.from_residual-in_err-run.ensures (λ r spells. omega (arith, c.in_err-run.ensures, (shaped c.args.body.now r spells).short))
-
 pub returns-in_default-clause-value : goal.returns-in_default-clause-value
-returns-in_default-clause-value c = λ r spells. let is = shaped c.args.body.now r spells in omega (arith, c.in_default, is.kind_from, is.kind_to)
+returns-in_default-clause-value c =
+    λ r spells. let is = shaped c.args.width.bytes c.args.body.now r spells in omega (arith, c.in_default, is.kind_from, is.kind_to)

@@ -12,12 +12,13 @@ pub returns-in-State-clause-spells : goal.returns-in-State-clause-spells
 unfolding body_of
 returns-in-State-clause-spells c =
     rw c.in-State.is
-    (λ is done. state_spells c.args.body.now c.in-State.player.number c.in-State.frames c.in-State.piece (words c.in-State.run') (search rules)
-    c.in-State.player.from_one c.in-State.player.to_four (search rules) (search rules) c.spelled-in-State.ensures.sets c.spelled-in-State.ensures.few)
+    (λ is done. state_spells c.args.width.bytes c.args.body.now c.in-State.player.number c.in-State.frames c.in-State.piece (words c.in-State.run')
+    c.args.width.some (search rules) c.in-State.player.from_one c.in-State.player.to_four (search rules) (search rules)
+    (record { few = c.has_run-in-State.ensures.few; short = c.has_run-in-State.ensures.short; fits = c.has_run-in-State.ensures.fits }))
 
 pub returns-in-Check-clause-spells : goal.returns-in-Check-clause-spells
 unfolding body_of
 returns-in-Check-clause-spells c =
     rw c.in-Check.is
-    (λ is done. check_spells c.args.body.now c.in-Check.player.number c.in-Check.frames (words c.in-Check.run') (search rules)
-    c.in-Check.player.from_one c.in-Check.player.to_four (search rules) c.spelled-in-Check.ensures.sets (search rules))
+    (λ is done. check_spells c.args.width.bytes c.args.body.now c.in-Check.player.number c.in-Check.frames (words c.in-Check.run') c.args.width.some
+    (search rules) c.in-Check.player.from_one c.in-Check.player.to_four (search rules) (search rules))

@@ -6,5 +6,6 @@ use Rattle.c8_record.proofs.writing.check_body.Goals as goal
 
 pub returns-clause-spells : goal.returns-clause-spells
 unfolding body_of
-returns-clause-spells c = λ four. check_spells c.spell_inputs.result c.args.player.number c.args.frames (words c.args.run) c.spell_inputs.ensures.body
-    c.args.player.from_one c.args.player.to_four c.ranges.frames.fits c.spell_inputs.ensures.sets four
+returns-clause-spells c = λ width some four. check_spells width c.spell_inputs.result c.args.player.number c.args.frames (words c.args.run)
+    some c.spell_inputs.ensures.body
+    c.args.player.from_one c.args.player.to_four c.ranges.frames.fits four

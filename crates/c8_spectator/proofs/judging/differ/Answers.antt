@@ -9,7 +9,7 @@ use Rattle.c8_spectator.proofs.judging.differ.Goals as goal
 pub returns-then-not-are_same : goal.returns-then-not-are_same
 returns-then-not-are_same c =
     let place = c.loop-place.place in
-    let none : Row = record { sets = [] } in
+    let none : Row = record { inputs = [] } in
     sym (c.loop-place.invariant ∙ differ_off place c.args.taken.now (shown c.args.rows) (get_or c.args.taken.now place none) c.get.result
     (slice_get-get_or c.args.taken.now place none (omega (arith, c.loop-place-test.true, c.min-place-end.ensures))) c.get.ensures
     (sym c.are_same.ensures ∙ c.if-not-are_same.true))
@@ -17,7 +17,7 @@ returns-then-not-are_same c =
 pub loop-place-preserved : goal.loop-place-preserved
 loop-place-preserved c =
     let place = c.loop-place.place in
-    let none : Row = record { sets = [] } in
+    let none : Row = record { inputs = [] } in
     c.loop-place.invariant ∙ differ_on place c.args.taken.now (shown c.args.rows) (get_or c.args.taken.now place none) c.get.result
     (slice_get-get_or c.args.taken.now place none (omega (arith, c.loop-place-test.true, c.min-place-end.ensures))) c.get.ensures
     (sym c.are_same.ensures ∙ c.if-not-are_same.false)

@@ -23,7 +23,7 @@ returns-in-Err g c =
     let m : Memory = c.self.inside.memory in
     let packet = packet_of c.args.datagram.now in
     let head = packet.head in
-    let t = told_of c.self.inside.game.now k.me (records_of c.self.inside.journal.bodies) in
+    let t = told_of c.self.inside.game.now k.me (records_of c.self.inside.game.now.width c.self.inside.journal.bodies) in
     -- the links were lent out of the peer: what was said of these parts is said of the peer's own
     let refused : (x : Inside g.row.D.Denot) → x ≡ c.self.inside → c.me.result.number ≡ x.known.me
     → c.leaving.result ≡ (player_in x.known c.me.result.number).leaving

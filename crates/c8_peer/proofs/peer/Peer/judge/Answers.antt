@@ -27,7 +27,7 @@ returns-clause-judged g c =
     let p = packet_of c.args.datagram.now in
     let game = c.self.inside.game.now in
     let m = c.self.inside.memory in
-    let journal = records_of c.self.inside.journal.bodies in
+    let journal = records_of c.self.inside.game.now.width c.self.inside.journal.bodies in
     let t = told_of game c.self.inside.known.me journal in
     let marks = c.marks.ensures ∙ roll_marks game (begun_at game journal) c.self.inside.known (seen c.self.inside.roll) c.self.invariant.1.roll
     ∙ ap (λ (k : KnownValue). marks_since game (begun_at game journal) k (confirmed k)) c.self.invariant.0.known in

@@ -13,17 +13,17 @@ use Rattle.c8_peer.proofs.peer.Peer.say.Goals as goal
 pub write-requires : goal.write-requires
 write-requires g c =
     let game = c.self.inside.game.now in
-    let t = told_of game c.self.inside.known.me (records_of c.self.inside.journal.bodies) in
+    let t = told_of game c.self.inside.known.me (records_of c.self.inside.game.now.width c.self.inside.journal.bodies) in
     let newest = subst (λ (x : PeerValue g.row.D.Denot). c.newest_mark.result ≡ newest_mark (told_by x)) (sym c.self.view_is) c.newest_mark.ensures in
     let written = may_say game c.self.inside.room c.self.inside.journal c.self.inside.known c.self.inside.memory c.args.to.number
     c.args.kind (head_value c.head-head.result) (message_of c.message-body.result)
     c.self.invariant.0 (c.in_ok-judge_saying.ensures.judged game t) c.head-head.ensures (c.message-body.ensures game t newest c.wire.ensures) in
-    record { kind = written.kind; message = written.message_is; room = written.room }
+    record { kind = written.kind; fits = written.fits; message = written.message_is; room = written.room }
 
 pub returns-clause-said : goal.returns-clause-said
 returns-clause-said g c =
     let game = c.self.inside.game.now in
-    let t = told_of game c.self.inside.known.me (records_of c.self.inside.journal.bodies) in
+    let t = told_of game c.self.inside.known.me (records_of c.self.inside.game.now.width c.self.inside.journal.bodies) in
     let newest = subst (λ (x : PeerValue g.row.D.Denot). c.newest_mark.result ≡ newest_mark (told_by x)) (sym c.self.view_is) c.newest_mark.ensures in
     let written = may_say game c.self.inside.room c.self.inside.journal c.self.inside.known c.self.inside.memory c.args.to.number
     c.args.kind (head_value c.head-head.result) (message_of c.message-body.result)

@@ -18,6 +18,6 @@ returns-in-Ok-clause-begun g c =
           ∙ ap (λ (body : List ℕ). bodies ++ body ∷ []) (c.opening_body-body.ensures bodies empty c.requires.last);
       none_pending = ap (λ (j : JournalValue g.row.D.Denot). j.pending) is ∙ ap (λ (j : JournalValue g.row.D.Denot). j.pending) over;
       up = ap (λ (j : JournalValue g.row.D.Denot). j.is_down) is ∙ ap (λ (j : JournalValue g.row.D.Denot). j.is_down) over;
-      number_is = next_epoch c.args.game.now c.args.room c.args.me.number (records_of bodies) c.args.last c.requires.last;
+      number_is = next_epoch c.args.game.now c.args.room c.args.me.number (records_of c.args.game.now.width bodies) c.args.last c.requires.last;
       not_spent = omega (arith, c.requires.last, c.ranges.last.fits, c.if-last-eq-LAST_EPOCH.false);
     }

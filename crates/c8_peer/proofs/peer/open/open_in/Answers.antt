@@ -46,7 +46,8 @@ over-roll-requires-clause-confirmed g c =
     let from_one : 1 ≤ me = subst (λ (me : ℕ). 1 ≤ me) c.me-me.ensures.value c.me-me.result.from_one in
     begins_confirmed g.D.Disk c.args.disk rules c.args.room me c.read_journal.new.known (checked c.read_journal.new.checks) c.in_ok-log.log
     c.in_ok-log.last (origin_of c.beginning.result) read c.beginning.ensures
-    (c.checkpoints_are_in_order.ensures.checks rules me c.args.room (records_of (bodies_found g.D.Disk c.args.disk)) c.in_range.ensures
+    (c.checkpoints_are_in_order.ensures.checks rules me c.args.room (records_of c.args.game.now.width (bodies_found g.D.Disk c.args.disk))
+    c.in_range.ensures
     from_one c.requires.player read.bodies.journal)
 
 pub invariant_of-peer : goal.invariant_of-peer
@@ -70,7 +71,7 @@ invariant_of-peer g c =
           (checked c.open.new.self) (seen c.over-roll.result) (origin_of c.beginning.result) (last_run_of c.over-roll.result) c.beginning.ensures
           (begins_confirmed g.D.Disk c.args.disk rules c.args.room me c.read_journal.new.known (checked c.read_journal.new.checks)
           c.in_ok-log.log c.in_ok-log.last (origin_of c.beginning.result) read c.beginning.ensures
-          (c.checkpoints_are_in_order.ensures.checks rules me c.args.room (records_of (bodies_found g.D.Disk c.args.disk))
+          (c.checkpoints_are_in_order.ensures.checks rules me c.args.room (records_of c.args.game.now.width (bodies_found g.D.Disk c.args.disk))
           c.in_range.ensures from_one c.requires.player read.bodies.journal))
           c.open.ensures.value c.over-roll.ensures.roll c.over-roll.ensures.ran,
       c.over-roll.ensures.kept,

@@ -58,7 +58,7 @@ returns-in-Ok-replay-clause-read g c = record {
   unfailed = search rules;
   asks = subst (λ (n : ℕ). Asks g.D.Disk (ReadRun g.D.Disk c.args.disk c.args.game.now c.args.room c.args.known.now.me (Ok n)) (Ok tt)
       c.args.disk c.replay.new.log.disk)
-      (c.in-Ok-replay.ensures.replayed.2 ∙ ap (λ (bodies : List (List ℕ)). epoch (records_of bodies)) c.in-Ok.ensures.kept)
+      (c.in-Ok-replay.ensures.replayed.2 ∙ ap (λ (bodies : List (List ℕ)). epoch (records_of c.args.game.now.width bodies)) c.in-Ok.ensures.kept)
       (read_run g.D.Disk c.args.disk c.args.game.now c.args.room c.args.known.now.me c.in-Ok.log.disk c.replay.new.log.disk
       (Ok c.in-Ok-replay.last) (Ok tt) c.in-Ok.ensures.asks c.in-Ok.ensures.kept
       c.in-Ok-replay.ensures.asks);

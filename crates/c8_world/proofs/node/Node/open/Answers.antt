@@ -27,9 +27,9 @@ returns-in-Ok-clause-opened c s plays is journals =
     let p : ℕ = c.args.player.number in
     let disk = c.into_disk-disk.result in
     let peer = c.in-Ok.peer in
-    let now = found_now s disk (c.into_disk-disk.ensures.tells rules room p s is) in
-    let read : records_of (kept (bytes_of disk)) ≡ found s now.0 =
-    ap records_of now.1 ∙ c.bodies_are_the_spellings.ensures.records rules p room (found s now.0) (journals now.0) in
+    let now = found_now rules.width s disk (c.into_disk-disk.ensures.tells rules room p s is) in
+    let read : records_of rules.width (kept (bytes_of disk)) ≡ found s now.0 =
+    ap (records_of rules.width) now.1 ∙ c.bodies_are_the_spellings.ensures.records rules p room (found s now.0) (journals now.0) in
     let shut : s.mode ≢ Open = λ up. both_ways c.is_up.result c.if-is_up.false ((c.is_up.ensures rules room p s is).1 up) in
     let is_opened = c.in-Ok.ensures.opened in
     let deed = c.openings_are_deeds.ensures.opened disk rules room p s now.0 peer is_opened shut read in
@@ -56,9 +56,9 @@ returns-in-Err-clause-opened c s plays is journals =
     let p : ℕ = c.args.player.number in
     let disk = c.into_disk-disk.result in
     let tells = c.into_disk-disk.ensures.tells rules room p s is in
-    let now = found_now s disk tells in
-    let read : records_of (kept (bytes_of disk)) ≡ found s now.0 =
-    ap records_of now.1 ∙ c.bodies_are_the_spellings.ensures.records rules p room (found s now.0) (journals now.0) in
+    let now = found_now rules.width s disk tells in
+    let read : records_of rules.width (kept (bytes_of disk)) ≡ found s now.0 =
+    ap (records_of rules.width) now.1 ∙ c.bodies_are_the_spellings.ensures.records rules p room (found s now.0) (journals now.0) in
     let shut : s.mode ≢ Open = λ up. both_ways c.is_up.result c.if-is_up.false ((c.is_up.ensures rules room p s is).1 up) in
     let refused = c.openings_are_deeds.ensures.refused disk c.in-Err.disk rules room p s now.0 c.in-Err.error c.in-Err.ensures.refused shut
     now.1 read tells in
