@@ -4,7 +4,7 @@
 //! What all command lines share: their words, the parser's messages, and the exit status (`front`). A command is a table
 //! of what it takes, an [`Outline`], from which [`command_of`] makes clap's `Command` (`outline`); those of `run` and
 //! `show` are here (`commands`), and the [`options`] that commands of a match share. [`is_same_file`] knows a file by
-//! another name, [`Unhurried`] is a standard error that nobody has to read, and [`System`] and [`Threaded`] name what
+//! another name, [`ShellLines`] is a command for a person to copy, [`Unhurried`] is a standard error that nobody has to read, and [`System`] and [`Threaded`] name what
 //! commands ask of the system.
 #![tactic(auto)]
 
@@ -17,6 +17,7 @@ mod help;
 pub mod options;
 mod outline;
 mod refusal;
+mod shell;
 mod status;
 mod stderr;
 mod system;
@@ -29,6 +30,7 @@ pub use files::is_same_file;
 pub use front::{Terminals, is_explained, status_at, tell, word_of, words_in};
 pub use outline::{Argument, Form, Outline, command_of, line_of, with_commands};
 pub use refusal::{Part, Refusal};
+pub use shell::{ShellLines, quoted};
 pub use status::Status;
 pub use stderr::Unhurried;
 pub use system::{System, Threaded};

@@ -40,7 +40,7 @@ pub use command::{SECRET, random_bytes, secret_given};
 pub use error::ProgramError;
 pub use file::{IS_TEXT, NO_TEXT, is_binary, is_program, is_text, text_of};
 pub use game_command::{game_given, list, make};
-pub use journal::JournalDisk;
+pub use journal::{JournalDisk, JournalFault};
 pub use keys::keys_of;
 pub use listing::write_listing;
 pub use medium::{Medium, Trouble};

@@ -86,6 +86,7 @@ impl Match {
             game: self.game.as_str(),
             player: self.player,
             journal: self.journal.as_str(),
+            without: "--no-journal",
             local: self.local.as_str(),
             remotes: self.relay.is_none().then_some(remotes),
             relay: self.relay.as_deref(),

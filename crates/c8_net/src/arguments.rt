@@ -19,6 +19,8 @@ pub struct Asked<'m, 'a> {
     pub player: Player,
     /// The path of the journal, or `-` for one in memory.
     pub journal: &'a str,
+    /// The word or the option that plays without a journal, as a person types it.
+    pub without: &'static str,
     /// The own address; with a relay it may be empty.
     pub local: &'a str,
     /// The other players' addresses or names, in order of number, if any.
@@ -55,7 +57,7 @@ pub struct Asked<'m, 'a> {
 }
 
 /// The word for no journal file: the journal is kept in memory.
-const NO_JOURNAL: &str = "-";
+pub(crate) const NO_JOURNAL: &str = "-";
 
 impl<'m, 'a> Asked<'m, 'a> {
     /// Returns whether the journal is kept in memory, and lost at the end.
@@ -141,6 +143,7 @@ pub fn asked_for<'m, 'a>(given: &'m ArgMatches<'a>, player: Player) -> Asked<'m,
         game: word_of(given, "GAME"),
         player,
         journal: word_of(given, "JOURNAL"),
+        without: "'-'",
         local: word_of(given, "LOCAL"),
         remotes: given.get_strs("REMOTE"),
         relay: given.get_str("relay"),

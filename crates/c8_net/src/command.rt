@@ -19,7 +19,7 @@ use crate::play::{Prepared, Unprepared, perform_on, play_on, prepare};
 use crate::seals::{sealing_at, warn_of_secrets};
 use c8_command::{Refusal, Status, System, Terminals, TextError, Threaded};
 use c8_disk::FileError;
-use c8_files::{JournalDisk, Trouble, warn_of_a_slow_disk};
+use c8_files::{JournalDisk, JournalFault, Trouble, warn_of_a_slow_disk};
 use c8_game::Game;
 use c8_peer::OpenError;
 use c8_texts::{Played, write_report};
@@ -153,7 +153,7 @@ where
     };
     let mut slow = Vec::new(rt.alloc());
     if !asked.has_no_journal() {
-        warn_of_a_slow_disk(rt, asked.journal, &mut slow)?;
+        warn_of_a_slow_disk(rt, asked.journal, asked.without, &mut slow)?;
         refused.write_all(&slow)?;
     }
     let notices = joined(rt.alloc(), &[asked.notices, &open, &slow])?;
@@ -378,7 +378,10 @@ where
     ensures { IfErr result (λ fault. IsUnbegun fault.error) }
 {
     let opened = if asked.has_no_journal() {
-        JournalDisk::in_memory(rt.alloc(), game).map_err(FileError::from)
+        match JournalDisk::in_memory(rt.alloc(), game) {
+            Ok(journal) => Ok(journal),
+            Err(_) => Err(JournalFault::Disk(FileError::Memory)),
+        }
     } else {
         JournalDisk::in_file(rt, asked.journal, trouble)
     };

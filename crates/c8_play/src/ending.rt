@@ -1,7 +1,8 @@
 //! How a match ended, in words.
 
-use crate::again::{Drawn, quoted, write_again};
+use crate::again::{Drawn, write_again};
 use crate::status::delay_of;
+use c8_command::quoted;
 use c8_disk::Disk;
 use c8_game::Player;
 use c8_net::Asked;
@@ -146,7 +147,7 @@ pub fn tell_ending<E: Write>(
     if ending.is_final() {
         return writeln!(out);
     }
-    if !has_journal {
+    if !has_journal && !ending.is_unbegun() {
         return writeln!(out, "; you cannot come back, since you kept no journal");
     }
     writeln!(out, "; to go on:")?;

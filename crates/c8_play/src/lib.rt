@@ -21,7 +21,7 @@ mod live;
 mod status;
 mod terminal;
 
-pub use again::{Drawn, quoted};
+pub use again::Drawn;
 pub use alone::play_alone;
 pub use arguments::{HOLD, MUTE, PLAY, REPORT, wants_report};
 pub use command::{keys_at, play_given};

@@ -8,6 +8,7 @@ pub const ASKED: Asked<'static, 'static> = Asked {
     game: "",
     player: Player::CHAIR,
     journal: "",
+    without: "'-'",
     local: "",
     remotes: None,
     relay: None,

@@ -1,8 +1,9 @@
 //! How a match ended, in words.
 
 use crate::asked::ASKED;
+use c8_command::quoted;
 use c8_net::Asked;
-use c8_play::{Cause, Drawn, Ending, quoted, tell_ending};
+use c8_play::{Cause, Drawn, Ending, tell_ending};
 use std::alloc::Global;
 
 /// What ended a match after how many of 36,000 frames, and the words.
@@ -65,12 +66,14 @@ type Told = (&'static str, Cause, u32, &'static str, &'static str);
 
 /// The lines after a match that ended early and can go on, and after one that cannot. The words of the process stand between.
 #[rattlefmt::skip]
-static TOLD: [Told; 5] = [
-    ("one.journal", Cause::Left, 5, "to see it again: ./c8play replay 'my rally.game' one.journal --screen\nyou left the match after 5 of 36000 frames; to go on:\n  ./c8play", " --room 77\n"),
+static TOLD: [Told; 6] = [
+    ("one.journal", Cause::Left, 5, "to see it again: ./c8play replay 'my rally.game' one.journal --screen\nyou left the match after 5 of 36000 frames; to go on:\n  ./c8play", "77\n"),
     // nobody was there: nothing is to be seen
-    ("one.journal", Cause::Alone, 2, "you left before anybody came; to go on:\n  ./c8play", " --room 77\n"),
+    ("one.journal", Cause::Alone, 2, "you left before anybody came; to go on:\n  ./c8play", "77\n"),
     ("one.journal", Cause::Over, 36_000, "to see it again: ./c8play replay 'my rally.game' one.journal --screen\n", "\nthe match is over: all 36000 frames are confirmed\n"),
     ("-", Cause::Over, 36_000, "the match is over", "the match is over: all 36000 frames are confirmed\n"),
+    // without a journal too, as long as nobody was there
+    ("-", Cause::Alone, 2, "you left before anybody came; to go on:\n  ./c8play", "77\n"),
     ("-", Cause::Left, 5, "you left the match", "you left the match after 5 of 36000 frames; you cannot come back, since you kept no journal\n"),
 ];
 

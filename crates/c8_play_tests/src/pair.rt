@@ -4,7 +4,7 @@ use crate::console::{Log, Marks, Sent, Written};
 use c8_command::System;
 use c8_game::Player;
 use c8_net::{Asked, perform};
-use c8_play::{Ending, Live, Tempo};
+use c8_play::{Console, Ending, Live, Tempo};
 use c8_terminal::KeyWords;
 use std::fs;
 use std::net::{Ipv4Addr, SocketAddr, UdpSocket};
@@ -33,26 +33,20 @@ fn free(rt: &HostRuntime) -> Result<String, Fail> {
 const TOLD: &[u8] =
     b"frames were late by 0 ms in the median, by 0 ms at most\n0 of 30 frames after 0 turns\n";
 
-/// Plays at one address with a player at another. Returns the printed report (nothing after a refusal), the text on
-/// standard error, and how often the console was used.
-fn printed<'x, R>(
-    rt: &'x R,
+/// What a player asks for at one address, with a player at another.
+fn asked_of<'m, 'a>(
     number: u8,
-    sent: &'static [Sent],
-    journal: &'x str,
-    local: &'x str,
-    remote: &'x str,
+    journal: &'a str,
+    local: &'a str,
+    remotes: &'m [&'a str],
     stop: Option<u64>,
-) -> (Vec<u8>, Vec<u8>, Marks)
-where
-    R: System,
-{
-    let asked = Asked {
+) -> Asked<'m, 'a> {
+    Asked {
         game: GAME_FILE,
         player: Player::new(number).unwrap_or(Player::CHAIR),
         journal,
         local,
-        remotes: Some(&[remote]),
+        remotes: Some(remotes),
         relay: None,
         watchers: [None, None],
         secret: None,
@@ -68,19 +62,47 @@ where
         is_muted: true,
         explain: false,
         notices: &[],
-    };
+    }
+}
+
+/// Plays at one address with a player at another. Returns the printed report (nothing after a refusal), the text on
+/// standard error, and how often the console was used.
+fn printed<'x, R>(
+    rt: &'x R,
+    number: u8,
+    sent: &'static [Sent],
+    journal: &'x str,
+    local: &'x str,
+    remote: &'x str,
+    stop: Option<u64>,
+) -> (Vec<u8>, Vec<u8>, Marks)
+where
+    R: System,
+{
+    let remotes = [remote];
+    let asked = asked_of(number, journal, local, &remotes, stop);
     let mut log = Log::new(rt.alloc());
+    let (report, refused) = played(rt, &asked, Written::new(rt, sent, &mut log));
+    (report, refused, log.marks)
+}
+
+/// Plays what is asked for at a console. Returns the printed report and the text on standard error.
+fn played<R: System, C: Console + Drop>(
+    rt: &R,
+    asked: &Asked<'_, '_>,
+    console: C,
+) -> (Vec<u8>, Vec<u8>) {
     let mut ending = Ending::NONE;
     let live = Live {
-        console: Written::new(rt, sent, &mut log),
+        console,
         pace: Tempo { rate: 240, hold: 9 },
         keys: KeyWords::none(),
         below: "",
         ending: &mut ending,
     };
     let (mut report, mut refused) = (Vec::new(rt.alloc()), Vec::new(rt.alloc()));
-    let _ended = perform(rt, &asked, live, &mut report, &mut refused);
-    (report, refused, log.marks)
+    let _ended = perform(rt, asked, live, &mut report, &mut refused);
+    (report, refused)
 }
 
 /// The value of a register in a report, in its line `v 00 3f ...`; 0 if there is no such line.

@@ -21,9 +21,9 @@ const GAME: &[u8] =
 const RATE: u8 = 60;
 
 /// The row if player 2 is present, and if player 3 is. Its numbers are those of the first frame.
-const WAITS_FOR_3: &[u8] = b"\x1b[17;1H\x1b[K1/0  waits for 3  2: 0 ms  3: 0 ms  back 0, longest 0";
+const WAITS_FOR_3: &[u8] = b"\x1b[17;1H\x1b[K1/0  waits for 3  2: 0 ms  back 0, longest 0";
 
-const WAITS_FOR_2: &[u8] = b"\x1b[17;1H\x1b[K1/0  waits for 2  2: 0 ms  3: 0 ms  back 0, longest 0";
+const WAITS_FOR_2: &[u8] = b"\x1b[17;1H\x1b[K1/0  waits for 2  3: 0 ms  back 0, longest 0";
 
 /// A wire to a peer that ticks and answers whenever it hears something.
 #[derive(Drop)]
