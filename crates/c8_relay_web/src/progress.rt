@@ -8,7 +8,7 @@ use std::fmt::{Display, Write as _};
 use std::io::Write;
 use std::{fmt, io};
 
-/// The most bytes of a line: its words, and eleven numbers of 20 digits, of which each may stand in quotes.
+/// The most bytes of a line: its words, and eleven numbers of 20 digits, each perhaps in quotes.
 const LONGEST_LINE: usize = 400;
 
 /// The greatest number that every reader of JSON takes without a loss: 2^53. One above it is written as a text.
