@@ -59,7 +59,7 @@ static size_t length;
 
 static void make_rules(void) {
     static const uint8_t id[32] = "bench 1";
-    length = c8_rules(2, FRAMES + WINDOW, 0, WINDOW, id, text, sizeof text);
+    length = c8_rules(2, FRAMES + WINDOW, 0, WINDOW, 0, id, text, sizeof text);
 }
 
 static void read_game(const char *path) {
@@ -71,7 +71,7 @@ static void read_game(const char *path) {
 
 /* Two players whose links are open. */
 static void meet(c8_session players[3]) {
-    for (uint8_t me = 1; me <= 2; me++) must(c8_open(text, length, me, 1, 0, &players[me]), "open");
+    for (uint8_t me = 1; me <= 2; me++) must(c8_open(text, length, me, 1, 0, 0, &players[me]), "open");
     for (uint8_t kind = HELLO; kind <= WELCOME; kind++) {
         say(&players[1], &players[2], 2, kind);
         say(&players[2], &players[1], 1, kind);
@@ -97,7 +97,7 @@ static void record(void) {
 /* Delivers the same datagrams to a newly opened player 1. */
 static double rollbacks(bool is_stepping) {
     c8_session players[3] = {{0}};
-    uint16_t rows[4 * 2 * WINDOW];
+    uint64_t rows[4 * 2 * WINDOW];
     uint32_t from, given = 0;
     meet(players);
     double begun = now_ns();
@@ -116,7 +116,7 @@ static double rollbacks(bool is_stepping) {
 
 static double steps(void) {
     c8_session players[3] = {{0}};
-    uint16_t rows[4 * 2 * WINDOW];
+    uint64_t rows[4 * 2 * WINDOW];
     uint32_t from, given = 0;
     meet(players);
     c8_step(&players[1], &from, rows, sizeof rows / sizeof *rows);

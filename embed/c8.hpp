@@ -9,9 +9,11 @@
 #include "c8.h"
 
 #include <array>
+#include <chrono>
 #include <cstddef>
 #include <cstdint>
 #include <optional>
+#include <random>
 #include <span>
 #include <stdexcept>
 #include <string>
@@ -22,7 +24,7 @@ namespace c8 {
 
 using Bytes = std::span<const std::uint8_t>;
 using Secret = std::span<const std::uint8_t, 32>;
-using Row = std::array<std::uint16_t, C8_ROW>;
+using Row = std::array<std::uint64_t, C8_ROW>;
 
 // The version of the library that runs, as C8_VERSION.
 inline std::string version() {
@@ -47,12 +49,14 @@ public:
 // The answer of a call, if it is no refusal.
 inline c8_answer done(c8_answer answer) { return answer < C8_CLOSED ? answer : throw Refusal(answer); }
 
-// The text of a game for an engine with a machine of its own; empty if there is none. An id has at most 32 bytes.
-inline std::string rules(std::uint8_t players, std::uint32_t frames, std::uint8_t delay, std::uint8_t window, std::string_view id) {
+// The text of a game for an engine with a machine of its own; empty if there is none. An id has at most 32 bytes, an input `width`, 1 to
+// 8; with a width of 0 an input has two, and datagrams have version 1.
+inline std::string rules(std::uint8_t players, std::uint32_t frames, std::uint8_t delay, std::uint8_t window, std::string_view id, std::uint8_t width = 0) {
     std::array<std::uint8_t, 32> padded{};
     std::array<std::uint8_t, C8_RULES> text;
     id.copy(reinterpret_cast<char *>(padded.data()), padded.size());
-    return {reinterpret_cast<const char *>(text.data()), c8_rules(players, frames, delay, window, padded.data(), text.data(), text.size())};
+    return {reinterpret_cast<const char *>(text.data()),
+            c8_rules(players, frames, delay, window, width, padded.data(), text.data(), text.size())};
 }
 
 // The file of a journal and its folder, as c8_open_journal takes them.
@@ -91,14 +95,21 @@ struct Step {
     bool is_full() const { return count == C8_ROWS; } // there may be more
 };
 
+// The number of a new life: the seconds since 1970 in its upper 4 bytes, random ones below.
+inline std::uint64_t drawn_life() {
+    const auto now = std::chrono::system_clock::now().time_since_epoch();
+    const auto seconds = static_cast<std::uint32_t>(std::chrono::duration_cast<std::chrono::seconds>(now).count());
+    return std::uint64_t{seconds} << 32 | std::random_device{}();
+}
+
 class Session {
 public:
     Session(std::string_view text, std::uint8_t player, std::uint64_t room, std::uint32_t patience = 0) {
-        done(c8_open(start(text), text.size(), player, room, patience, &handle));
+        done(c8_open(start(text), text.size(), player, room, drawn_life(), patience, &handle));
     }
     // Over a journal, which is closed with the session, also if this throws.
     Session(std::string_view text, std::uint8_t player, std::uint64_t room, std::uint32_t patience, const Journal &journal) {
-        done(c8_open_journal(start(text), text.size(), player, room, patience, journal.file, journal.folder, &handle));
+        done(c8_open_journal(start(text), text.size(), player, room, drawn_life(), patience, journal.file, journal.folder, &handle));
     }
     // A replay of a journal: it only reads. Calls that play throw C8_REPLAY, or answer it.
     Session(std::string_view text, const Recording &recording) { done(c8_replay_open(start(text), text.size(), recording.file, &handle)); }
@@ -119,13 +130,15 @@ public:
     // ---- a frame
 
     c8_answer deliver(Bytes packet) { return c8_deliver(&handle, packet.data(), packet.size()); }
-    c8_answer tick(std::uint16_t input) { return c8_tick(&handle, input); }
+    c8_answer tick(std::uint64_t input) { return c8_tick(&handle, input); }
     void turn() { done(c8_turn(&handle)); }
     // How many ticks to leave out in this frame: once a frame, before the tick.
     std::uint32_t wait() { return c8_wait(&handle); }
     void clock(std::uint64_t milliseconds) { done(c8_clock(&handle, milliseconds)); }
     void patience(std::uint32_t first, std::uint32_t later) { done(c8_patience(&handle, first, later)); }
     void end(std::uint32_t frames) { done(c8_end(&handle, frames)); }
+    // True: the next turns say that the player leaves. Go on with turns until is_over, at most six, and close.
+    bool bye() { return done(c8_bye(&handle)) == 1; }
     // The next packet of this turn, until there is none.
     std::optional<Packet> next() {
         Packet packet;
@@ -151,6 +164,7 @@ public:
     // ---- what a session knows. The C functions change nothing here, but take a pointer without const.
 
     bool is_over() const { return c8_is_over(&handle); }
+    std::uint32_t why_over() const { return c8_why_over(&handle); } // C8_OVER_DONE to C8_OVER_CHAIR_LEFT; 0 if it is not over
     bool is_lost() const { return c8_is_lost(&handle); }
     std::uint32_t ticked() const { return c8_ticked(&handle); }
     std::uint32_t confirmed() const { return c8_confirmed(&handle); }

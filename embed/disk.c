@@ -14,7 +14,7 @@ static uint32_t length;
 static uint32_t opened(const char *path, c8_session *s) {
     int32_t file, folder;
     if (c8_journal_open(path, &file, &folder)) return NO_FILE;
-    return c8_open_journal(text, length, 1, 7, 0, file, folder, s);
+    return c8_open_journal(text, length, 1, 7, 0, 0, file, folder, s);
 }
 
 static int failed = 0;
@@ -31,7 +31,7 @@ int main(int count, char **words) {
     c8_session one = {0}, other = {0};
     uint8_t mark[8];
     if (count != 2) return 2;
-    length = c8_rules(2, 1000, 1, 8, id, text, sizeof text);
+    length = c8_rules(2, 1000, 1, 8, 0, id, text, sizeof text);
     must("opened", opened(words[1], &one), 0);
     must("epoch", c8_epoch(&one), 1);
     must("opened twice", opened(words[1], &other), C8_LOCKED);
@@ -47,6 +47,6 @@ int main(int count, char **words) {
     c8_close(&other);
     must("no folder", opened("no/such/folder/journal", &one), NO_FILE);
     must("a folder", opened(".", &one), NO_FILE);
-    must("no descriptor", c8_open_journal(text, length, 1, 7, 0, -1, -1, &one), C8_DISK);
+    must("no descriptor", c8_open_journal(text, length, 1, 7, 0, 0, -1, -1, &one), C8_DISK);
     return failed;
 }

@@ -13,7 +13,7 @@ typedef struct {
     uint64_t sum;
 } state;
 
-static state step(state s, const uint16_t row[4]) {
+static state step(state s, const uint64_t row[4]) {
     for (int player = 0; player < 4; player++) s.sum = s.sum * 1000003 + row[player];
     return s;
 }
@@ -45,7 +45,7 @@ static void send_all(player *p) {
 
 /* Goes back to the first frame that changed, and runs the machine from there. */
 static void run(player *p) {
-    uint16_t rows[4 * MOST];
+    uint64_t rows[4 * MOST];
     uint32_t from, count;
     do {
         count = c8_step(&p->session, &from, rows, 4 * MOST);
@@ -59,9 +59,9 @@ int main(void) {
     static player players[3];
     const uint8_t id[32] = "example 1";
     uint8_t text[C8_RULES];
-    uint32_t length = c8_rules(2, FRAMES, 1, 8, id, text, sizeof text);
+    uint32_t length = c8_rules(2, FRAMES, 1, 8, 0, id, text, sizeof text);
     for (uint8_t me = 1; me <= 2; me++) {
-        uint32_t why = c8_open(text, length, me, 7, 0, &players[me].session);
+        uint32_t why = c8_open(text, length, me, 7, 0, 0, &players[me].session);
         if (why) return printf("not opened: %" PRIu32 "\n", why), 1;
     }
     for (int turn = 0; !c8_is_over(&players[1].session) || !c8_is_over(&players[2].session); turn++) {

@@ -75,19 +75,10 @@ static void hit(ship *shooter, ship *other) {
     other->x = wrap(other->x + WIDTH / 2, WIDTH);
 }
 
-static state step(state s, const uint16_t row[4]) {
-    for (int i = 0; i < 2; i++) fly(&s.ships[i], row[i]);
+static state step(state s, const uint64_t row[4]) {
+    for (int i = 0; i < 2; i++) fly(&s.ships[i], (uint16_t)row[i]);
     for (int i = 0; i < 2; i++) hit(&s.ships[i], &s.ships[1 - i]);
     return s;
-}
-
-/* FNV-1a over the state's words, their low bytes first. */
-static uint64_t hash(const state *s) {
-    uint32_t words[sizeof *s / sizeof(uint32_t)];
-    uint64_t sum = 0xcbf29ce484222325;
-    memcpy(words, s, sizeof words);
-    for (size_t i = 0; i < sizeof words; i++) sum = (sum ^ (words[i / 4] >> 8 * (i % 4) & 255)) * 0x100000001b3;
-    return sum;
 }
 
 /* ---- the states: before each frame from the last confirmed one on
@@ -100,7 +91,7 @@ enum { DELAY = 2, WINDOW = 12, RING = 16 };
 static state states[RING];
 
 static void run(c8_session *session) {
-    uint16_t rows[4 * RING];
+    uint64_t rows[4 * RING];
     uint32_t from, count;
     do {
         count = c8_step(session, &from, rows, 4 * RING);
@@ -263,7 +254,7 @@ static uint32_t open_with_journal(const options *o, const uint8_t *text, uint32_
             fprintf(stderr, "game: %s: the journal cannot be opened\n", o->journal);
             exit(1);
         }
-        why = c8_open_journal(text, length, o->me, ROOM, patience, file, folder, session);
+        why = c8_open_journal(text, length, o->me, ROOM, 0, patience, file, folder, session);
     }
     return why;
 }
@@ -273,10 +264,10 @@ static void open_session(const options *o, c8_session *session) {
     static const uint8_t id[32] = "two ships 1";
     enum { PATIENCE = 600 }; /* ten seconds without a datagram */
     uint8_t text[C8_RULES];
-    uint32_t length = c8_rules(2, o->frames, DELAY, WINDOW, id, text, sizeof text);
+    uint32_t length = c8_rules(2, o->frames, DELAY, WINDOW, 0, id, text, sizeof text);
     uint32_t patience = o->is_scripted ? 0 : PATIENCE;
     uint32_t why = o->journal ? open_with_journal(o, text, length, patience, session)
-                              : c8_open(text, length, o->me, ROOM, patience, session);
+                              : c8_open(text, length, o->me, ROOM, 0, patience, session);
     if (why) fail("not opened", why);
     if (o->secret) read_secret(o->secret, session);
 }
@@ -333,7 +324,7 @@ int main(int count, char **words) {
     c8_player(&session, o.me, &player);
     if (player.dropped) printf("player 1 has dropped this player\n");
     uint32_t frames = c8_confirmed(&session);
-    printf("frames %" PRIu32 " hash %016" PRIx64 "\n", frames, hash(&states[frames % RING]));
+    printf("frames %" PRIu32 " hash %016" PRIx64 "\n", frames, hash_words(&states[frames % RING], sizeof(state)));
     c8_close(&session);
     closesocket(n.udp);
     return frames < o.frames;

@@ -44,12 +44,12 @@ static void must(const char *what, int64_t came, int64_t wanted) {
 
 /* ---- openings */
 
-static uint32_t opened(uint8_t me, c8_session *s) { return c8_open(text, length, me, 7, 0, s); }
+static uint32_t opened(uint8_t me, c8_session *s) { return c8_open(text, length, me, 7, 0, 0, s); }
 
 static uint32_t journal_opened(const char *path, uint8_t me, uint64_t room, c8_session *s) {
     int32_t file, folder;
     if (c8_journal_open(path, &file, &folder)) return NO_FILE;
-    return c8_open_journal(text, length, me, room, 0, file, folder, s);
+    return c8_open_journal(text, length, me, room, 0, 0, file, folder, s);
 }
 
 static uint32_t replay_opened(const char *path, c8_session *s) {
@@ -64,13 +64,13 @@ static uint32_t watch_opened(uint8_t seat, c8_session *s) { return c8_watch_open
 static void refusals(const char *path, c8_session *s) {
     int64_t before = held;
     uint8_t *at = s->at;
-    must("no such game", c8_open(text, 3, 1, 7, 0, s), 201);
+    must("no such game", c8_open(text, 3, 1, 7, 0, 0, s), 201);
     must("nobody", opened(5, s), C8_NOBODY);
     must("no player of the game", opened(3, s), 302);
     must("another player", journal_opened(path, 2, 7, s), 302);
     must("another room", journal_opened(path, 1, 8, s), 301);
     must("a folder in place of a file", journal_opened(".", 1, 7, s), NO_FILE);
-    must("no descriptor", c8_open_journal(text, length, 1, 7, 0, -1, -1, s), C8_DISK);
+    must("no descriptor", c8_open_journal(text, length, 1, 7, 0, 0, -1, -1, s), C8_DISK);
     must("no descriptor of a replay", c8_replay_open(text, length, -1, s), C8_DISK);
     must("a player's seat", watch_opened(4, s), C8_NOBODY);
     must("no such game to watch", c8_watch_open(text, 3, 5, 7, 0, s), 201);
@@ -97,7 +97,7 @@ int main(int count, char **words) {
     static const uint8_t id[32] = "memory 1";
     c8_session one = {0}, other = {0}, third = {0};
     if (count != 2) return 2;
-    length = c8_rules(2, FRAMES, 1, 8, id, text, sizeof text);
+    length = c8_rules(2, FRAMES, 1, 8, 0, id, text, sizeof text);
     c8_memory(take, again, give);
     must("opened", journal_opened(words[1], 1, 7, &one), 0);
     int64_t size = held;

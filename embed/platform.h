@@ -1,5 +1,5 @@
-/* What game.c and games/own need of the system: a UDP socket, a clock, a terminal, and an end for tests; on POSIX systems and on Windows. An engine
- * has these already. */
+/* What game.c and games/own share: what they need of the system, on POSIX systems and on Windows, a UDP socket, a clock, a terminal, and an end
+ * for tests, which an engine has already; and a hash of a state. */
 #ifndef C8_PLATFORM_H
 #define C8_PLATFORM_H
 
@@ -171,6 +171,17 @@ static int receive(udp_socket udp, uint8_t *bytes, size_t size, struct sockaddr_
 
 static void send_packet(udp_socket udp, const uint8_t *bytes, size_t size, const struct sockaddr_in *to) {
     sendto(udp, (const char *)bytes, (int)size, 0, (const struct sockaddr *)to, sizeof *to);
+}
+
+/* FNV-1a over the words of a state, their low bytes first. */
+static uint64_t hash_words(const void *state, size_t size) {
+    uint64_t sum = 0xcbf29ce484222325;
+    for (size_t at = 0; at + sizeof(uint32_t) <= size; at += sizeof(uint32_t)) {
+        uint32_t word;
+        memcpy(&word, (const uint8_t *)state + at, sizeof word);
+        for (int i = 0; i < 4; i++) sum = (sum ^ (word >> 8 * i & 255)) * 0x100000001b3;
+    }
+    return sum;
 }
 
 #endif

@@ -102,12 +102,12 @@ static void any_bytes(uint8_t *bytes, size_t length) {
 static void any_text(void) {
     uint8_t id[32] = {1};
     if (roll(10)) {
-        text_length = c8_rules(3, 2000, 1, 6, id, text, sizeof text);
+        text_length = c8_rules(3, 2000, 1, 6, 0, id, text, sizeof text);
         return;
     }
     any_bytes(id, sizeof id);
-    text_length = c8_rules((uint8_t)roll(7), (uint32_t)roll(300000), (uint8_t)roll(6), (uint8_t)roll(15), id, text,
-                           sizeof text);
+    text_length = c8_rules((uint8_t)roll(7), (uint32_t)roll(300000), (uint8_t)roll(6), (uint8_t)roll(15),
+                           (uint8_t)roll(10), id, text, sizeof text);
     if (roll(2) == 0) text_length = roll(text_length + 1);
     if (roll(3) == 0 && text_length > 0) text[roll(text_length)] = (uint8_t)roll(256);
 }
@@ -153,9 +153,9 @@ static void open_one(int i) {
     if (roll(8) == 0) {
         int32_t file = -1, folder = -1;
         if (roll(8) && c8_journal_open(journal, &file, &folder)) fail("no journal", 0);
-        why = c8_open_journal(text, text_length, player, match, any_patience(), file, folder, &sessions[i]);
+        why = c8_open_journal(text, text_length, player, match, 0, any_patience(), file, folder, &sessions[i]);
     } else {
-        why = c8_open(text, text_length, player, match, any_patience(), &sessions[i]);
+        why = c8_open(text, text_length, player, match, 0, any_patience(), &sessions[i]);
     }
     if (answered(why)) return;
     if (c8_ticked(&sessions[i]) && c8_epoch(&sessions[i]) == 1) fail("a new session has ticked", 0);
@@ -234,8 +234,8 @@ static void step(c8_session *s) {
     size_t words = roll(100);
     uint32_t from = 0, count = c8_step(s, &from, clear(), words);
     if (count > words / 4) fail("too many rows", count);
-    untouched(8 * (size_t)count);
-    untouched(2 * words);
+    untouched(32 * (size_t)count);
+    untouched(8 * words);
     if (count && from + count > c8_ticked(s)) fail("rows of the future", from + count);
     rows += count;
 }
@@ -285,8 +285,8 @@ static void make_rules(void) {
     uint8_t id[32];
     size_t length = roll(C8_RULES + 1);
     any_bytes(id, sizeof id);
-    uint32_t written = c8_rules((uint8_t)roll(8), (uint32_t)roll(UINT32_MAX), (uint8_t)roll(256), (uint8_t)roll(256), id,
-                                clear(), length);
+    uint32_t written = c8_rules((uint8_t)roll(8), (uint32_t)roll(UINT32_MAX), (uint8_t)roll(256), (uint8_t)roll(256),
+                                (uint8_t)roll(16), id, clear(), length);
     if (written > length) fail("rules", written);
     untouched(length);
 }
@@ -320,7 +320,7 @@ static void change(c8_session *s) {
     case 2: what = "c8_checkpoint"; answered(c8_checkpoint(s)); break;
     case 3: what = "c8_check"; answered(roll(20) ? c8_check(s, depths[roll(6)]) : c8_watched(s, (uint8_t)roll(8))); break;
     case 4: case 5: case 6: what = "c8_turn"; answered(c8_turn(s)); break;
-    case 7: case 8: case 9: what = "c8_tick"; ticks += !answered(c8_tick(s, (uint16_t)roll(65536))); break;
+    case 7: case 8: case 9: what = "c8_tick"; ticks += !answered(c8_tick(s, roll(roll(50) ? 65536 : UINT64_MAX))); break;
     default: what = "c8_deliver"; deliver(s);
     }
 }
@@ -350,9 +350,9 @@ static void fail_disk(void) {
     what = "a disk that fails";
     remove(journal);
     uint8_t id[32] = {2};
-    text_length = c8_rules(2, 1000, 0, 12, id, text, sizeof text);
+    text_length = c8_rules(2, 1000, 0, 12, 0, id, text, sizeof text);
     if (c8_journal_open(journal, &file, &folder)) fail("no journal", 0);
-    if (c8_open_journal(text, text_length, 1, 1, 0, file, folder, &s)) fail("not opened", 0);
+    if (c8_open_journal(text, text_length, 1, 1, 0, 0, file, folder, &s)) fail("not opened", 0);
     signal(SIGXFSZ, SIG_IGN);
     getrlimit(RLIMIT_FSIZE, &before);
     limit = before;
@@ -369,7 +369,7 @@ static void fail_disk(void) {
     setrlimit(RLIMIT_FSIZE, &before);
     c8_close(&s);
     if (c8_journal_open(journal, &file, &folder)) fail("no journal", 1);
-    if (c8_open_journal(text, text_length, 1, 1, 0, file, folder, &again)) fail("not opened again", 1);
+    if (c8_open_journal(text, text_length, 1, 1, 0, 0, file, folder, &again)) fail("not opened again", 1);
     if (c8_epoch(&again) != 2) fail("epoch", c8_epoch(&again));
     if (c8_ticked(&again) < ticked || c8_ticked(&again) > ticked + 1) fail("lost ticks", c8_ticked(&again));
     c8_close(&again);
@@ -406,9 +406,9 @@ static void play_sealed(void) {
     bool newest = true;
     uint32_t length, first_length = 0;
     what = "a match with a secret";
-    text_length = c8_rules(2, FRAMES, 1, 8, id, text, sizeof text);
+    text_length = c8_rules(2, FRAMES, 1, 8, 0, id, text, sizeof text);
     for (uint8_t i = 0; i < 2; i++) {
-        if (c8_open(text, text_length, i + 1, 5, 0, &two[i])) fail("not opened", i);
+        if (c8_open(text, text_length, i + 1, 5, 0, 0, &two[i])) fail("not opened", i);
         if (c8_secret(&two[i], secret, secret) != C8_BAD_SECRET) fail("the same secret", i);
         if (c8_secrets(&two[i], secret, watchers, 31) != C8_BAD_SECRET) fail("a short secret", i);
         if (c8_secret(&two[i], secret, i ? watchers : NULL)) fail("no secret", i);
@@ -434,7 +434,7 @@ static void play_sealed(void) {
 /* A turn of a watcher: one packet, for player 1, which seldom comes there, and its rows, each once and in order. */
 static void watch(c8_session *watcher, c8_session *one, bool is_sealed_match) {
     uint8_t packet[C8_PACKET], to = 0;
-    uint16_t words[4 * 5];
+    uint64_t words[4 * 5];
     uint32_t before = c8_confirmed(watcher), length, from, count, next = 0;
     static uint32_t given;
     if (!before) given = 0;
@@ -459,10 +459,10 @@ static void play_watched(bool has_secret, const uint8_t *of_watchers) {
     uint8_t packet[C8_PACKET], id[32] = {3}, to, marks[2][8];
     uint32_t length, shown = 0, turns = 0, answer;
     what = "watchers";
-    text_length = c8_rules(2, FRAMES, 0, 12, id, text, sizeof text);
+    text_length = c8_rules(2, FRAMES, 0, 12, 0, id, text, sizeof text);
     if (c8_watched(&two[0], 5) != C8_CLOSED) fail("a closed session is watched", 0);
     for (uint8_t i = 0; i < 2; i++) {
-        if (c8_open(text, text_length, i + 1, 6, 0, &two[i])) fail("not opened", i);
+        if (c8_open(text, text_length, i + 1, 6, 0, 0, &two[i])) fail("not opened", i);
         if (has_secret && c8_secret(&two[i], secret, of_watchers)) fail("no secret", i);
         if (c8_watched(&two[i], 4) != 102 || c8_watched(&two[i], 7) != 102 || c8_watched(&two[i], 5)) fail("seats", i);
     }

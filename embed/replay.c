@@ -14,7 +14,7 @@ static uint32_t length;
 
 typedef struct {
     c8_session session;
-    uint16_t rows[FRAMES][C8_ROW]; /* the newest row of each frame */
+    uint64_t rows[FRAMES][C8_ROW]; /* the newest row of each frame */
 } player;
 
 static struct {
@@ -32,7 +32,7 @@ static void must(const char *what, uint32_t came, uint32_t wanted) {
 static uint32_t open_journal(const char *path, uint8_t me, c8_session *s) {
     int32_t file, folder;
     if (c8_journal_open(path, &file, &folder)) return NO_FILE;
-    return c8_open_journal(text, length, me, 7, 0, file, folder, s);
+    return c8_open_journal(text, length, me, 7, 0, 0, file, folder, s);
 }
 
 static uint32_t open_replay(const char *path, c8_session *s) {
@@ -43,7 +43,7 @@ static uint32_t open_replay(const char *path, c8_session *s) {
 
 /* Takes all rows of a session. */
 static void take_rows(player *p) {
-    uint16_t rows[C8_ROWS][C8_ROW];
+    uint64_t rows[C8_ROWS][C8_ROW];
     uint32_t from, count;
     do {
         count = c8_step(&p->session, &from, rows[0], C8_ROWS * C8_ROW);
@@ -132,7 +132,7 @@ int main(int count, char **words) {
     static player players[3];
     static const uint8_t id[32] = "replay 1", other[32] = "replay 2";
     if (count != 3) return 2;
-    length = c8_rules(2, FRAMES, 1, 8, id, text, sizeof text);
+    length = c8_rules(2, FRAMES, 1, 8, 0, id, text, sizeof text);
     for (uint8_t me = 1; me <= 2; me++) must("opened", open_journal(words[me], me, &players[me].session), 0);
     while (c8_confirmed(&players[1].session) < PLAYED) {
         for (int i = 0; i < queued; i++) c8_deliver(&players[queue[i].to].session, queue[i].bytes, queue[i].length);
@@ -150,7 +150,7 @@ int main(int count, char **words) {
         printf("player %d ticked %" PRIu32 " confirmed %" PRIu32 "\n", me, ticked, confirmed);
         c8_close(s);
     }
-    length = c8_rules(2, FRAMES, 1, 8, other, text, sizeof text);
+    length = c8_rules(2, FRAMES, 1, 8, 0, other, text, sizeof text);
     must("another game", open_replay(words[1], &players[1].session), 301);
     refusals(words[2]);
     printf("%s\n", failed ? "not as c8.h says" : "as c8.h says");

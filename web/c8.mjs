@@ -17,21 +17,23 @@
  */
 
 /** The version of this file. A module has to have the same first two numbers, and no smaller third. */
-export const VERSION = '0.2.2';
+export const VERSION = '0.3.0';
 
 /** The sizes of c8.h, in bytes; ROW is in words, ROWS in rows. */
 export const DATAGRAM = 174, PACKET = 198, PICTURE = 256, STATE = 4419, RULES = 256, ROW = 4, ROWS = 16;
 
 /** Answers that a program may test for. */
 export const CLOSED = 101, NOT_SEALED = 103, SEEN_BEFORE = 104, BAD_SECRET = 105, SEALED_ALREADY = 106, REPLAY = 107, WATCHER = 108,
-  THRESHOLD = 401, END = 402, DROPPED = 403, DESYNC = 814, DISK = 1301, FULL = 1302, LOCKED = 1303;
+  THRESHOLD = 401, END = 402, DROPPED = 403, WIDE = 406, DESYNC = 814, DISK = 1301, FULL = 1302, LOCKED = 1303;
 
 /** The kinds of `say`. */
 export const HELLO = 0, WELCOME = 1, DATA = 2, FREEZE = 3, FROZEN = 4, CUT = 5;
 
 /** The kinds of events. */
 export const EVENT_LINKED = 1, EVENT_INTERRUPTED = 2, EVENT_RESUMED = 3, EVENT_DROPPED = 4, EVENT_DESYNC = 5, EVENT_ENDED = 6,
-  EVENT_RESTARTED = 7;
+  EVENT_RESTARTED = 7, EVENT_CAME_BACK = 8;
+/** Why a session is over. */
+export const OVER_DONE = 1, OVER_DROPPED = 2, OVER_LEFT = 3, OVER_REFUSED = 4, OVER_CHAIR_LOST = 5, OVER_CHAIR_LEFT = 6;
 
 /** What an input of a row is, for `status`. */
 export const PREDICTED = 0, HELD = 1, EMPTY = 2;
@@ -138,6 +140,12 @@ function fits(version) {
   return own[0] === other[0] && own[1] === other[1] && own[2] <= other[2];
 }
 
+/** The number of a new life: the seconds since 1970 in its upper 4 bytes, random ones below. */
+function drawnLife() {
+  const [random] = crypto.getRandomValues(new Uint32Array(1));
+  return BigInt(Math.trunc(Date.now() / 1000)) << 32n | BigInt(random);
+}
+
 /**
  * Compiles the module. Throws if it has another version.
  * @param {BufferSource} source its bytes, of c8.wasm or c8-32.wasm
@@ -171,7 +179,7 @@ export class C8 {
    * @param {number} [patience] turns, 0 for never
    */
   open(text, player, room, patience = 0) {
-    return this.opened((at, size, handle) => this.exports.c8_open(at, size, player, room, patience, handle), text);
+    return this.opened((at, size, handle) => this.exports.c8_open(at, size, player, room, drawnLife(), patience, handle), text);
   }
 
   /** The same over a journal in a file, which it closes, also when it refuses.
@@ -183,7 +191,8 @@ export class C8 {
    */
   openJournal(text, player, room, patience, file) {
     const number = this.files.add(file);
-    return this.opened((at, size, handle) => this.exports.c8_open_journal(at, size, player, room, patience, number, number + 1, handle), text);
+    return this.opened((at, size, handle) =>
+      this.exports.c8_open_journal(at, size, player, room, drawnLife(), patience, number, number + 1, handle), text);
   }
 
   /** Opens a replay of the journal in a file: a session that only reads, of the player and the room that the journal names. What plays or
@@ -212,10 +221,11 @@ export class C8 {
    * @param {number} delay
    * @param {number} window
    * @param {Uint8Array} id of 32 bytes
+   * @param {number} [width] how many bytes an input has, 1 to 8; with 0 it has two, and datagrams have version 1
    */
-  rules(players, frames, delay, window, id) {
+  rules(players, frames, delay, window, id, width = 0) {
     const at = this.output;
-    return this.copy(OUTPUT, this.exports.c8_rules(players, frames, delay, window, this.put(id), at, BigInt(RULES)));
+    return this.copy(OUTPUT, this.exports.c8_rules(players, frames, delay, window, width, this.put(id), at, BigInt(RULES)));
   }
 
   /** The version of the module, as `VERSION`. */
@@ -294,7 +304,7 @@ export class C8 {
 
 /**
  * What a session knows of a player, as `c8_player_state`.
- * @typedef {{ silent: number, held: number, acknowledged: number, linked: boolean, dropped: boolean, cut: number }} PlayerState
+ * @typedef {{ silent: number, held: number, acknowledged: number, linked: boolean, dropped: boolean, cut: number, cameBack: boolean }} PlayerState
  */
 
 /** A session that is open. */
@@ -331,10 +341,10 @@ export class Session {
   }
 
   /** Enters the own player's next input.
-   * @param {number} input 16 bits
+   * @param {number | bigint} input of as many bytes as the game's text says
    */
   tick(input) {
-    return this.#calls.c8_tick(this.#at, input);
+    return this.#calls.c8_tick(this.#at, BigInt(input));
   }
 
   turn() {
@@ -386,6 +396,12 @@ export class Session {
     return this.#calls.c8_end(this.#at, frames);
   }
 
+  /** Leaves the match. 1: the next turns say so; go on with turns until `isOver`, at most six, and close. 0: games of versions 1 and 2
+   * have no word for it; close the session. */
+  bye() {
+    return this.#calls.c8_bye(this.#at);
+  }
+
   /** The oldest event that waits; null if there is none.
    * @returns {{ kind: number, player: number, frame: number } | null}
    */
@@ -407,20 +423,25 @@ export class Session {
     return this.#calls.c8_is_over(this.#at) !== 0;
   }
 
+  /** Why it is over: one of OVER_DONE to OVER_CHAIR_LEFT; 0 if it is not. */
+  whyOver() {
+    return this.#calls.c8_why_over(this.#at);
+  }
+
   isLost() {
     return this.#calls.c8_is_lost(this.#at) !== 0;
   }
 
   // ---- any machine
 
-  /** The rows that changed: the first frame, and four words a row.
+  /** The rows that changed: the first frame, and four words a row, as numbers, which are exact below 2 ** 53, and as 64 bits each.
    * @param {number} [most] how many rows at most
    */
   step(most = ROWS) {
-    const c8 = this.#c8, room = Math.min(most, 512) * ROW;
+    const c8 = this.#c8, room = Math.min(most, 128) * ROW;
     const count = this.#calls.c8_step(this.#at, BigInt(c8.block + SMALL), c8.output, BigInt(room));
-    const bytes = c8.copy(OUTPUT, count * ROW * 2);
-    return { from: c8.words.getUint32(SMALL, true), rows: new Uint16Array(bytes.buffer) };
+    const words = new BigUint64Array(c8.copy(OUTPUT, count * ROW * 8).buffer);
+    return { from: c8.words.getUint32(SMALL, true), rows: Float64Array.from(words, Number), words };
   }
 
   /** @param {number} depth frames; 0 ends the test */
@@ -457,6 +478,7 @@ export class Session {
       linked: words.getUint8(OUTPUT + 16) !== 0,
       dropped: words.getUint8(OUTPUT + 17) !== 0,
       cut: words.getUint32(OUTPUT + 20, true),
+      cameBack: words.getUint8(OUTPUT + 24) !== 0,
     };
   }
 

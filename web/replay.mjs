@@ -1,8 +1,9 @@
 // @ts-check
 /**
  * The page that `c8play replay --page` writes. It has the rows of a journal and how each changes the picture, as texts in elements that a
- * browser does not run: the players; a line with player and frame for each drop; four digits for each player of each frame; and for each
- * frame its changes, each of four digits, two for the place of a byte of the picture and two for its bits. A comma ends those of a frame.
+ * browser does not run: the players; a line with player and frame for each drop; the digits of an input for each player of each frame; and
+ * for each frame its changes, each of four digits, two for the place of a byte of the picture and two for its bits. A comma ends those of a frame.
+ * At last come the frames of the game, the name of its file, and the match id if it is known, a line each.
  * @module
  */
 import { Picture, followColors } from './picture.mjs';
@@ -18,6 +19,8 @@ const drops = textOf('drops').split('\n').filter(line => line).map(line => line.
 const picture = new Picture(part('screen'));
 followColors(it => picture.become(it));
 const numbers = Array.from({ length: players }, (_, place) => place + 1);
+/** How many digits an input has. The program sees the last four of them. */
+const width = frames ? keys.length / (players * frames) : 0;
 let shown = 0, isPlaying = false, last = 0, owed = 0;
 
 /** Takes the picture to that after a frame, or back to the one before it: a change is undone by itself.
@@ -34,8 +37,8 @@ function change(screen, frame) {
  * @param {number} player
  */
 function heldBy(player) {
-  const at = DIGITS * (players * (shown - 1) + player - 1);
-  return shown ? parseInt(keys.slice(at, at + DIGITS), 16) : 0;
+  const end = width * (players * (shown - 1) + player);
+  return shown ? parseInt(keys.slice(end - Math.min(width, DIGITS), end), 16) : 0;
 }
 
 /** @param {number} player */
@@ -43,6 +46,17 @@ function showKeys(player) {
   const held = heldBy(player), drop = drops.find(([who]) => who === player);
   for (const key of part(`pad${player}`).children) key.className = held >> parseInt(key.textContent ?? '', 16) & 1 ? 'held' : '';
   part(`name${player}`).className = drop && drop[1] <= shown ? 'dropped' : '';
+}
+
+/** Says in the title and above the picture which match this is, and how it ended. */
+function nameMatch() {
+  const [whole, game, room] = textOf('about').split('\n');
+  const match = room ? `${game}, match ${room}` : game;
+  const played = String(frames) === whole ? `all ${frames} frames` : `${frames} of ${whole} frames`;
+  const result = [`${players} players`, played, ...drops.map(([who, at]) => `player ${who} dropped at frame ${at}`)].join(', ');
+  document.title = `${match}: ${result}`;
+  part('match').textContent = match;
+  part('result').textContent = result;
 }
 
 /** @param {number} frame */
@@ -114,6 +128,7 @@ addEventListener('keydown', event => {
   act();
   event.preventDefault();
 });
+nameMatch();
 numbers.forEach(addPad);
 drops.forEach(addMark);
 /** @type {HTMLInputElement} */ (part('seek')).max = String(frames);

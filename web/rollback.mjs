@@ -284,13 +284,6 @@ class Show {
 
 /** @param {string} id */
 const textOf = id => (part(id).textContent ?? '').trim();
-/** The bytes of a text that tools/page packed.
- * @param {string} text
- */
-const unpacked = async text => {
-  const packed = new Blob([Uint8Array.from(atob(text), it => it.charCodeAt(0))]);
-  return new Uint8Array(await new Response(packed.stream().pipeThrough(new DecompressionStream('gzip'))).arrayBuffer());
-};
-const show = new Show(await unpacked(textOf('module')), textOf('game'));
+const show = new Show(Uint8Array.from(atob(textOf('module')), it => it.charCodeAt(0)), textOf('game'));
 show.begin();
 Object.assign(globalThis, { show });

@@ -103,8 +103,8 @@ static void give_others(head *mark) {
 
 /* ---- openings and closes: the engine's own begin with c8os_ (tools/retargeting.py) */
 
-c8_answer c8os_c8_open(const uint8_t *text, size_t length, uint8_t player, uint64_t room, uint32_t patience, c8_session *);
-c8_answer c8os_c8_open_journal(const uint8_t *text, size_t length, uint8_t player, uint64_t room, uint32_t patience, int32_t file, int32_t folder,
+c8_answer c8os_c8_open(const uint8_t *text, size_t length, uint8_t player, uint64_t room, uint64_t drawn, uint32_t patience, c8_session *);
+c8_answer c8os_c8_open_journal(const uint8_t *text, size_t length, uint8_t player, uint64_t room, uint64_t drawn, uint32_t patience, int32_t file, int32_t folder,
                                c8_session *);
 c8_answer c8os_c8_replay_open(const uint8_t *text, size_t length, int32_t file, c8_session *);
 c8_answer c8os_c8_watch_open(const uint8_t *text, size_t length, uint8_t watcher, uint64_t room, uint64_t begun, c8_session *);
@@ -139,18 +139,18 @@ static c8_answer ended(opening *it, c8_answer answer) {
 }
 
 EXPORT(c8_open)
-c8_answer c8_open(const uint8_t *text, size_t length, uint8_t player, uint64_t room, uint32_t patience, c8_session *session) {
+c8_answer c8_open(const uint8_t *text, size_t length, uint8_t player, uint64_t room, uint64_t drawn, uint32_t patience, c8_session *session) {
     opening it;
     begin(&it, session);
-    return ended(&it, c8os_c8_open(text, length, player, room, patience, session));
+    return ended(&it, c8os_c8_open(text, length, player, room, drawn, patience, session));
 }
 
 EXPORT(c8_open_journal)
-c8_answer c8_open_journal(const uint8_t *text, size_t length, uint8_t player, uint64_t room, uint32_t patience, int32_t file, int32_t folder,
+c8_answer c8_open_journal(const uint8_t *text, size_t length, uint8_t player, uint64_t room, uint64_t drawn, uint32_t patience, int32_t file, int32_t folder,
                           c8_session *session) {
     opening it;
     begin(&it, session);
-    return ended(&it, c8os_c8_open_journal(text, length, player, room, patience, file, folder, session));
+    return ended(&it, c8os_c8_open_journal(text, length, player, room, drawn, patience, file, folder, session));
 }
 
 EXPORT(c8_replay_open)

@@ -265,7 +265,7 @@ class Tests(unittest.TestCase):
 
     def test_version(self) -> None:
         self.assertEqual(version(), calls.VERSION)
-        self.assertEqual([it for it in ("0.1.9", "0.2.1", "0.2.2", "0.2.7", "0.3.0", "1.2.2") if calls.fits(it)], ["0.2.2", "0.2.7"])
+        self.assertEqual([it for it in ("0.2.9", "0.3.0", "0.3.7", "0.4.0", "1.3.0") if calls.fits(it)], ["0.3.0", "0.3.7"])
 
     def test_hand(self) -> None:
         with Session(TEXT, 1, 7) as session:

@@ -19,6 +19,7 @@ def system(bench, it, calls):
     same(f"random on {it.name}", said, f"random: {calls} calls, fine\n")
     journal(bench, it)
     replays(bench, it)
+    same(f"lives on {it.name}", bench.run(*bench.build(it, "lives"), f"lives-{it.name}.text"), "lives: fine\n")
     bench.run(*bench.build(it, "memory"), f"memory-{it.name}.journal")
     os.remove(f"{bench.folder}/memory-{it.name}.journal")
 

@@ -200,7 +200,7 @@ def admit_first(rules: Rules, j: Journal, m: Memory, d: Datagram) -> Heard:
     life = table(rules, j, m)[d.sender]
     if life and life != d.life and "mine" not in rules.without:
         return restarted(rules, m, d.sender, d.life)
-    if life or d.epoch_to > j.epoch:
+    if life or d.epoch_to > j.epoch or d.epoch < m.known[d.sender]:
         return hear_epochs(j, m, d)
     return register(rules, j, m, d.sender, d.life, with_epoch(m, d.sender, d.epoch))
 
@@ -230,6 +230,8 @@ def refusal_of_welcome(rules: Rules, me: int, j: Journal, m: Memory, d: Datagram
     q = d.sender
     if q == 1 and d.life != j.life and "yours" not in rules.without and "registry" not in rules.without:
         return "Stale"
+    if me == 1 and not rules.without and table(rules, j, m)[q] != d.life:
+        return "OtherMatch"  # nobody honest says it; so no link is open to a player who is not registered
     if not match_of(j) and q != 1:
         return "OtherMatch"
     if match_of(j) and match_of(j) != d.match and "chair" not in rules.without:

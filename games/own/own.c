@@ -49,7 +49,7 @@ static int32_t within(int32_t place, int32_t size) { return place < 0 ? 0 : plac
 /* From which frame on a player is gone: then its inputs have ended. */
 static uint32_t ends[PLAYERS] = {C8_UNCUT, C8_UNCUT, C8_UNCUT};
 
-static state step(state s, const uint16_t row[C8_ROW], uint32_t frame) {
+static state step(state s, const uint64_t row[C8_ROW], uint32_t frame) {
     for (int i = 0; i < PLAYERS; i++) {
         walker *it = &s.walkers[i];
         if (frame >= ends[i]) {
@@ -66,20 +66,11 @@ static state step(state s, const uint16_t row[C8_ROW], uint32_t frame) {
     return s;
 }
 
-/* FNV-1a over the state's words, their low bytes first. */
-static uint64_t hash(const state *s) {
-    uint32_t words[sizeof *s / sizeof(uint32_t)];
-    uint64_t sum = 0xcbf29ce484222325;
-    memcpy(words, s, sizeof words);
-    for (size_t i = 0; i < sizeof words; i++) sum = (sum ^ (words[i / 4] >> 8 * (i % 4) & 255)) * 0x100000001b3;
-    return sum;
-}
-
 /* ---- the rows: states before each frame from the last confirmed one on, and the rows between them */
 
 static struct {
     state states[RING];
-    uint16_t rows[RING][C8_ROW];
+    uint64_t rows[RING][C8_ROW];
     uint32_t run;                              /* frames that the machine has run */
     uint32_t again;                            /* the frame to go back to, as somebody has left there; C8_UNCUT for none */
     uint32_t wrong;                            /* a test: the state after this frame is spoilt */
@@ -91,13 +82,13 @@ static void run_frame(uint32_t frame) {
     state *after = &machine.states[(frame + 1) % RING];
     *after = step(machine.states[frame % RING], machine.rows[frame % RING], frame);
     if (machine.wrong && frame == machine.wrong) after->random++;
-    if ((frame + 1) % MARK == 0) machine.marks[(frame + 1) / MARK % MARKS] = hash(after);
+    if ((frame + 1) % MARK == 0) machine.marks[(frame + 1) / MARK % MARKS] = hash_words(after, sizeof *after);
 }
 
 /* Runs what a step gives. If a player is gone since a frame before that, it goes back there by itself: where the last input
  * was 0 no row has changed. */
 static void run(c8_session *session) {
-    uint16_t rows[C8_ROWS][C8_ROW];
+    uint64_t rows[C8_ROWS][C8_ROW];
     uint32_t from, count;
     do {
         count = c8_step(session, &from, rows[0], C8_ROWS * C8_ROW);
@@ -113,7 +104,7 @@ static void run(c8_session *session) {
 
 /* The same of a spectator, whose rows are final. They do not say who is gone: it runs no more frames than player 1 has told that of. */
 static void run_watched(c8_session *session, uint32_t told) {
-    uint16_t rows[C8_ROWS][C8_ROW];
+    uint64_t rows[C8_ROWS][C8_ROW];
     uint32_t from, count;
     do {
         uint32_t most = told - machine.run < C8_ROWS ? told - machine.run : C8_ROWS;
@@ -127,7 +118,7 @@ static void run_watched(c8_session *session, uint32_t told) {
 }
 
 static void happened(c8_session *session) {
-    static const char *const names[] = {"", "linked", "interrupted", "resumed", "dropped", "desync", "ended", "restarted"};
+    static const char *const names[] = {"", "linked", "interrupted", "resumed", "dropped", "desync", "ended", "restarted", "came back"};
     c8_event_state it;
     while (c8_event(session, &it)) {
         fprintf(stderr, "event %s player %d frame %" PRIu32 "\n", names[it.kind], it.player, it.frame);
@@ -336,7 +327,7 @@ static void open_session(const options *o, c8_session *session) {
     static const uint8_t id[32] = "lanterns 1";
     uint8_t text[C8_RULES];
     int32_t file, folder;
-    uint32_t length = c8_rules(PLAYERS, o->frames, DELAY, WINDOW, id, text, sizeof text);
+    uint32_t length = c8_rules(PLAYERS, o->frames, DELAY, WINDOW, 0, id, text, sizeof text);
     c8_answer why;
     if (!o->me) {
         if (c8_journal_read(o->journal, &file)) perror(o->journal), exit(1);
@@ -348,10 +339,10 @@ static void open_session(const options *o, c8_session *session) {
         for (int tries = 0; why == C8_LOCKED && tries < 30; tries++) { /* a player that was just killed may still have it */
             if (tries > 0) pause_for(100);
             if (c8_journal_open(o->journal, &file, &folder)) perror(o->journal), exit(1);
-            why = c8_open_journal(text, length, o->me, ROOM, o->patience, file, folder, session);
+            why = c8_open_journal(text, length, o->me, ROOM, 0, o->patience, file, folder, session);
         }
     } else {
-        why = c8_open(text, length, o->me, ROOM, o->patience, session);
+        why = c8_open(text, length, o->me, ROOM, 0, o->patience, session);
     }
     if (!why && o->me == 1 && o->addresses[WATCHER - 1]) why = c8_watched(session, WATCHER);
     if (why) fail("not opened", why);
@@ -440,7 +431,7 @@ static void report(uint32_t frames) {
     const state *s = &machine.states[frames % RING];
     for (int i = 0; i < PLAYERS; i++)
         if (ends[i] != C8_UNCUT) printf("player %d is gone since frame %" PRIu32 "\n", i + 1, ends[i]);
-    printf("frames %" PRIu32 " hash %016" PRIx64 " scores", frames, hash(s));
+    printf("frames %" PRIu32 " hash %016" PRIx64 " scores", frames, hash_words(s, sizeof *s));
     for (int i = 0; i < PLAYERS; i++) printf(" %" PRId32, s->walkers[i].score);
     printf("\n");
 }

@@ -58,10 +58,10 @@ static void carry(const uint8_t *bytes, uint32_t length, uint8_t to) {
 
 static void look(c8_session *it, int turn) {
     static uint8_t state[C8_STATE], picture[C8_PICTURE];
-    uint16_t rows[MOST_ROWS * C8_ROW];
+    uint64_t rows[MOST_ROWS * C8_ROW];
     uint32_t from = 0, count = c8_step(it, &from, rows, MOST_ROWS * C8_ROW);
     add(count), add(count ? from : 0);
-    for (uint32_t k = 0; k < count * C8_ROW; k++) add(rows[k]);
+    for (uint32_t k = 0; k < count * C8_ROW; k++) add((uint32_t)rows[k]);
     add(c8_ticked(it)), add(c8_confirmed(it)), add(c8_is_over(it)), add(c8_is_lost(it)), add(c8_tone(it));
     if (turn % 16) return;
     c8_state(it, state), add_all(state, sizeof state), c8_screen(it, picture), add_all(picture, sizeof picture);
@@ -78,7 +78,7 @@ static void play(const uint8_t *text, size_t length, bool is_sealed) {
     dice = 12345, sum = 2166136261u, queued = 0;
     memset(keys, 0, sizeof keys);
     for (uint8_t me = 1; me <= PLAYERS; me++) {
-        uint32_t why = c8_open(text, length, me, 9, 300, &sessions[me]);
+        uint32_t why = c8_open(text, length, me, 9, 0, 300, &sessions[me]);
         add(why), players += !why;
         if (is_sealed) add(c8_secrets(&sessions[me], secret, watchers, me == 1 ? 32 : 0));
     }
@@ -109,6 +109,6 @@ int main(int count, char **names) {
         fclose(file);
         play(text, length, i % 2 == 0);
     }
-    play(text, c8_rules(3, 5000, 2, 8, id, text, C8_RULES), true);
+    play(text, c8_rules(3, 5000, 2, 8, 0, id, text, C8_RULES), true);
     return 0;
 }

@@ -93,7 +93,7 @@ def looks(bench):
     look.at(page, "rollback")
     path, *_ = replay_page(bench)
     page.go(f"file://{path}")
-    page.until("document.readyState === 'complete' && document.title === 'c8play replay'", 5)
+    page.until("document.readyState === 'complete' && document.title.startsWith('rally.game, match 77: ')", 5)
     page.value("part('seek').value = 160; part('seek').oninput()")
     look.at(page, "replay")
     print(f"  {look.count} looks")

@@ -334,7 +334,7 @@ def replay_page(bench):
             now[place] ^= bits
         changes.append("".join(f"{place:02x}{bits:02x}" for place, bits in some.items()) + ",")
     keys = "".join(f"{1 << frame % 16:04x}{0x8000 if frame > 99 else 0:04x}0000" for frame in range(frames))
-    data = ["3", "3 150\n", keys, "".join(changes)]
+    data = ["3", "3 150\n", keys, "".join(changes), "36000\nrally.game\n77\n"]
     path, parts = f"{bench.folder}/replay.html", bench.page.replay_parts()
     bench.page.write(path, "".join(f"{part}{it}" for part, it in zip(parts, [*data, ""])))
     return path, frames, [*pictures, bytes(now)]
@@ -349,6 +349,9 @@ def replay(bench):
     lit = """(() => {
         const points = part('screen').getContext('2d').getImageData(0, 0, 64, 32).data, at = it => points[4 * it] === (picture.colors.lit & 255);
         return [...Array(256).keys()].map(place => [...Array(8).keys()].reduce((sum, bit) => 2 * sum + at(8 * place + bit), 0)).join(); })()"""
+    said = "3 players, 200 of 36000 frames, player 3 dropped at frame 150"
+    named = (page.value("document.title"), page.text("match"), page.text("result"))
+    check("it names the match", named == (f"rally.game, match 77: {said}", "rally.game, match 77", said), named)
     check("it begins at the end", page.text("where") == f"{frames}/{frames}", page.text("where"))
     for frame in (31, 2, frames, 0, 150):
         page.value(f"part('seek').value = {frame}; part('seek').oninput()")

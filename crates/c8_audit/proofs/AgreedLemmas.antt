@@ -2,7 +2,6 @@
 use Rattle.std.proofs.Common.{◌≡◌, ◌≢◌, ℕ, ◌<◌, ◌≤◌, ◌⊎◌, inl, inr, List, [], ◌∷◌, Some, refl, sym, ap, ◌∙◌, arith}
 use Rattle.std.proofs.lemmas.Bool.{cases_lt, cases_eq}
 use Rattle.c8_game.specs.Rules.{Rules}
-use Rattle.c8_game.specs.declared.row.Keys.{Keys}
 use Rattle.c8_game.specs.declared.row.Row.{Row}
 use Rattle.c8_machine.specs.Serial.{serial}
 use Rattle.c8_known.specs.Known.{KnownValue}
@@ -20,24 +19,24 @@ same_up_to rules a b n rows = record { rows = rows; machine = ap (λ (all : List
 some_same : {X : Type 0} (x y : X) → Some x ≡ Some y → x ≡ y
 some_same x y same = cc
 
-sets_or_not : (xs ys : List Keys) → (xs ≡ ys) ⊎ (xs ≢ ys)
-sets_or_not [] [] = inl refl
-sets_or_not [] (y ∷ ys) = inr (λ e. cc)
-sets_or_not (x ∷ xs) [] = inr (λ e. cc)
-sets_or_not (x ∷ xs) (y ∷ ys) =
-    elim (cases_eq x.0 y.0) [
-      | inl same ↦ elim (sets_or_not xs ys) [
-        | inl rest ↦ inl (λ i. (record { 0 = same i }) ∷ rest i)
+same_or_not : (xs ys : List ℕ) → (xs ≡ ys) ⊎ (xs ≢ ys)
+same_or_not [] [] = inl refl
+same_or_not [] (y ∷ ys) = inr (λ e. cc)
+same_or_not (x ∷ xs) [] = inr (λ e. cc)
+same_or_not (x ∷ xs) (y ∷ ys) =
+    elim (cases_eq x y) [
+      | inl same ↦ elim (same_or_not xs ys) [
+        | inl rest ↦ inl (λ i. same i ∷ rest i)
         | inr apart ↦ inr (λ e. let rest : xs ≡ ys = cc in apart rest)
       ]
-      | inr apart ↦ inr (λ e. let keys : x ≡ y = cc in apart (ap (λ (k : Keys). k.0) keys))
+      | inr apart ↦ inr (λ e. let input : x ≡ y = cc in apart input)
     ]
 
 same_unless : (a b : Row) → (a ≢ b → ⊥) → a ≡ b
 same_unless a b never =
-    elim (sets_or_not a.sets b.sets) [
-      | inl same ↦ λ i. record { sets = same i }
-      | inr apart ↦ absurd (never (λ e. apart (ap (λ (r : Row). r.sets) e)))
+    elim (same_or_not a.inputs b.inputs) [
+      | inl same ↦ λ i. record { inputs = same i }
+      | inr apart ↦ absurd (never (λ e. apart (ap (λ (r : Row). r.inputs) e)))
     ]
 
 -- ---- players

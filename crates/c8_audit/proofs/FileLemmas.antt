@@ -185,14 +185,15 @@ or_all : (a b c : Option Readings) → or_else a (or_else b c) ≡ or_else (or_e
 or_all (Some r) b c = refl
 or_all None b c = refl
 
-evidence_more : (firsts laters : List (List ℕ)) (a b : List ℕ) (p : ℕ) → length firsts ≡ length laters
-    → evidence_in (firsts ++ a ∷ []) (laters ++ b ∷ []) p ≡ or_else (evidence_in firsts laters p) (only_in a b p)
+evidence_more : (width : ℕ) (firsts laters : List (List ℕ)) (a b : List ℕ) (p : ℕ) → length firsts ≡ length laters
+    → evidence_in width (firsts ++ a ∷ []) (laters ++ b ∷ []) p ≡ or_else (evidence_in width firsts laters p) (only_in width a b p)
 unfolding evidence_in
-evidence_more [] [] a b p same = or_none (only_in a b p)
-evidence_more [] (y ∷ ys) a b p same = absurd (omega (arith, same))
-evidence_more (x ∷ xs) [] a b p same = absurd (omega (arith, same))
-evidence_more (x ∷ xs) (y ∷ ys) a b p same =
-    ap (or_else (only_in x y p)) (evidence_more xs ys a b p (omega (arith, same))) ∙ or_all (only_in x y p) (evidence_in xs ys p) (only_in a b p)
+evidence_more width [] [] a b p same = or_none (only_in width a b p)
+evidence_more width [] (y ∷ ys) a b p same = absurd (omega (arith, same))
+evidence_more width (x ∷ xs) [] a b p same = absurd (omega (arith, same))
+evidence_more width (x ∷ xs) (y ∷ ys) a b p same =
+    ap (or_else (only_in width x y p)) (evidence_more width xs ys a b p (omega (arith, same)))
+    ∙ or_all (only_in width x y p) (evidence_in width xs ys p) (only_in width a b p)
 
 gathered_same : (rules : Rules) (e f : Evidence) (journals : List (Option Journal)) → ((p : ℕ) → f p ≡ e p) → IsGathered rules e journals
     → IsGathered rules f journals
@@ -203,15 +204,15 @@ gathered_same rules e f journals same is = record {
 
 pub gathered_next : (rules : Rules) (firsts laters : List (List ℕ)) (i : ℕ) (a b : List ℕ) (journals : List (Option Journal))
     → slice_get firsts i ≡ Some a → slice_get laters i ≡ Some b → length firsts ≡ length laters
-    → IsGathered rules (with_file (evidence_in (take i firsts) (take i laters)) a b) journals
-    → IsGathered rules (evidence_in (take (i + 1) firsts) (take (i + 1) laters)) journals
+    → IsGathered rules (with_file rules.width (evidence_in rules.width (take i firsts) (take i laters)) a b) journals
+    → IsGathered rules (evidence_in rules.width (take (i + 1) firsts) (take (i + 1) laters)) journals
 gathered_next rules firsts laters i a b journals at_a at_b same is =
     let long : length (take i firsts) ≡ length (take i laters) = length-take i firsts ∙ ap (λ (n : ℕ). min i n) same ∙ sym (length-take i laters) in
-    gathered_same rules (with_file (evidence_in (take i firsts) (take i laters)) a b)
-    (evidence_in (take (i + 1) firsts) (take (i + 1) laters)) journals
-    (λ p. ap (λ (xs : List (List ℕ)). evidence_in xs (take (i + 1) laters) p) (take_next (List ℕ) firsts i a at_a)
-    ∙ ap (λ (ys : List (List ℕ)). evidence_in (take i firsts ++ a ∷ []) ys p) (take_next (List ℕ) laters i b at_b)
-    ∙ evidence_more (take i firsts) (take i laters) a b p long) is
+    gathered_same rules (with_file rules.width (evidence_in rules.width (take i firsts) (take i laters)) a b)
+    (evidence_in rules.width (take (i + 1) firsts) (take (i + 1) laters)) journals
+    (λ p. ap (λ (xs : List (List ℕ)). evidence_in rules.width xs (take (i + 1) laters) p) (take_next (List ℕ) firsts i a at_a)
+    ∙ ap (λ (ys : List (List ℕ)). evidence_in rules.width (take i firsts ++ a ∷ []) ys p) (take_next (List ℕ) laters i b at_b)
+    ∙ evidence_more rules.width (take i firsts) (take i laters) a b p long) is
 
 none_at : (n : ℕ) → seen_at (slice_get (None ∷ None ∷ None ∷ None ∷ []) n) ≡ None
 none_at zero = refl
@@ -220,7 +221,7 @@ none_at (suc (suc zero)) = refl
 none_at (suc (suc (suc zero))) = refl
 none_at (suc (suc (suc (suc n)))) = refl
 
-pub gathered_none : (rules : Rules) → IsGathered rules (evidence_in [] []) (None ∷ None ∷ None ∷ None ∷ [])
+pub gathered_none : (rules : Rules) → IsGathered rules (evidence_in rules.width [] []) (None ∷ None ∷ None ∷ None ∷ [])
 unfolding evidence_in
 gathered_none rules = record { seen_is = λ p from. none_at (p - 1); read = λ p r from is. absurd cc }
 
@@ -228,11 +229,12 @@ gathered_none rules = record { seen_is = λ p from. none_at (p - 1); read = λ p
 
 -- a file without a record names nobody
 pub nobody_in : (rules : Rules) (e : Evidence) (first later : List ℕ) (journals : List (Option Journal)) → length (kept first) ≡ 0
-    → IsGathered rules e journals → IsGathered rules (with_file e first later) journals
+    → IsGathered rules e journals → IsGathered rules (with_file rules.width e first later) journals
 nobody_in rules e first later journals none is =
-    gathered_same rules e (with_file e first later) journals (λ p. ap (or_else (e p)) (no_file (kept first) p none) ∙ or_none (e p)) is
+    gathered_same rules e (with_file rules.width e first later) journals (λ p. ap (or_else (e p)) (no_file (kept first) p none) ∙ or_none (e p)) is
   where
-    no_file : (bodies : List (List ℕ)) (p : ℕ) → length bodies ≡ 0 → if_of (names_player p (records_of bodies)) (readings_of first later) ≡ None
+    no_file : (bodies : List (List ℕ)) (p : ℕ) → length bodies ≡ 0 → if_of (names_player p (records_of rules.width bodies))
+        (readings_of rules.width first later) ≡ None
     no_file [] p none = refl
     no_file (b ∷ bodies) p none = absurd (omega (arith, none))
 
@@ -256,26 +258,27 @@ read_or None false r t is = absurd cc
 
 pub one_in : (rules : Rules) (e : Evidence) (first later : List ℕ) (before after : List (Option Journal)) (j : Journal) (room : ℕ)
     → IsGathered rules e before
-    → IsReadTwice rules room j.first.me (readings_of first later) → seen j ≡ seen_of rules j.first.me (readings_of first later)
-    → names_player j.first.me (records_of (kept first)) ≡ true
-    → ((p : ℕ) → 1 ≤ p → all_seen after p ≡ with_journal (all_seen before) j p) → IsGathered rules (with_file e first later) after
+    → IsReadTwice rules room j.first.me (readings_of rules.width first later) → seen j ≡ seen_of rules j.first.me
+    (readings_of rules.width first later)
+    → names_player j.first.me (records_of rules.width (kept first)) ≡ true
+    → ((p : ℕ) → 1 ≤ p → all_seen after p ≡ with_journal (all_seen before) j p) → IsGathered rules (with_file rules.width e first later) after
 one_in rules e first later before after j room is read same names put = record {
   seen_is = λ p from.
       put p from ∙ ap (λ (o : Option Seen). seen_or o (j.first.me == p) (seen j)) (is.seen_is p from)
-      ∙ seen_one rules p (e p) (j.first.me == p) (readings_of first later) (seen j)
-      (λ test. same ∙ ap (λ (q : ℕ). seen_of rules q (readings_of first later)) (eqb-true j.first.me p test))
+      ∙ seen_one rules p (e p) (j.first.me == p) (readings_of rules.width first later) (seen j)
+      (λ test. same ∙ ap (λ (q : ℕ). seen_of rules q (readings_of rules.width first later)) (eqb-true j.first.me p test))
       ∙ ap (λ (o : Option Readings). option_map (seen_of rules p) (or_else (e p) o))
-      (sym (only_is (records_of (kept first)) j.first.me p (readings_of first later) names));
+      (sym (only_is (records_of rules.width (kept first)) j.first.me p (readings_of rules.width first later) names));
   read = λ p r from at. ⊎_elim
       (λ old. is.read p r from old)
       (λ new.
       let here : j.first.me ≡ p = eqb-true j.first.me p new.0 in (
         room,
         subst (λ (x : Readings). IsReadTwice rules room p x) new.1
-            (subst (λ (q : ℕ). IsReadTwice rules room q (readings_of first later)) here read),
+            (subst (λ (q : ℕ). IsReadTwice rules room q (readings_of rules.width first later)) here read),
       ))
-      (read_or (e p) (j.first.me == p) (readings_of first later) r
-      (ap (or_else (e p)) (sym (only_is (records_of (kept first)) j.first.me p (readings_of first later) names)) ∙ at));
+      (read_or (e p) (j.first.me == p) (readings_of rules.width first later) r
+      (ap (or_else (e p)) (sym (only_is (records_of rules.width (kept first)) j.first.me p (readings_of rules.width first later) names)) ∙ at));
 }
 
 -- ---- all files

@@ -12,13 +12,14 @@ use Rattle.c8_audit.specs.Journal.{IsAsked, IsRefusalOfJournal}
 use Rattle.c8_audit.specs.declared.error.JournalError.{JournalError}
 use Rattle.c8_audit.specs.declared.error.JournalError.TheVariants as errors
 use Rattle.c8_known.specs.Growth.{Begins}
-use Rattle.c8_known.specs.Journal.{Record, Head, Epoch, Own, Got, Freeze, Leave, Cut, State, Check, player_of}
+use Rattle.c8_known.specs.Journal.{Record, Head, Epoch, Own, Got, Freeze, Leave, Cut, State, Check, Met, player_of, epoch, life_of}
 use Rattle.c8_known.specs.Known.{KnownValue, known_of}
 use Rattle.c8_known.specs.Confirmed.{row, rows_below}
 use Rattle.c8_game.specs.declared.row.Row.{Row}
 use Rattle.c8_log.specs.Slots.{kept}
 use Rattle.c8_record.specs.Allowed.{IsAllowed, IsJournal}
 use Rattle.c8_record.specs.Body.{body_of, record_of, records_of, Spells}
+use Rattle.c8_record.specs.Numbers.{NumbersValue, mets_of, value_of}
 use Rattle.c8_record.specs.Replay.{AreJournalBodies, BeginsWithHead, IsFirstBad}
 use Rattle.c8_record.specs.checked.BodyLaws.{reads_back}
 use Rattle.c8_record.specs.checked.RefusalLaws.{journal_back, journal_bodies, not_refused}
@@ -30,12 +31,12 @@ use Rattle.c8_audit.proofs.HonestLemmas.{reached_later}
 use Rattle.c8_audit.proofs.ReadingLemmas.{some_same, head_names}
 use Rattle.c8_audit.proofs.StoryLemmas.{AreSame, entered_same, true_same, agreed_same}
 use Rattle.c8_audit.specs.Gathered.{AreGathered, IsNotGathered, IsOutOfMemory}
-use Rattle.c8_audit.specs.Honest.{WasReadTwice, IsHonest, IsFileOf, AreHonestFiles}
+use Rattle.c8_audit.specs.Honest.{WasReadTwice, IsHonest, IsFileOf, AreFilesAlike, AreHonestFiles}
 use Rattle.c8_audit.specs.Honest.{WereRead, IsHonestAtAnyMoments, IsCopyOf, AreHonestFilesAtAnyMoments}
 use Rattle.c8_audit.specs.Images.{first_bytes, later_bytes, readings_of, names_player, if_of, or_else, evidence_in, evidence_of, IsUnread}
 use Rattle.c8_audit.specs.Journals.{Readings, Seen, AllSeen, seen_in, IsGiven, dropped_by, cut_by, cut_in, Stays}
 use Rattle.c8_audit.specs.Judged.{AreVerdicts, AreYes, AccuseNobody}
-use Rattle.c8_audit.specs.OneMatch.{Names, IsMismatch, keeps_nothing}
+use Rattle.c8_audit.specs.OneMatch.{Names, IsMismatch, keeps_nothing, numbers_in, is_other_match}
 use Rattle.c8_audit.specs.Read.{all_seen}
 use Rattle.c8_audit.specs.Verdicts.{IsEntered, AreEntered, IsUnentered, IsAccused, AreTrue, IsUntrue}
 use Rattle.c8_audit.specs.Verdicts.{AreAgreed, IsDifference, IsAhead, IsOpposed, AnswersEntered, AnswersAgreed}
@@ -50,7 +51,7 @@ use Rattle.c8_audit.specs.checked.Below.{AreWorldsLawful}
 use Rattle.c8_audit.specs.declared.error.GatherError.{GatherError}
 use Rattle.c8_audit.specs.declared.error.GatherError.TheVariants.{File, Journals}
 use Rattle.c8_audit.specs.declared.error.Mismatch.{Mismatch}
-use Rattle.c8_audit.specs.declared.error.Mismatch.TheVariants.{SamePlayer, TwoRooms, NoPlayerOne}
+use Rattle.c8_audit.specs.declared.error.Mismatch.TheVariants.{SamePlayer, TwoRooms, TwoMatches, NoPlayerOne}
 use Rattle.c8_audit.specs.declared.error.Unread.{Unread}
 use Rattle.c8_audit.specs.declared.error.Unread.TheVariants.{Journal, Changed}
 use Rattle.c8_audit.specs.declared.files.Twice.{Twice}
@@ -61,12 +62,13 @@ use Rattle.c8_audit.specs.declared.verdict.Verdicts.{Verdicts}
 -- ---- the bodies of a journal
 
 -- a journal's first record is the HEAD of its player and room
-head_is : (rules : Rules) (p room : ℕ) (r : Record) → IsAllowed rules p room [] r → (form : ℕ) × (r ≡ Head p form (id_of rules) room)
+head_is : (rules : Rules) (p room : ℕ) (r : Record) → IsAllowed rules p room [] r
+    → (form life : ℕ) × (r ≡ Head p form (id_of rules) room life)
 unfolding known_of
-head_is rules p room (Head player form id named) is =
+head_is rules p room (Head player form id named life) is =
     let may = is.may in
-    let same : Head player form id named ≡ Head p form (id_of rules) room = λ i. Head (may.own i) form (may.of_game i) (may.in_room i) in
-    (form, same)
+    let same : Head player form id named life ≡ Head p form (id_of rules) room life = λ i. Head (may.own i) form (may.of_game i) (may.in_room i) life in
+    (form, life, same)
 head_is rules p room (Epoch player number form) is = absurd (is.begins refl)
 head_is rules p room (Own player start word) is = absurd (is.begins refl)
 head_is rules p room (Got player start words) is = absurd (is.begins refl)
@@ -75,23 +77,26 @@ head_is rules p room (Leave player) is = absurd (is.begins refl)
 head_is rules p room (Cut player cut start words) is = absurd (is.begins refl)
 head_is rules p room (State player frames piece bytes) is = absurd (is.begins refl)
 head_is rules p room (Check player frames digest) is = absurd (is.begins refl)
+head_is rules p room (Met player life) is = absurd (is.begins refl)
 
 begins_with_head : (rules : Rules) (p room : ℕ) (bodies : List (List ℕ)) → AreJournalBodies rules p room bodies → 0 < length bodies
-    → BeginsWithHead bodies p (id_of rules) room
+    → BeginsWithHead rules.width bodies p (id_of rules) room
 begins_with_head rules p room bodies are some =
     let body = slice_index_or bodies 0 [] in
     let here : slice_get bodies 0 ≡ Some body = slice_get-get_or bodies 0 [] some in
-    let first : slice_get (records_of bodies) 0 ≡ Some (record_of body) = slice_get-map record_of bodies 0 ∙ ap (option_map record_of) here in
-    let head = head_is rules p room (record_of body) (are.journal 0 (record_of body) first) in
-    (body, head.0, here, subst (Spells body) head.1 (are.spelled 0 [] some))
+    let first : slice_get (records_of rules.width bodies) 0 ≡ Some (record_of rules.width body) = slice_get-map (record_of rules.width) bodies 0
+    ∙ ap (option_map (record_of rules.width)) here in
+    let head = head_is rules p room (record_of rules.width body) (are.journal 0 (record_of rules.width body) first) in
+    (body, head.0, head.1, here, subst (Spells rules.width body) head.2 (are.spelled 0 [] some))
 
 -- two HEADs of the same bodies are one
-one_head : (bodies : List (List ℕ)) (p q : ℕ) (id other : List ℕ) (room named : ℕ) → BeginsWithHead bodies p id room
-    → BeginsWithHead bodies q other named → (p ≡ q) × (room ≡ named)
-one_head bodies p q id other room named x y =
-    let body : x.0 ≡ y.0 = some_same x.0 y.0 (sym x.2 ∙ y.2) in
-    let same : Head p x.1 id room ≡ Head q y.1 other named =
-    sym (reads_back x.0 (Head p x.1 id room) x.3) ∙ ap record_of body ∙ reads_back y.0 (Head q y.1 other named) y.3 in
+one_head : (width : ℕ) (bodies : List (List ℕ)) (p q : ℕ) (id other : List ℕ) (room named : ℕ) → BeginsWithHead width bodies p id room
+    → BeginsWithHead width bodies q other named → (p ≡ q) × (room ≡ named)
+one_head width bodies p q id other room named x y =
+    let body : x.0 ≡ y.0 = some_same x.0 y.0 (sym x.3 ∙ y.3) in
+    let same : Head p x.1 id room x.2 ≡ Head q y.1 other named y.2 =
+    sym (reads_back width x.0 (Head p x.1 id room x.2) x.4) ∙ ap (record_of width) body
+    ∙ reads_back width y.0 (Head q y.1 other named y.2) y.4 in
     let player : p ≡ q = cc in
     let there : room ≡ named = cc in
     (player, there)
@@ -100,10 +105,11 @@ no_bad : (rules : Rules) (p room : ℕ) (bodies : List (List ℕ)) (n : ℕ) →
 no_bad rules p room bodies n are bad =
     let body = slice_index_or bodies n [] in
     let here : slice_get bodies n ≡ Some body = slice_get-get_or bodies n [] bad.within in
-    let place : slice_get (records_of bodies) n ≡ Some (record_of body) = slice_get-map record_of bodies n ∙ ap (option_map record_of) here in
-    bad.bad body (record_of body) here (are.spelled n [] bad.within)
-    (subst (λ (before : List Record). IsAllowed rules p room before (record_of body)) (take-map record_of n bodies)
-    (are.journal n (record_of body) place))
+    let place : slice_get (records_of rules.width bodies) n ≡ Some (record_of rules.width body) = slice_get-map (record_of rules.width) bodies n
+    ∙ ap (option_map (record_of rules.width)) here in
+    bad.bad body (record_of rules.width body) here (are.spelled n [] bad.within)
+    (subst (λ (before : List Record). IsAllowed rules p room before (record_of rules.width body)) (take-map (record_of rules.width) n bodies)
+    (are.journal n (record_of rules.width body) place))
 
 -- a journal is refused only if memory runs out
 only_memory : (rules : Rules) (p room : ℕ) (asked : Option ℕ) (bodies : List (List ℕ)) (error : JournalError)
@@ -117,7 +123,7 @@ only_memory rules p room (Some it) bodies errors.WrongGame are some is (player, 
 only_memory rules p room asked bodies (errors.BadRecord n why) are some is (inl none) =
     absurd (none.1 p (id_of rules) room (begins_with_head rules p room bodies are some))
 only_memory rules p room asked bodies (errors.BadRecord n why) are some is (inr (me, named, head, wanted, bad)) =
-    let same = one_head bodies me p (id_of rules) (id_of rules) named room head (begins_with_head rules p room bodies are some) in
+    let same = one_head rules.width bodies me p (id_of rules) (id_of rules) named room head (begins_with_head rules p room bodies are some) in
     absurd (no_bad rules p room bodies n are (subst (λ (q : ℕ). IsFirstBad rules q room bodies n) same.0
     (subst (λ (r : ℕ). IsFirstBad rules me r bodies n) same.1 bad)))
 only_memory rules p room asked bodies errors.Memory are some is memory = refl
@@ -128,25 +134,25 @@ only_memory rules p room asked bodies errors.Memory are some is memory = refl
 pub record IsInOrder (rules : Rules) (room p : ℕ) (file : Twice) (readings : Readings) : Type 0 where
   pub first : AreJournalBodies rules p room (kept (first_bytes file))
   pub later : AreJournalBodies rules p room (kept (later_bytes file))
-  pub same : readings_of (first_bytes file) (later_bytes file) ≡ readings
+  pub same : readings_of rules.width (first_bytes file) (later_bytes file) ≡ readings
   pub continues : Begins (kept (first_bytes file)) (kept (later_bytes file))
 
 in_order_by : (rules : Rules) (room p : ℕ) (file : Twice) (readings : Readings) → IsJournal rules p room readings.first
-    → IsJournal rules p room readings.later → kept (first_bytes file) ≡ map body_of readings.first
-    → kept (later_bytes file) ≡ map body_of readings.later → Begins readings.first readings.later → IsInOrder rules room p file readings
+    → IsJournal rules p room readings.later → kept (first_bytes file) ≡ map (body_of rules.width) readings.first
+    → kept (later_bytes file) ≡ map (body_of rules.width) readings.later → Begins readings.first readings.later → IsInOrder rules room p file readings
 in_order_by rules room p file readings first later first_is later_is continues =
-    let one : records_of (kept (first_bytes file)) ≡ readings.first =
-    ap records_of first_is ∙ journal_back rules p room readings.first first in
-    let two : records_of (kept (later_bytes file)) ≡ readings.later =
-    ap records_of later_is ∙ journal_back rules p room readings.later later in
+    let one : records_of rules.width (kept (first_bytes file)) ≡ readings.first =
+    ap (records_of rules.width) first_is ∙ journal_back rules p room readings.first first in
+    let two : records_of rules.width (kept (later_bytes file)) ≡ readings.later =
+    ap (records_of rules.width) later_is ∙ journal_back rules p room readings.later later in
     record {
       first = subst (λ (b : List (List ℕ)). AreJournalBodies rules p room b) (sym first_is) (journal_bodies rules p room readings.first first);
       later = subst (λ (b : List (List ℕ)). AreJournalBodies rules p room b) (sym later_is) (journal_bodies rules p room readings.later later);
       same = λ i. record { first = one i; later = two i };
       continues = record {
-        rest = map body_of continues.rest;
-        is = later_is ∙ ap (map body_of) continues.is ∙ map-append body_of readings.first continues.rest
-            ∙ ap (λ (xs : List (List ℕ)). xs ++ map body_of continues.rest) (sym first_is);
+        rest = map (body_of rules.width) continues.rest;
+        is = later_is ∙ ap (map (body_of rules.width)) continues.is ∙ map-append (body_of rules.width) readings.first continues.rest
+            ∙ ap (λ (xs : List (List ℕ)). xs ++ map (body_of rules.width) continues.rest) (sym first_is);
       };
     }
 
@@ -181,6 +187,7 @@ pub record AreInOrder (rules : Rules) (room : ℕ) (files : List Twice) : Type 0
   pub readings : (n : ℕ) (file : Twice) → slice_get files n ≡ Some file → Readings
   pub order : (n : ℕ) (file : Twice) (at : slice_get files n ≡ Some file) → IsInOrder rules room (owner n) file (readings n file at)
   pub apart : (m n : ℕ) (a b : Twice) → slice_get files m ≡ Some a → slice_get files n ≡ Some b → owner m ≡ owner n → m ≡ n
+  pub alike : AreFilesAlike rules files owner
   pub one : ℕ
   pub one_file : Twice
   pub one_given : slice_get files one ≡ Some one_file
@@ -194,6 +201,7 @@ ordered laws rules room files range few honest = record {
   readings = λ n file at. (honest.each n file at).readings;
   order = λ n file at. in_order laws rules room (honest.owner n) honest.between file range few (honest.each n file at);
   apart = honest.apart;
+  alike = honest.alike;
   one = honest.one;
   one_file = honest.one_file;
   one_given = honest.one_given;
@@ -208,6 +216,7 @@ copies_ordered laws rules room files range few honest = record {
   readings = λ n file at. (honest.each n file at).readings;
   order = λ n file at. copy_in_order laws rules room (honest.owner n) honest.last file range few (honest.each n file at);
   apart = honest.apart;
+  alike = honest.alike;
   one = honest.one;
   one_file = honest.one_file;
   one_given = honest.one_given;
@@ -232,16 +241,16 @@ module _ (rules : Rules) (room : ℕ) (files : List Twice) (honest : AreInOrder 
   names_owner : (n : Named) (names : Names rules files n) → (n.player.number ≡ honest.owner n.place) × (n.room ≡ room)
   names_owner n names =
       let order = file_in_order n.place names.file names.file_is in
-      let some : 0 < length (kept (first_bytes names.file)) = slice_get_within (kept (first_bytes names.file)) 0 names.head.0 names.head.2 in
-      one_head (kept (first_bytes names.file)) n.player.number (honest.owner n.place) (id_of rules) (id_of rules) n.room room names.head
+      let some : 0 < length (kept (first_bytes names.file)) = slice_get_within (kept (first_bytes names.file)) 0 names.head.0 names.head.3 in
+      one_head rules.width (kept (first_bytes names.file)) n.player.number (honest.owner n.place) (id_of rules) (id_of rules) n.room room names.head
       (begins_with_head rules (honest.owner n.place) room (kept (first_bytes names.file)) order.first some)
 
   one_keeps : 0 < length (kept (first_bytes honest.one_file))
   one_keeps = some_kept (kept (first_bytes honest.one_file)) honest.one_keeps
 
-  one_head_is : BeginsWithHead (kept (first_bytes honest.one_file)) 1 (id_of rules) room
+  one_head_is : BeginsWithHead rules.width (kept (first_bytes honest.one_file)) 1 (id_of rules) room
   one_head_is =
-      subst (λ (p : ℕ). BeginsWithHead (kept (first_bytes honest.one_file)) p (id_of rules) room) honest.one_owner
+      subst (λ (p : ℕ). BeginsWithHead rules.width (kept (first_bytes honest.one_file)) p (id_of rules) room) honest.one_owner
       (begins_with_head rules (honest.owner honest.one) room (kept (first_bytes honest.one_file))
       (file_in_order honest.one honest.one_file honest.one_given).first one_keeps)
 
@@ -253,9 +262,27 @@ module _ (rules : Rules) (room : ℕ) (files : List Twice) (honest : AreInOrder 
       let order = wrong.2 in
       omega (arith, same, order)
   no_mismatch (TwoRooms a b) wrong = wrong.3 ((names_owner a wrong.0).1 ∙ sym (names_owner b wrong.1).1)
+  no_mismatch (TwoMatches a b) wrong =
+      let x = names_owner a wrong.0 in
+      let y = names_owner b wrong.1 in
+      let mine = wrong.0.numbers_are in
+      let theirs = wrong.1.numbers_are in
+      let alike = honest.alike a.place b.place wrong.0.file wrong.1.file wrong.0.file_is wrong.1.file_is (sym x.0 ∙ wrong.2) in
+      let contradiction : false ≡ true = sym alike
+      ∙ ap (λ (p : ℕ). is_other_match (numbers_in rules wrong.0.file) p (numbers_in rules wrong.1.file)) (sym y.0)
+      ∙ ap (λ (n : NumbersValue). is_other_match n b.player.number (numbers_in rules wrong.1.file)) (sym mine)
+      ∙ ap (λ (n : NumbersValue). is_other_match (value_of a.numbers) b.player.number n) (sym theirs)
+      ∙ wrong.4 in
+      absurd cc
   no_mismatch NoPlayerOne wrong =
-      let one : Named = record { place = honest.one; player = record { number = 1; from_one = omega arith; to_four = omega arith }; room = room } in
-      wrong one (record { file = honest.one_file; file_is = honest.one_given; head = one_head_is }) refl
+      let journal = records_of rules.width (kept (first_bytes honest.one_file)) in
+      let one : Named = record {
+        place = honest.one;
+        player = record { number = 1; from_one = omega arith; to_four = omega arith };
+        room = room;
+        numbers = record { epoch = epoch journal; life = life_of journal; met = mets_of journal };
+      } in
+      wrong one (record { file = honest.one_file; file_is = honest.one_given; head = one_head_is; numbers_are = refl }) refl
 
   only_memory_in : (n : ℕ) (file : Twice) (at : slice_get files n ≡ Some file) (why : Unread) → keeps_nothing file ≡ false
       → IsUnread rules (first_bytes file) (later_bytes file) why → why ≡ Journal errors.Memory
@@ -265,7 +292,7 @@ module _ (rules : Rules) (room : ℕ) (files : List Twice) (honest : AreInOrder 
   only_memory_in n file at (Journal error) some (inr again) =
       let order = file_in_order n file at in
       let more : 0 < length (kept (first_bytes file)) = some_kept (kept (first_bytes file)) some in
-      let same = one_head (kept (first_bytes file)) again.0 (honest.owner n) (id_of rules) (id_of rules) again.1 room again.2
+      let same = one_head rules.width (kept (first_bytes file)) again.0 (honest.owner n) (id_of rules) (id_of rules) again.1 room again.2
       (begins_with_head rules (honest.owner n) room (kept (first_bytes file)) order.first more) in
       ap Journal (only_memory rules (honest.owner n) room (Some again.1) (kept (later_bytes file)) error order.later
       (begun_longer (kept (first_bytes file)) (kept (later_bytes file)) order.continues more) same.1 again.3)
@@ -292,22 +319,23 @@ if_cases true t o r is = inl (refl, some_same t r is)
 if_cases false t o r is = inr is
 
 -- the file from which a player's readings are
-record IsFrom (files : List Twice) (p : ℕ) (r : Readings) : Type 0 where
+record IsFrom (width : ℕ) (files : List Twice) (p : ℕ) (r : Readings) : Type 0 where
   place : ℕ
   file : Twice
   at : slice_get files place ≡ Some file
-  named : names_player p (records_of (kept (first_bytes file))) ≡ true
-  same : readings_of (first_bytes file) (later_bytes file) ≡ r
+  named : names_player p (records_of width (kept (first_bytes file))) ≡ true
+  same : readings_of width (first_bytes file) (later_bytes file) ≡ r
 
-is_from : (files : List Twice) (p : ℕ) (r : Readings) → evidence_of files p ≡ Some r → IsFrom files p r
+is_from : (width : ℕ) (files : List Twice) (p : ℕ) (r : Readings) → evidence_of width files p ≡ Some r → IsFrom width files p r
 unfolding evidence_in
-is_from [] p r is = absurd cc
-is_from (f ∷ files) p r is = ⊎_elim
+is_from width [] p r is = absurd cc
+is_from width (f ∷ files) p r is = ⊎_elim
     (λ here. record { place = 0; file = f; at = refl; named = here.0; same = here.1 })
     (λ there.
-    let from = is_from files p r there in
+    let from = is_from width files p r there in
     record { place = suc from.place; file = from.file; at = from.at; named = from.named; same = from.same })
-    (if_cases (names_player p (records_of (kept (first_bytes f)))) (readings_of (first_bytes f) (later_bytes f)) (evidence_of files p) r is)
+    (if_cases (names_player p (records_of width (kept (first_bytes f)))) (readings_of width (first_bytes f) (later_bytes f))
+    (evidence_of width files p) r is)
 
 some_in : (o : Option Readings) (b : Bool) (t : Readings) → b ≡ true → (r : Readings) × (or_else (if_of b t) o ≡ Some r)
 some_in o true t is = (t, refl)
@@ -317,50 +345,51 @@ or_more : (b : Bool) (t r : Readings) (o : Option Readings) → o ≡ Some r →
 or_more true t r o is = (t, refl)
 or_more false t r o is = (r, is)
 
-is_given : (files : List Twice) (n p : ℕ) (file : Twice) → slice_get files n ≡ Some file
-    → names_player p (records_of (kept (first_bytes file))) ≡ true → (r : Readings) × (evidence_of files p ≡ Some r)
+is_given : (width : ℕ) (files : List Twice) (n p : ℕ) (file : Twice) → slice_get files n ≡ Some file
+    → names_player p (records_of width (kept (first_bytes file))) ≡ true → (r : Readings) × (evidence_of width files p ≡ Some r)
 unfolding evidence_in
-is_given [] n p file at named = absurd cc
-is_given (f ∷ files) zero p file at named =
+is_given width [] n p file at named = absurd cc
+is_given width (f ∷ files) zero p file at named =
     let same : f ≡ file = some_same f file at in
-    some_in (evidence_of files p) (names_player p (records_of (kept (first_bytes f)))) (readings_of (first_bytes f) (later_bytes f))
-    (ap (λ (x : Twice). names_player p (records_of (kept (first_bytes x)))) same ∙ named)
-is_given (f ∷ files) (suc n) p file at named =
-    let rest = is_given files n p file at named in
-    or_more (names_player p (records_of (kept (first_bytes f)))) (readings_of (first_bytes f) (later_bytes f)) rest.0 (evidence_of files p) rest.1
+    some_in (evidence_of width files p) (names_player p (records_of width (kept (first_bytes f)))) (readings_of width (first_bytes f) (later_bytes f))
+    (ap (λ (x : Twice). names_player p (records_of width (kept (first_bytes x)))) same ∙ named)
+is_given width (f ∷ files) (suc n) p file at named =
+    let rest = is_given width files n p file at named in
+    or_more (names_player p (records_of width (kept (first_bytes f)))) (readings_of width (first_bytes f) (later_bytes f)) rest.0
+    (evidence_of width files p) rest.1
 
 names_one : (records : List Record) (p q : ℕ) → names_player p records ≡ true → names_player q records ≡ true → p ≡ q
 names_one [] p q one other = absurd cc
 names_one (r ∷ rest) p q one other = sym (eqb-true (player_of r) p one) ∙ eqb-true (player_of r) q other
 
-names_some : (bodies : List (List ℕ)) (p : ℕ) → names_player p (records_of bodies) ≡ true → 0 < length bodies
-names_some [] p named = absurd cc
-names_some (b ∷ bodies) p named = omega arith
+names_some : (width : ℕ) (bodies : List (List ℕ)) (p : ℕ) → names_player p (records_of width bodies) ≡ true → 0 < length bodies
+names_some width [] p named = absurd cc
+names_some width (b ∷ bodies) p named = omega arith
 
 module _ (rules : Rules) (room : ℕ) (files : List Twice) (honest : AreInOrder rules room files) where
-  owner_is : (p : ℕ) (r : Readings) (from : IsFrom files p r) → honest.owner from.place ≡ p
+  owner_is : (p : ℕ) (r : Readings) (from : IsFrom rules.width files p r) → honest.owner from.place ≡ p
   owner_is p r from =
       let order = honest.order from.place from.file from.at in
       let head = begins_with_head rules (honest.owner from.place) room (kept (first_bytes from.file)) order.first
-      (names_some (kept (first_bytes from.file)) p from.named) in
-      names_one (records_of (kept (first_bytes from.file))) (honest.owner from.place) p
-      (head_names (kept (first_bytes from.file)) (honest.owner from.place) (id_of rules) room head) from.named
+      (names_some rules.width (kept (first_bytes from.file)) p from.named) in
+      names_one (records_of rules.width (kept (first_bytes from.file))) (honest.owner from.place) p
+      (head_names rules.width (kept (first_bytes from.file)) (honest.owner from.place) (id_of rules) room head) from.named
 
-  readings_are : (p : ℕ) (r : Readings) (from : IsFrom files p r) → honest.readings from.place from.file from.at ≡ r
+  readings_are : (p : ℕ) (r : Readings) (from : IsFrom rules.width files p r) → honest.readings from.place from.file from.at ≡ r
   readings_are p r from = sym (honest.order from.place from.file from.at).same ∙ from.same
 
-  one_given_is : (r : Readings) × (evidence_of files 1 ≡ Some r)
+  one_given_is : (r : Readings) × (evidence_of rules.width files 1 ≡ Some r)
   one_given_is =
       let order = honest.order honest.one honest.one_file honest.one_given in
       let head = begins_with_head rules (honest.owner honest.one) room (kept (first_bytes honest.one_file)) order.first
       (some_kept (kept (first_bytes honest.one_file)) honest.one_keeps) in
-      is_given files honest.one 1 honest.one_file honest.one_given
-      (subst (λ (p : ℕ). names_player p (records_of (kept (first_bytes honest.one_file))) ≡ true) honest.one_owner
-      (head_names (kept (first_bytes honest.one_file)) (honest.owner honest.one) (id_of rules) room head))
+      is_given rules.width files honest.one 1 honest.one_file honest.one_given
+      (subst (λ (p : ℕ). names_player p (records_of rules.width (kept (first_bytes honest.one_file))) ≡ true) honest.one_owner
+      (head_names rules.width (kept (first_bytes honest.one_file)) (honest.owner honest.one) (id_of rules) room head))
 
 module _ (laws : AreWorldsLawful) (rules : Rules) (room : ℕ) (files : List Twice) (range : AreInRange rules) (few : room < 2 ^ 64)
     (honest : AreHonestFiles rules room files) where
-  file_of : (p : ℕ) (r : Readings) (from : IsFrom files p r) → IsPlayer rules p × WasReadTwice rules room honest.between p r
+  file_of : (p : ℕ) (r : Readings) (from : IsFrom rules.width files p r) → IsPlayer rules p × WasReadTwice rules room honest.between p r
   unfolding ordered
   file_of p r from =
       let is = honest.each from.place from.file from.at in
@@ -371,20 +400,20 @@ module _ (laws : AreWorldsLawful) (rules : Rules) (room : ℕ) (files : List Twi
             (readings_are rules room files order p r from) is.read,
       )
 
-  pub honest_evidence : IsHonest rules room (evidence_of files)
+  pub honest_evidence : IsHonest rules room (evidence_of rules.width files)
   honest_evidence =
       let one = one_given_is rules room files (ordered laws rules room files range few honest) in
       record {
         between = honest.between;
         one = one.0;
         one_given = one.1;
-        players = λ p r is. (file_of p r (is_from files p r is)).0;
-        read = λ p r is. (file_of p r (is_from files p r is)).1;
+        players = λ p r is. (file_of p r (is_from rules.width files p r is)).0;
+        read = λ p r is. (file_of p r (is_from rules.width files p r is)).1;
       }
 
 module _ (laws : AreWorldsLawful) (rules : Rules) (room : ℕ) (files : List Twice) (range : AreInRange rules) (few : room < 2 ^ 64)
     (honest : AreHonestFilesAtAnyMoments rules room files) where
-  copy_of : (p : ℕ) (r : Readings) (from : IsFrom files p r) → WereRead rules room honest.last p r
+  copy_of : (p : ℕ) (r : Readings) (from : IsFrom rules.width files p r) → WereRead rules room honest.last p r
   unfolding copies_ordered
   copy_of p r from =
       let is = honest.each from.place from.file from.at in
@@ -393,14 +422,14 @@ module _ (laws : AreWorldsLawful) (rules : Rules) (room : ℕ) (files : List Twi
       (subst (λ (x : Readings). WereRead rules room honest.last (honest.owner from.place) x)
       (readings_are rules room files order p r from) is.read)
 
-  pub copies_evidence : IsHonestAtAnyMoments rules room (evidence_of files)
+  pub copies_evidence : IsHonestAtAnyMoments rules room (evidence_of rules.width files)
   copies_evidence =
       let one = one_given_is rules room files (copies_ordered laws rules room files range few honest) in
       record {
         last = honest.last;
         one = one.0;
         one_given = one.1;
-        read = λ p r is. copy_of p r (is_from files p r is);
+        read = λ p r is. copy_of p r (is_from rules.width files p r is);
       }
 
 -- ---- the verdicts
@@ -444,9 +473,9 @@ agreed_yes rules all agreed (No fault) is =
 
 pub honest_yes : (laws : AreWorldsLawful) (rules : Rules) (room : ℕ) (files : List Twice) (given : List (Option journals.Journal))
     (verdicts : Verdicts) → AreInRange rules → room < 2 ^ 64 → AreHonestFiles rules room files
-    → AreGathered rules (evidence_of files) given → AreVerdicts rules (all_seen given) verdicts → AreYes verdicts
+    → AreGathered rules (evidence_of rules.width files) given → AreVerdicts rules (all_seen given) verdicts → AreYes verdicts
 honest_yes laws rules room files given verdicts range few honest gathered judged =
-    let e = evidence_of files in
+    let e = evidence_of rules.width files in
     let is = honest_evidence laws rules room files range few honest in
     let same : AreSame (seen_in rules e) (all_seen given) = record { each = λ p from. sym (gathered.gathered.seen_is p from) } in
     let entered : AreEntered (all_seen given) =
@@ -528,10 +557,10 @@ not_opposed rules all never (No own) is fault e = never own.frame own.one.number
 
 pub copies_accuse_nobody : (peers : ArePeersLawful) (laws : AreWorldsLawful) (rules : Rules) (room : ℕ) (files : List Twice)
     (given : List (Option journals.Journal)) (verdicts : Verdicts) → AreInRange rules → room < 2 ^ 64
-    → AreHonestFilesAtAnyMoments rules room files → AreGathered rules (evidence_of files) given
+    → AreHonestFilesAtAnyMoments rules room files → AreGathered rules (evidence_of rules.width files) given
     → AreVerdicts rules (all_seen given) verdicts → AccuseNobody verdicts
 copies_accuse_nobody peers laws rules room files given verdicts range few honest gathered judged =
-    let e = evidence_of files in
+    let e = evidence_of rules.width files in
     let is = copies_evidence laws rules room files range few honest in
     let same : AreSame (seen_in rules e) (all_seen given) = record { each = λ p from. sym (gathered.gathered.seen_is p from) } in
     let checks : AreTrue rules (all_seen given) =

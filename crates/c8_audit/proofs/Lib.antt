@@ -20,6 +20,7 @@ pub mod FileLemmas
 pub mod RosterLemmas
 pub mod SortedLemmas
 pub mod StoryLemmas
+pub mod StrayLemmas
 pub mod HonestFileLemmas
 pub mod AnswerLemmas
 -- What is read of a file is all its bytes, and the journal in them is that of the player and room in its HEAD.

@@ -1,5 +1,5 @@
 -- Which files name which players and rooms.
-use Rattle.std.proofs.Common.{◌≡◌, ℕ, ◌+◌, ◌<◌, ◌≤◌, ◌⊎◌, inl, inr, ⊎_elim, List, length, Bool, true, false, Option, Some, None, refl, sym}
+use Rattle.std.proofs.Common.{◌≡◌, ◌≢◌, ℕ, ◌+◌, ◌<◌, ◌≤◌, ◌⊎◌, inl, inr, ⊎_elim, List, length, Bool, true, false, Option, Some, None, refl, sym}
 use Rattle.std.proofs.Common.{ap, subst, ◌∙◌, arith, if◌then◌else◌, eq-eqb}
 use Rattle.std.specs.Prelude.{◌==◌, unwrap_or, is_some}
 use Rattle.std.specs.List.{slice_get}
@@ -10,22 +10,23 @@ use Rattle.c8_game.specs.Rules.{Rules, id_of}
 use Rattle.c8_known.specs.Journal.{Head}
 use Rattle.c8_log.specs.Slots.{kept}
 use Rattle.c8_record.specs.Body.{record_of}
+use Rattle.c8_record.specs.Numbers.{NumbersValue, value_of}
 use Rattle.c8_record.specs.checked.BodyLaws.{reads_back}
 use Rattle.c8_audit.proofs.ReadingLemmas.{some_same}
 use Rattle.c8_audit.specs.Images.{first_bytes}
-use Rattle.c8_audit.specs.OneMatch.{Names, IsMismatch}
+use Rattle.c8_audit.specs.OneMatch.{Names, IsMismatch, numbers_in, is_other_match}
 use Rattle.c8_audit.specs.Read.{seen, seen_at, named_at, all_named}
-use Rattle.c8_audit.specs.checked.Roster.{IsRoster, named_or, earlier_mismatch, clash_of}
+use Rattle.c8_audit.specs.checked.Roster.{IsRoster, IsStray, AreAlike, named_or, earlier_mismatch, clash_of}
 use Rattle.c8_audit.specs.declared.error.Mismatch.{Mismatch}
-use Rattle.c8_audit.specs.declared.error.Mismatch.TheVariants.{SamePlayer, TwoRooms, NoPlayerOne}
+use Rattle.c8_audit.specs.declared.error.Mismatch.TheVariants.{SamePlayer, TwoRooms, TwoMatches, NoPlayerOne}
 use Rattle.c8_audit.specs.declared.files.Twice.{Twice}
 use Rattle.c8_audit.specs.declared.journal.Journal.{Journal}
 use Rattle.c8_audit.specs.declared.journal.Named.{Named}
 
 -- ---- one file
 
-head_same : (p q : ℕ) (f g : ℕ) (id : List ℕ) (r s : ℕ) → Head p f id r ≡ Head q g id s → (p ≡ q) × (r ≡ s)
-head_same p q f g id r s same = let player : p ≡ q = cc in let room : r ≡ s = cc in (player, room)
+head_same : (p q : ℕ) (f g : ℕ) (id : List ℕ) (r s : ℕ) (l m : ℕ) → Head p f id r l ≡ Head q g id s m → (p ≡ q) × (r ≡ s)
+head_same p q f g id r s l m same = let player : p ≡ q = cc in let room : r ≡ s = cc in (player, room)
 
 -- a file names one player and one room
 pub names_same : (rules : Rules) (files : List Twice) (a b : Named) → Names rules files a → Names rules files b → a.place ≡ b.place
@@ -33,17 +34,24 @@ pub names_same : (rules : Rules) (files : List Twice) (a b : Named) → Names ru
 names_same rules files a b x y at =
     let file : x.file ≡ y.file = some_same x.file y.file (sym x.file_is ∙ ap (slice_get files) at ∙ y.file_is) in
     let body : x.head.0 ≡ y.head.0 = some_same x.head.0 y.head.0
-    (sym x.head.2 ∙ ap (λ (f : Twice). slice_get (kept (first_bytes f)) 0) file ∙ y.head.2) in
-    head_same a.player.number b.player.number x.head.1 y.head.1 (id_of rules) a.room b.room
-    (sym (reads_back x.head.0 (Head a.player.number x.head.1 (id_of rules) a.room) x.head.3) ∙ ap record_of body
-    ∙ reads_back y.head.0 (Head b.player.number y.head.1 (id_of rules) b.room) y.head.3)
+    (sym x.head.3 ∙ ap (λ (f : Twice). slice_get (kept (first_bytes f)) 0) file ∙ y.head.3) in
+    head_same a.player.number b.player.number x.head.1 y.head.1 (id_of rules) a.room b.room x.head.2 y.head.2
+    (sym (reads_back rules.width x.head.0 (Head a.player.number x.head.1 (id_of rules) a.room x.head.2) x.head.4) ∙ ap (record_of rules.width) body
+    ∙ reads_back rules.width y.head.0 (Head b.player.number y.head.1 (id_of rules) b.room y.head.2) y.head.4)
+
+-- and the same lives
+numbers_same : (rules : Rules) (files : List Twice) (a b : Named) → Names rules files a → Names rules files b → a.place ≡ b.place
+    → value_of a.numbers ≡ value_of b.numbers
+numbers_same rules files a b x y at =
+    let file : x.file ≡ y.file = some_same x.file y.file (sym x.file_is ∙ ap (slice_get files) at ∙ y.file_is) in
+    x.numbers_are ∙ ap (numbers_in rules) file ∙ sym y.numbers_are
 
 -- a file without a record names nobody
 pub names_nothing : (rules : Rules) (files : List Twice) (file : Twice) (n : Named) → slice_get files n.place ≡ Some file
     → length (kept (first_bytes file)) ≡ 0 → Names rules files n → ⊥
 names_nothing rules files file n at none x =
     let same : x.file ≡ file = some_same x.file file (sym x.file_is ∙ at) in
-    let some : slice_get (kept (first_bytes file)) 0 ≡ Some x.head.0 = ap (λ (f : Twice). slice_get (kept (first_bytes f)) 0) (sym same) ∙ x.head.2 in
+    let some : slice_get (kept (first_bytes file)) 0 ≡ Some x.head.0 = ap (λ (f : Twice). slice_get (kept (first_bytes f)) 0) (sym same) ∙ x.head.3 in
     let within = slice_get_within (kept (first_bytes file)) 0 x.head.0 some in
     omega (arith, within, none)
 
@@ -239,21 +247,51 @@ module _ (rules : Rules) (files : List Twice) where
       let wrong : None ≡ Some it.0 = sym none ∙ ap (all_named journals) (sym one) ∙ it.1 in
       absurd cc
 
+  -- a journal of another match than player 1's
+  pub stray_is : (journals : List (Option Journal)) (first : Option Named) (mismatch : Option Mismatch)
+      → IsRoster rules files (length files) journals first mismatch → (one : Named) → all_named journals 1 ≡ Some one
+      → (why : Mismatch) → IsStray journals one why → IsMismatch rules files why
+  stray_is journals first mismatch is one at why stray =
+      let seat = is.seats 1 one (omega arith) at in
+      let two = stray.from_two in
+      let other = is.seats stray.p stray.other (omega (arith, two)) stray.at in
+      let number : stray.other.player.number ≡ stray.p = other.2 in
+      let apart : stray.other.player.number ≢ 1 = λ same. omega (arith, two, number, same) in
+      subst (IsMismatch rules files) stray.is (seat.0, other.0, seat.2, apart, stray.differs)
+
   -- if no mismatch was found, there is none
   pub matching : (journals : List (Option Journal)) (first : Option Named) (mismatch : Option Mismatch)
       → IsRoster rules files (length files) journals first mismatch → mismatch ≡ None → (one : Named) → all_named journals 1 ≡ Some one
-      → (why : Mismatch) → IsMismatch rules files why → ⊥
-  matching journals first mismatch is free one at (SamePlayer a b) wrong =
+      → AreAlike journals one → (why : Mismatch) → IsMismatch rules files why → ⊥
+  matching journals first mismatch is free one at alike (SamePlayer a b) wrong =
       let x = is.players free a (place_within a wrong.0) wrong.0 in
       let y = is.players free b (place_within b wrong.1) wrong.1 in
       let same : x.0 ≡ y.0 = some_same x.0 y.0 (sym x.1 ∙ ap (all_named journals) wrong.3 ∙ y.1) in
       let places : a.place ≡ b.place = sym x.2 ∙ ap (λ (n : Named). n.place) same ∙ y.2 in
       let order = wrong.2 in
       omega (arith, places, order)
-  matching journals None mismatch is free one at (TwoRooms a b) wrong = is.nobody refl a (place_within a wrong.0) wrong.0
-  matching journals (Some f) mismatch is free one at (TwoRooms a b) wrong =
+  matching journals None mismatch is free one at alike (TwoRooms a b) wrong = is.nobody refl a (place_within a wrong.0) wrong.0
+  matching journals (Some f) mismatch is free one at alike (TwoRooms a b) wrong =
       wrong.3 (is.rooms free f a refl (place_within a wrong.0) wrong.0 ∙ sym (is.rooms free f b refl (place_within b wrong.1) wrong.1))
-  matching journals first mismatch is free one at NoPlayerOne wrong =
+  matching journals first mismatch is free one at alike (TwoMatches a b) wrong =
+      let x = is.players free a (place_within a wrong.0) wrong.0 in
+      let y = is.players free b (place_within b wrong.1) wrong.1 in
+      let seat = is.seats 1 one (omega arith) at in
+      let other = is.seats b.player.number y.0 b.player.from_one y.1 in
+      let here : x.0 ≡ one = some_same x.0 one (sym x.1 ∙ ap (all_named journals) wrong.2 ∙ at) in
+      let mine : value_of one.numbers ≡ value_of a.numbers =
+      numbers_same rules files one a seat.0 wrong.0 (sym (ap (λ (n : Named). n.place) here) ∙ x.2) in
+      let theirs : value_of y.0.numbers ≡ value_of b.numbers = numbers_same rules files y.0 b other.0 wrong.1 y.2 in
+      let from = b.player.from_one in
+      let apart = wrong.3 in
+      let no = alike b.player.number y.0 (omega (arith, from, apart)) b.player.to_four y.1 in
+      let contradiction : false ≡ true = sym no
+      ∙ ap (λ (n : NumbersValue). is_other_match n y.0.player.number (value_of y.0.numbers)) mine
+      ∙ ap (λ (p : ℕ). is_other_match (value_of a.numbers) p (value_of y.0.numbers)) other.2
+      ∙ ap (λ (n : NumbersValue). is_other_match (value_of a.numbers) b.player.number n) theirs
+      ∙ wrong.4 in
+      absurd cc
+  matching journals first mismatch is free one at alike NoPlayerOne wrong =
       let it = is.seats 1 one (omega arith) at in
       wrong one it.0 it.2
 

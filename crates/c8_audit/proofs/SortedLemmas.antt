@@ -10,6 +10,7 @@ use Rattle.std.proofs.lemmas.Option.{slice_get-map, slice_get_within, get_or_fro
 use Rattle.c8_game.specs.Rules.{Rules, id_of}
 use Rattle.c8_log.specs.Slots.{kept}
 use Rattle.c8_record.specs.Body.{records_of}
+use Rattle.c8_record.specs.Numbers.{value_of}
 use Rattle.c8_record.specs.Replay.{BeginsWithHead}
 use Rattle.c8_audit.proofs.FileLemmas.{gathered_none, gathered_next, gathered_all, nobody_in, one_in, IsPut}
 use Rattle.c8_audit.proofs.RosterLemmas.{names_nothing, roster_skip, roster_next, matching, seen_at_seat}
@@ -17,9 +18,9 @@ use Rattle.c8_audit.proofs.ReadingLemmas.{some_same}
 use Rattle.c8_audit.specs.Gathered.{IsGathered, AreGathered, with_file}
 use Rattle.c8_audit.specs.Images.{first_bytes, later_bytes, evidence_in, readings_of, names_player, IsReadTwice}
 use Rattle.c8_audit.specs.Journals.{seen_of}
-use Rattle.c8_audit.specs.OneMatch.{Names, keeps_nothing, IsSound, AreSoundBelow, AreOneMatch}
+use Rattle.c8_audit.specs.OneMatch.{Names, numbers_in, keeps_nothing, IsSound, AreSoundBelow, AreOneMatch}
 use Rattle.c8_audit.specs.Read.{seen, named_at, all_named}
-use Rattle.c8_audit.specs.checked.Roster.{IsRoster, IsSorted, named_or, earlier_mismatch, clash_of}
+use Rattle.c8_audit.specs.checked.Roster.{IsRoster, IsSorted, AreAlike, named_or, earlier_mismatch, clash_of}
 use Rattle.c8_audit.specs.declared.files.Gathered.{Gathered}
 use Rattle.c8_audit.specs.declared.files.Twice.{Twice}
 use Rattle.c8_audit.specs.declared.journal.Journal.{Journal}
@@ -52,9 +53,10 @@ file_at : (f : Twice → List ℕ) (files : List Twice) (i : ℕ) (file : Twice)
 file_at f files i file at = slice_get-map f files i ∙ ap (option_map f) at
 
 evidence_next : (rules : Rules) (files : List Twice) (place : ℕ) (file : Twice) (journals : List (Option Journal)) → slice_get files place ≡ Some file
-    → IsGathered rules (with_file (evidence_in (take place (map first_bytes files)) (take place (map later_bytes files))) (first_bytes file)
+    → IsGathered rules (with_file rules.width (evidence_in rules.width (take place (map first_bytes files)) (take place (map later_bytes files)))
+    (first_bytes file)
     (later_bytes file)) journals
-    → IsGathered rules (evidence_in (take (place + 1) (map first_bytes files)) (take (place + 1) (map later_bytes files))) journals
+    → IsGathered rules (evidence_in rules.width (take (place + 1) (map first_bytes files)) (take (place + 1) (map later_bytes files))) journals
 evidence_next rules files place file journals at is =
     gathered_next rules (map first_bytes files) (map later_bytes files) place (first_bytes file) (later_bytes file) journals
     (file_at first_bytes files place file at) (file_at later_bytes files place file at)
@@ -71,7 +73,7 @@ sorted_skip rules files place file g empty at none few counts is =
     let at_most : g.empty ≤ place = let so = is.empty in omega (arith, so, count_few files place) in
     record {
       gathered = evidence_next rules files place file g.journals at
-          (nobody_in rules (evidence_in (take place (map first_bytes files)) (take place (map later_bytes files))) (first_bytes file)
+          (nobody_in rules (evidence_in rules.width (take place (map first_bytes files)) (take place (map later_bytes files))) (first_bytes file)
           (later_bytes file) g.journals none is.gathered);
       sound = sound_next rules files place file is.sound at (inl empty_it);
       empty = counts (omega (arith, at_most, within, few)) ∙ ap (λ (n : ℕ). n + 1) is.empty ∙ sym (count_yes files place file at empty_it);
@@ -82,10 +84,11 @@ sorted_skip rules files place file g empty at none few counts is =
 -- a file with a journal
 pub sorted_next : (rules : Rules) (files : List Twice) (place : ℕ) (file : Twice) (g : Gathered) (after : List (Option Journal))
     (j : Journal) → slice_get files place ≡ Some file → length (kept (first_bytes file)) ≢ 0
-    → IsReadTwice rules j.named.room j.first.me (readings_of (first_bytes file) (later_bytes file))
-    → seen j ≡ seen_of rules j.first.me (readings_of (first_bytes file) (later_bytes file))
-    → names_player j.first.me (records_of (kept (first_bytes file))) ≡ true
-    → BeginsWithHead (kept (first_bytes file)) j.named.player.number (id_of rules) j.named.room → j.named.place ≡ place
+    → IsReadTwice rules j.named.room j.first.me (readings_of rules.width (first_bytes file) (later_bytes file))
+    → seen j ≡ seen_of rules j.first.me (readings_of rules.width (first_bytes file) (later_bytes file))
+    → names_player j.first.me (records_of rules.width (kept (first_bytes file))) ≡ true
+    → BeginsWithHead rules.width (kept (first_bytes file)) j.named.player.number (id_of rules) j.named.room
+    → value_of j.named.numbers ≡ numbers_in rules file → j.named.place ≡ place
     → j.named.player.number ≡ j.first.me
     → IsPut g.journals after j → IsSorted rules files place g
     → IsSorted rules files (place + 1)
@@ -95,15 +98,16 @@ pub sorted_next : (rules : Rules) (files : List Twice) (place : ℕ) (file : Twi
       first = Some (unwrap_or g.first j.named);
       mismatch = earlier_mismatch g.mismatch (clash_of g.first (all_named g.journals j.named.player.number) j.named);
     })
-sorted_next rules files place file g after j at some read same names head here mine put is =
+sorted_next rules files place file g after j at some read same names head numbers here mine put is =
     let keeps_it : keeps_nothing file ≡ false =
     ⊎_elim (λ yes_it. absurd (some yes_it.1)) (λ no_it. no_it.0) (eqb_tells (length (kept (first_bytes file))) 0) in
-    let named : Names rules files j.named = record { file = file; file_is = ap (slice_get files) here ∙ at; head = head } in
+    let named : Names rules files j.named =
+    record { file = file; file_is = ap (slice_get files) here ∙ at; head = head; numbers_are = numbers } in
     let before : IsRoster rules files j.named.place g.journals g.first g.mismatch =
     subst (λ (n : ℕ). IsRoster rules files n g.journals g.first g.mismatch) (sym here) is.roster in
     record {
       gathered = evidence_next rules files place file after at
-          (one_in rules (evidence_in (take place (map first_bytes files)) (take place (map later_bytes files))) (first_bytes file)
+          (one_in rules (evidence_in rules.width (take place (map first_bytes files)) (take place (map later_bytes files))) (first_bytes file)
           (later_bytes file) g.journals after j j.named.room is.gathered read same names put.seen);
       sound = sound_next rules files place file is.sound at (inr (j.named.room, j.first.me, read));
       empty = is.empty ∙ sym (count_no files place file at keeps_it);
@@ -140,20 +144,21 @@ sorted_none rules files = record {
 
 module _ (rules : Rules) (files : List Twice) (g : Gathered) (is : IsSorted rules files (length files) g) where
   pub all_gathered : rules.players ≤ 4 → (one : Named) → all_named g.journals 1 ≡ Some one
-      → AreGathered rules (evidence_in (map first_bytes files) (map later_bytes files)) g.journals
+      → AreGathered rules (evidence_in rules.width (map first_bytes files) (map later_bytes files)) g.journals
   all_gathered four one at =
       let firsts : List (List ℕ) = map first_bytes files in
       let laters : List (List ℕ) = map later_bytes files in
       let all : take (length files) firsts ≡ firsts = take_all (length files) firsts (omega (arith, length-map files first_bytes)) in
       let others : take (length files) laters ≡ laters = take_all (length files) laters (omega (arith, length-map files later_bytes)) in
       let here = seen_at_seat (slice_get g.journals 0) one at in
-      gathered_all rules (evidence_in firsts laters) g.journals four
-      (subst (λ (xs : List (List ℕ)). IsGathered rules (evidence_in xs laters) g.journals) all
-      (subst (λ (ys : List (List ℕ)). IsGathered rules (evidence_in (take (length files) firsts) ys) g.journals) others is.gathered))
+      gathered_all rules (evidence_in rules.width firsts laters) g.journals four
+      (subst (λ (xs : List (List ℕ)). IsGathered rules (evidence_in rules.width xs laters) g.journals) all
+      (subst (λ (ys : List (List ℕ)). IsGathered rules (evidence_in rules.width (take (length files) firsts) ys) g.journals) others is.gathered))
       (seen here.0) here.1
 
-  pub all_one_match : g.mismatch ≡ None → (one : Named) → all_named g.journals 1 ≡ Some one → AreOneMatch rules files
-  all_one_match free one at = record { sound = is.sound; matching = matching rules files g.journals g.first g.mismatch is.roster free one at }
+  pub all_one_match : g.mismatch ≡ None → (one : Named) → all_named g.journals 1 ≡ Some one → AreAlike g.journals one → AreOneMatch rules files
+  all_one_match free one at alike =
+      record { sound = is.sound; matching = matching rules files g.journals g.first g.mismatch is.roster free one at alike }
 
   pub all_empty : g.empty ≡ count_by keeps_nothing files
   all_empty = is.empty ∙ ap (count_by keeps_nothing) (take_all (length files) files (omega arith))

@@ -51,10 +51,10 @@ module _ (all other : AllSeen) (same : AreSame all other) where
   agreed_same rules is p r a b a_stays b_stays = is p r a b (stays_same p a a_stays) (stays_same r b b_stays)
 
 pub one_story : (rules : Rules) (files : List Twice) (journals : List (Option Journal)) (verdicts : Verdicts)
-    → AreGathered rules (evidence_of files) journals → AreVerdicts rules (all_seen journals) verdicts → AreYes verdicts
-    → AlwaysTellOneStory rules (evidence_of files)
+    → AreGathered rules (evidence_of rules.width files) journals → AreVerdicts rules (all_seen journals) verdicts → AreYes verdicts
+    → AlwaysTellOneStory rules (evidence_of rules.width files)
 one_story rules files journals verdicts gathered judged three w v of =
-    let e = evidence_of files in
+    let e = evidence_of rules.width files in
     let same : AreSame (all_seen journals) (seen_in rules e) = record { each = gathered.gathered.seen_is } in
     let entered : AreEntered (seen_in rules e) =
     entered_same (all_seen journals) (seen_in rules e) same

@@ -14,8 +14,8 @@ use Rattle.c8_audit.specs.declared.journal.Journal.{Journal}
 use Rattle.c8_audit.specs.declared.error.JournalError.TheVariants as errors
 
 -- the readings with one more file
-abbrev pub with_file : Evidence → List ℕ → List ℕ → Evidence
-with_file e first later p = or_else (e p) (only_in first later p)
+abbrev pub with_file : ℕ → Evidence → List ℕ → List ℕ → Evidence
+with_file width e first later p = or_else (e p) (only_in width first later p)
 
 abbrev pub seen_or : Option Seen → Bool → Seen → Option Seen
 seen_or (Some s) of other = Some s

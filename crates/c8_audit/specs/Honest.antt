@@ -11,7 +11,7 @@ use Rattle.c8_log.specs.Slots.{kept}
 use Rattle.c8_record.specs.Body.{body_of}
 use Rattle.c8_audit.specs.Images.{first_bytes, later_bytes}
 use Rattle.c8_audit.specs.Journals.{Readings, Evidence}
-use Rattle.c8_audit.specs.OneMatch.{keeps_nothing}
+use Rattle.c8_audit.specs.OneMatch.{keeps_nothing, numbers_in, is_other_match}
 use Rattle.c8_audit.specs.declared.files.Twice.{Twice}
 
 -- A player's journal was read twice. The world `between` is a moment of the match between the two readings; any events
@@ -47,8 +47,13 @@ pub record IsFileOf (rules : Rules) (room : ℕ) (between : World) (p : ℕ) (fi
   pub plays : IsPlayer rules p
   pub readings : Readings
   pub read : WasReadTwice rules room between p readings
-  pub first_is : kept (first_bytes file) ≡ map body_of readings.first
-  pub later_is : kept (later_bytes file) ≡ map body_of readings.later
+  pub first_is : kept (first_bytes file) ≡ map (body_of rules.width) readings.first
+  pub later_is : kept (later_bytes file) ≡ map (body_of rules.width) readings.later
+
+-- no file is of another match than player 1's, by what their first readings name
+abbrev pub AreFilesAlike : Rules → List Twice → (ℕ → ℕ) → Type 0
+AreFilesAlike rules files owner = (m n : ℕ) (a b : Twice) → slice_get files m ≡ Some a → slice_get files n ≡ Some b → owner m ≡ 1
+    → is_other_match (numbers_in rules a) (owner n) (numbers_in rules b) ≡ false
 
 -- The files are those of peers of one match, one file a player. Player 1's is among them, and keeps a record.
 pub record AreHonestFiles (rules : Rules) (room : ℕ) (files : List Twice) : Type 0 where
@@ -56,6 +61,7 @@ pub record AreHonestFiles (rules : Rules) (room : ℕ) (files : List Twice) : Ty
   pub owner : ℕ → ℕ
   pub each : (n : ℕ) (file : Twice) → slice_get files n ≡ Some file → IsFileOf rules room between (owner n) file
   pub apart : (m n : ℕ) (a b : Twice) → slice_get files m ≡ Some a → slice_get files n ≡ Some b → owner m ≡ owner n → m ≡ n
+  pub alike : AreFilesAlike rules files owner
   pub one : ℕ
   pub one_file : Twice
   pub one_given : slice_get files one ≡ Some one_file
@@ -109,8 +115,8 @@ pub record AreBeginnings (rules : Rules) (room : ℕ) (e : Evidence) : Type 0 wh
 pub record IsCopyOf (rules : Rules) (room : ℕ) (last : World) (p : ℕ) (file : Twice) : Type 0 where
   pub readings : Readings
   pub read : WereRead rules room last p readings
-  pub first_is : kept (first_bytes file) ≡ map body_of readings.first
-  pub later_is : kept (later_bytes file) ≡ map body_of readings.later
+  pub first_is : kept (first_bytes file) ≡ map (body_of rules.width) readings.first
+  pub later_is : kept (later_bytes file) ≡ map (body_of rules.width) readings.later
 
 -- The files are those of peers of one match, one file a player, each read at its own moments. Player 1's is among them, and
 -- keeps a record.
@@ -119,6 +125,7 @@ pub record AreHonestFilesAtAnyMoments (rules : Rules) (room : ℕ) (files : List
   pub owner : ℕ → ℕ
   pub each : (n : ℕ) (file : Twice) → slice_get files n ≡ Some file → IsCopyOf rules room last (owner n) file
   pub apart : (m n : ℕ) (a b : Twice) → slice_get files m ≡ Some a → slice_get files n ≡ Some b → owner m ≡ owner n → m ≡ n
+  pub alike : AreFilesAlike rules files owner
   pub one : ℕ
   pub one_file : Twice
   pub one_given : slice_get files one ≡ Some one_file

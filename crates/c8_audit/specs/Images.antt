@@ -27,8 +27,8 @@ abbrev pub later_bytes : Twice → List ℕ
 later_bytes file = items_or (first_bytes file) file.later
 
 -- the records that two readings of a file keep
-abbrev pub readings_of : List ℕ → List ℕ → Readings
-readings_of first later = record { first = records_of (kept first); later = records_of (kept later) }
+abbrev pub readings_of : ℕ → List ℕ → List ℕ → Readings
+readings_of width first later = record { first = records_of width (kept first); later = records_of width (kept later) }
 
 -- the first record names the player
 abbrev pub names_player : ℕ → List Record → Bool
@@ -40,22 +40,22 @@ if_of true r = Some r
 if_of false r = None
 
 -- the readings of a file, if its first record names the player
-abbrev pub only_in : List ℕ → List ℕ → Evidence
-only_in first later p = if_of (names_player p (records_of (kept first))) (readings_of first later)
+abbrev pub only_in : ℕ → List ℕ → List ℕ → Evidence
+only_in width first later p = if_of (names_player p (records_of width (kept first))) (readings_of width first later)
 
 abbrev pub or_else : Option Readings → Option Readings → Option Readings
 or_else (Some r) other = Some r
 or_else None other = other
 
 -- for each player the readings of the first file whose first record names that player
-unfoldable pub evidence_in : List (List ℕ) → List (List ℕ) → Evidence
-evidence_in [] laters p = None
-evidence_in (first ∷ firsts) [] p = None
-evidence_in (first ∷ firsts) (later ∷ laters) p = or_else (only_in first later p) (evidence_in firsts laters p)
+unfoldable pub evidence_in : ℕ → List (List ℕ) → List (List ℕ) → Evidence
+evidence_in width [] laters p = None
+evidence_in width (first ∷ firsts) [] p = None
+evidence_in width (first ∷ firsts) (later ∷ laters) p = or_else (only_in width first later p) (evidence_in width firsts laters p)
 
 -- the readings that files keep, by player
-abbrev pub evidence_of : List Twice → Evidence
-evidence_of files = evidence_in (map first_bytes files) (map later_bytes files)
+abbrev pub evidence_of : ℕ → List Twice → Evidence
+evidence_of width files = evidence_in width (map first_bytes files) (map later_bytes files)
 
 -- Both readings are journals of the player in the room, and the second one begins with the first.
 pub record IsReadTwice (rules : Rules) (room p : ℕ) (r : Readings) : Type 0 where
@@ -71,7 +71,7 @@ IsUnreadLater rules room first later (Journal error) = IsRefusalOfJournal rules 
 IsUnreadLater rules room first later Changed = Begins (kept first) (kept later) → ⊥
 
 abbrev pub IsUnreadAgain : Rules → List ℕ → List ℕ → Unread → Type 0
-IsUnreadAgain rules first later why = (player room : ℕ) × BeginsWithHead (kept first) player (id_of rules) room
+IsUnreadAgain rules first later why = (player room : ℕ) × BeginsWithHead rules.width (kept first) player (id_of rules) room
     × IsUnreadLater rules room first later why
 
 -- why a file is at fault: the first reading is refused; or it is not, and the second one is refused, in the room that the

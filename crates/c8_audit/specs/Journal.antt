@@ -23,29 +23,29 @@ IsAnother (Some asked) room = asked ≢ room
 pub record IsJournalOf (rules : Rules) (asked : Option ℕ) (bodies : List (List ℕ)) (known : KnownValue) : Type 0 where
   pub me : ℕ
   pub room : ℕ
-  pub head : BeginsWithHead bodies me (id_of rules) room
+  pub head : BeginsWithHead rules.width bodies me (id_of rules) room
   pub asked_is : IsAsked asked room
   pub journal : AreJournalBodies rules me room bodies
-  pub known_is : known ≡ known_of rules me (records_of bodies)
+  pub known_is : known ≡ known_of rules me (records_of rules.width bodies)
 
 -- such a journal, with the room that the HEAD names and the checkpoints
 pub record IsKept (rules : Rules) (asked : Option ℕ) (bodies : List (List ℕ)) (room : ℕ) (known : KnownValue) (checks : ChecksValue) : Type 0 where
-  pub head : BeginsWithHead bodies known.me (id_of rules) room
+  pub head : BeginsWithHead rules.width bodies known.me (id_of rules) room
   pub asked_is : IsAsked asked room
   pub journal : AreJournalBodies rules known.me room bodies
-  pub known_is : known ≡ known_of rules known.me (records_of bodies)
-  pub checks_is : checks ≡ checks_of (records_of bodies)
+  pub known_is : known ≡ known_of rules known.me (records_of rules.width bodies)
+  pub checks_is : checks ≡ checks_of (records_of rules.width bodies)
 
 -- there is no first body, or it spells no HEAD
-abbrev pub HasNoHead : List (List ℕ) → Type 0
-HasNoHead bodies = (player : ℕ) (id : List ℕ) (room : ℕ) → BeginsWithHead bodies player id room → ⊥
+abbrev pub HasNoHead : ℕ → List (List ℕ) → Type 0
+HasNoHead width bodies = (player : ℕ) (id : List ℕ) (room : ℕ) → BeginsWithHead width bodies player id room → ⊥
 
 -- Why bodies are refused: the first is a HEAD of another game or of another room than the wanted one; or there is no
 -- HEAD; or body n is the first that a journal of the HEAD's player and room may not have there; or memory ran out.
 abbrev pub IsRefusalOfJournal : Rules → Option ℕ → List (List ℕ) → JournalError → Type 0
 IsRefusalOfJournal rules asked bodies WrongGame =
-    (player : ℕ) × (id : List ℕ) × (room : ℕ) × BeginsWithHead bodies player id room × ((id ≢ id_of rules) ⊎ IsAnother asked room)
+    (player : ℕ) × (id : List ℕ) × (room : ℕ) × BeginsWithHead rules.width bodies player id room × ((id ≢ id_of rules) ⊎ IsAnother asked room)
 IsRefusalOfJournal rules asked bodies (BadRecord n why) =
-    ((n ≡ 0) × HasNoHead bodies)
-    ⊎ ((me : ℕ) × (room : ℕ) × BeginsWithHead bodies me (id_of rules) room × IsAsked asked room × IsFirstBad rules me room bodies n)
+    ((n ≡ 0) × HasNoHead rules.width bodies)
+    ⊎ ((me : ℕ) × (room : ℕ) × BeginsWithHead rules.width bodies me (id_of rules) room × IsAsked asked room × IsFirstBad rules me room bodies n)
 IsRefusalOfJournal rules asked bodies Memory = Unit {0}

@@ -18,7 +18,7 @@ use crate::search::PLAYERS_END;
 use c8_digest::{STATE_LENGTH, state_bytes};
 use c8_game::{Game, Player};
 use c8_known::Known;
-use c8_machine::Machine;
+use c8_machine::{Keys, Machine};
 use sha2::{Digest, Sha256};
 
 /// Returns how many frames every undropped player has confirmed, by the first readings: the least of their counts.
@@ -73,7 +73,7 @@ fn machine_after(game: &Game, known: &Known, frames: u32) -> Machine
 {
     let mut machine = Machine::start(game);
     for frame in 0..frames {
-        machine.frame(game, game.joined(&known.row(frame)));
+        machine.frame(game, Keys::from(game.joined(&known.row(frame))));
     }
     machine
 }

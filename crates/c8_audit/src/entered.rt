@@ -12,7 +12,7 @@ ghost use Rattle.c8_audit.specs.Search.{IsFirstFrame};
 ghost use Rattle.c8_audit.specs.declared.fault.Question.TheVariants as questions;
 
 use crate::journal::{Journal, journal_of};
-use c8_game::Player;
+use c8_game::{Input, Player};
 use c8_known::Known;
 
 /// Returns the first frame that the journal of `by` counts as confirmed with an input that `player` did not enter.
@@ -106,22 +106,22 @@ fn was_entered(by: &Known, cut: Option<u32>, own: &Known, player: Player, frame:
         return true;
     }
     match cut {
-        Some(cut) => word == 0 && cut <= frame,
+        Some(cut) => word == Input(0) && cut <= frame,
         None => false,
     }
 }
 
 /// A confirmed input.
-fn input(known: &Known, player: Player, frame: u32) -> u16
+fn input(known: &Known, player: Player, frame: u32) -> Input
     requires plays { Plays known.now player.number }
     requires confirmed { frame < confirmed known.now }
     ensures { input_of (player_in known.now player.number) frame ≡ Some result }
 {
-    known.row(frame).sets[player.place()].0
+    known.row(frame).inputs[player.place()]
 }
 
 /// Returns the input of a player in a frame, if the journal has it.
-fn held(known: &Known, player: Player, frame: u32) -> Option<u16>
+fn held(known: &Known, player: Player, frame: u32) -> Option<Input>
     requires { Plays known.now player.number }
     ensures { result ≡ slice_get (player_in known.now player.number).held frame }
 {

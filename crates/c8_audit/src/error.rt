@@ -33,6 +33,9 @@ pub enum Mismatch {
     /// Two files keep journals of different rooms.
     #[error("journals of two rooms")]
     TwoRooms(Named, Named),
+    /// A file, after that of player 1, keeps a journal of another match.
+    #[error("journals of two matches")]
+    TwoMatches(Named, Named),
     /// No file keeps a journal of player 1.
     #[error("no journal of player 1")]
     NoPlayerOne,
@@ -134,6 +137,9 @@ pub enum Unreadable {
     Journal,
     #[error("a journal that lost records while it was read")]
     Lost,
+    /// A file of something else in the place of a journal.
+    #[error("no journal")]
+    Foreign,
 }
 
 impl AuditFault {
@@ -213,6 +219,13 @@ impl fmt::Display for Sentence<'_> {
                     f,
                     "a journal of room {}, but {file} is of room {}",
                     other.room, one.room
+                )
+            }
+            Mismatch::TwoMatches(one, other) => {
+                let (player, file) = (other.player, name_of(self.files, one.place));
+                write!(
+                    f,
+                    "a journal of another match than {file}: player {player} or player 1 came back without its journal"
                 )
             }
             Mismatch::NoPlayerOne => f.write_str("no journal of player 1 is given"),

@@ -5,9 +5,10 @@ ghost use Rattle.std.specs.List.{slice_get, count_by};
 ghost use Rattle.c8_game.specs.Rules.{Rules};
 ghost use Rattle.c8_audit.specs.Gathered.{AreGathered, IsNotGathered, with_journal};
 ghost use Rattle.c8_audit.specs.Images.{first_bytes, later_bytes, evidence_of, IsUnread};
-ghost use Rattle.c8_audit.specs.OneMatch.{AreOneMatch, IsMismatch, keeps_nothing};
+ghost use Rattle.c8_audit.specs.OneMatch.{AreOneMatch, IsMismatch, keeps_nothing, is_other_match, is_another_life};
 ghost use Rattle.c8_audit.specs.Read.{all_seen, all_named};
-ghost use Rattle.c8_audit.specs.checked.Roster.{IsSorted, named_or, clash_of, earlier_mismatch};
+ghost use Rattle.c8_audit.specs.checked.Roster.{IsSorted, IsStray, AreAlike, named_or, clash_of, earlier_mismatch, strange_to};
+ghost use Rattle.c8_record.specs.Numbers.{value_of};
 
 use crate::error::{GatherError, Mismatch, Unread};
 use crate::journal::{Journal, Named, named_of};
@@ -50,10 +51,11 @@ pub struct Gathered {
 
 /// Reads the journals from the bytes of files. A file without a record is skipped. The first faulty file gives the error
 /// `File`, with its place. If no file is at fault, the error is `Journals` if two journals are of one player or of
-/// different rooms, or if player 1's is missing. It names the first file that does not belong to an earlier one.
+/// different rooms, and names the first file that does not belong to an earlier one; or else if player 1's is missing, or
+/// if one is of another match than player 1's.
 pub fn gather(alloc: Global, game: &Game, files: &[Twice]) -> Result<Gathered, GatherError>
     ensures gathered { IfOk result (λ gathered. AreGathered game.now
-        (evidence_of files.now) gathered.journals) }
+        (evidence_of game.now.width files.now) gathered.journals) }
     ensures one_match { IfOk result (λ gathered. AreOneMatch game.now files.now) }
     ensures empty { IfOk result (λ gathered. gathered.empty ≡ count_by keeps_nothing files.now) }
     ensures refused { IfErr result (λ error. IsNotGathered game.now files.now error) }
@@ -105,14 +107,53 @@ impl Gathered {
         ensures some { IfSome result (λ why. (rules : Rules) (files : List Twice)
             → IsSorted rules files (length files) self.now → IsMismatch rules files why) }
         ensures none { IfNone result ((self.now.mismatch ≡ None)
-            × ((one : Named) × (all_named self.now.journals 1 ≡ Some one))) }
+            × ((one : Named) × (all_named self.now.journals 1 ≡ Some one)
+            × AreAlike self.now.journals one)) }
     {
         match (self.mismatch, named_of(&self.journals, Player::CHAIR)) {
             (Some(why), _) => Some(why),
             (None, None) => Some(Mismatch::NoPlayerOne),
-            (None, Some(_)) => None,
+            (None, Some(one)) => self.stray(one),
         }
     }
+
+    /// Returns the first journal that is of another match than player 1's, if there is one.
+    fn stray(&self, one: Named) -> Option<Mismatch>
+        ensures some { IfSome result (λ why. IsStray self.now.journals one why) }
+        ensures none { IfNone result (AreAlike self.now.journals one) }
+    {
+        let second = strange(one, named_of(&self.journals, Player { number: 2 }));
+        let third = strange(one, named_of(&self.journals, Player { number: 3 }));
+        let fourth = strange(one, named_of(&self.journals, Player { number: 4 }));
+        earlier(second, earlier(third, fourth))
+    }
+}
+
+/// Returns the mismatch of a journal that is of another match than player 1's.
+fn strange(one: Named, other: Option<Named>) -> Option<Mismatch>
+    ensures { result ≡ strange_to one other }
+{
+    match other {
+        Some(named) if is_of_another(one, named) => Some(Mismatch::TwoMatches(one, named)),
+        _ => None,
+    }
+}
+
+/// Returns whether a journal is of another match than player 1's: it names another life of player 1, or player 1's names
+/// another life of its player. One that names no match has no inputs of others, so it may be of any.
+fn is_of_another(one: Named, other: Named) -> bool
+    ensures { result ≡ is_other_match (value_of one.numbers) other.player.number (value_of other.numbers) }
+{
+    let (here, there) = (one.numbers, other.numbers);
+    differs(there.met[Player::CHAIR.place()], here.life)
+        || differs(here.met[other.player.place()], there.life)
+}
+
+/// Returns whether a life is named, and is another one.
+fn differs(named: u64, life: u64) -> bool
+    ensures { result ≡ is_another_life named life }
+{
+    named != 0 && named != life
 }
 
 /// Returns the mismatch that was found first.

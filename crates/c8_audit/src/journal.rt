@@ -6,21 +6,23 @@ ghost use Rattle.c8_audit.specs.Read.{later_of, seen, all_seen, all_named};
 use crate::tallies::Tally;
 use c8_game::Player;
 use c8_known::Known;
-use c8_record::Checks;
+use c8_record::{Checks, Numbers};
 
-/// A file that keeps a journal, and what the journal's HEAD names.
+/// A file that keeps a journal, and what the journal names.
 #[derive(Clone, Copy, Debug, PartialEq, Eq)]
 pub struct Named {
     /// The number of the file, counted from 0.
     pub place: usize,
     pub player: Player,
     pub room: u64,
+    /// The lives that it names, by the first reading.
+    pub numbers: Numbers,
 }
 
 /// A player's journal, by two readings of its file.
 #[derive(Drop)]
 pub struct Journal {
-    /// Its file, player and room.
+    /// Its file, and what it names.
     pub named: Named,
     /// What the first reading makes known.
     pub first: Known,
@@ -54,7 +56,7 @@ pub fn journal_of(journals: &[Option<Journal>], player: Player) -> Option<&Journ
     }
 }
 
-/// Returns the file, the player and the room of a player's journal, if it is given.
+/// Returns the file of a player's journal and what the journal names, if it is given.
 pub(crate) fn named_of(journals: &[Option<Journal>], player: Player) -> Option<Named>
     ensures { result ≡ all_named journals.now player.number }
 {

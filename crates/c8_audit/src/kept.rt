@@ -1,18 +1,20 @@
 //! The journal that an image keeps.
 
-ghost use Rattle.std.specs.Prelude.{◌<◌, IfOk, MatchResult, MatchBool, length};
+ghost use Rattle.std.specs.Prelude.{◌≡◌, ◌<◌, IfOk, MatchResult, MatchBool, length};
 ghost use Rattle.c8_game.specs.Rules.{id_of};
 ghost use Rattle.c8_known.specs.Known.{IsOfGame};
 ghost use Rattle.c8_log.specs.Slots.{kept};
+ghost use Rattle.c8_record.specs.Body.{records_of};
+ghost use Rattle.c8_record.specs.Numbers.{numbers_of, value_of as numbers_in};
 ghost use Rattle.c8_record.specs.Replay.{BeginsWithHead};
 ghost use Rattle.c8_record.specs.Seen.{value_of};
 ghost use Rattle.c8_audit.specs.Journal.{IsAsked, IsAnother, IsKept, IsJournalOf, IsRefusalOfJournal};
 
 use crate::error::{JournalError, Unfit};
-use c8_game::{Game, Player};
+use c8_game::{Game, Player, Width};
 use c8_known::Known;
 use c8_log::{kept_body, kept_len};
-use c8_record::{Checks, Record, ReplayError, replay_bytes, view};
+use c8_record::{Checks, Numbers, Record, ReplayError, replay_bytes, view};
 use std::alloc::Global;
 
 /// The player and the room that the HEAD of a journal names.
@@ -27,6 +29,8 @@ struct Head {
 pub struct KeptJournal {
     /// The room that its HEAD names.
     pub room: u64,
+    /// The numbers that its records name.
+    pub numbers: Numbers,
     /// What it makes known. The player is the one that the HEAD names.
     pub known: Known,
     /// Its checkpoints.
@@ -47,6 +51,7 @@ pub fn known_in(
 {
     let KeptJournal {
         room: _,
+        numbers: _,
         known,
         checks: _,
     } = journal_in(alloc, game, room, image)?;
@@ -67,6 +72,8 @@ pub fn journal_in(
         (value_of journal.checks))
         (IsRefusalOfJournal game.now room (kept image.now)) }
     ensures of_game { IfOk result (λ journal. IsOfGame game.now journal.known.me journal.known) }
+    ensures numbers { IfOk result (λ journal. numbers_in journal.numbers
+        ≡ numbers_of (records_of game.now.width (kept image.now))) }
 {
     let head = head_of(game, room, image)?;
     if head.player.number > game.players() {
@@ -77,12 +84,16 @@ pub fn journal_in(
     };
     let mut checks = Checks::new();
     match replay_bytes(image, game, head.room, &mut known, &mut checks) {
-        Ok(_) => Ok(KeptJournal {
+        Ok(numbers) => Ok(KeptJournal {
             room: head.room,
+            numbers,
             known,
             checks,
         }),
-        Err(ReplayError::BadRecord(n)) => Err(JournalError::BadRecord(n, why_unfit(image, n))),
+        Err(ReplayError::BadRecord(n)) => Err(JournalError::BadRecord(
+            n,
+            why_unfit(image, n, game.width()),
+        )),
         Err(ReplayError::WrongGame) => unreachable!(),
         Err(ReplayError::WrongPlayer) => unreachable!(),
         Err(ReplayError::Disk(_)) => unreachable!(),
@@ -92,14 +103,14 @@ pub fn journal_in(
 /// Reads the HEAD of a journal of the game, and of `room` if that is a number.
 fn head_of(game: &Game, asked: Option<u64>, image: &[u8]) -> Result<Head, JournalError>
     ensures { MatchResult result
-        (λ head. BeginsWithHead (kept image.now) head.player.number (id_of game.now) head.room
+        (λ head. BeginsWithHead game.now.width (kept image.now) head.player.number (id_of game.now) head.room
         × IsAsked asked head.room)
         (IsRefusalOfJournal game.now asked (kept image.now)) }
 {
     if kept_len(image) == 0 {
         return Err(JournalError::BadRecord(0, Unfit::Nothing));
     }
-    let Some(record) = view(kept_body(image, 0)) else {
+    let Some(record) = view(kept_body(image, 0), game.width()) else {
         return Err(JournalError::BadRecord(0, Unfit::NoRecord));
     };
     let Record::Head {
@@ -128,10 +139,10 @@ fn is_another(asked: Option<u64>, room: u64) -> bool
 }
 
 /// Returns why a record after the first is refused.
-fn why_unfit(image: &[u8], n: usize) -> Unfit
+fn why_unfit(image: &[u8], n: usize, width: Width) -> Unfit
     requires { n < length (kept image.now) }
 {
-    match view(kept_body(image, n)) {
+    match view(kept_body(image, n), width) {
         Some(_) => Unfit::Misplaced,
         None => Unfit::NoRecord,
     }

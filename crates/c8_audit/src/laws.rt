@@ -53,9 +53,9 @@ pub fn a_yes_means_agreement()
 /// files keep. It joins what `gather` and `judge` promise to [`a_yes_means_agreement`].
 pub fn a_yes_of_files_means_agreement()
     ensures { (rules : Rules) (files : List Twice) (journals : List (Option Journal)) (verdicts : Verdicts)
-        → AreGathered rules (evidence_of files) journals
+        → AreGathered rules (evidence_of rules.width files) journals
         → AreVerdicts rules (all_seen journals) verdicts → AreYes verdicts
-        → AlwaysTellOneStory rules (evidence_of files) }
+        → AlwaysTellOneStory rules (evidence_of rules.width files) }
 {}
 
 /// Of the three answers to a question exactly one is right: `judge` gives one, and two right ones are of one kind.
@@ -133,7 +133,7 @@ pub fn honest_files_are_never_accused()
         → IsNotGathered rules files error → IsOutOfMemory error }
     ensures yes { (rules : Rules) (room : ℕ) (files : List Twice) (journals : List (Option Journal))
         (verdicts : Verdicts) → AreInRange rules → room < 2 ^ 64 → AreHonestFiles rules room files
-        → AreGathered rules (evidence_of files) journals
+        → AreGathered rules (evidence_of rules.width files) journals
         → AreVerdicts rules (all_seen journals) verdicts → AreYes verdicts }
 {
     worlds_are_lawful();
@@ -150,7 +150,7 @@ pub fn honest_files_are_never_accused_at_any_moments()
         → IsNotGathered rules files error → IsOutOfMemory error }
     ensures nobody { (rules : Rules) (room : ℕ) (files : List Twice) (journals : List (Option Journal))
         (verdicts : Verdicts) → AreInRange rules → room < 2 ^ 64 → AreHonestFilesAtAnyMoments rules room files
-        → AreGathered rules (evidence_of files) journals
+        → AreGathered rules (evidence_of rules.width files) journals
         → AreVerdicts rules (all_seen journals) verdicts → AccuseNobody verdicts }
 {
     worlds_are_lawful();

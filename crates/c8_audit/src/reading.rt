@@ -4,6 +4,8 @@ ghost use Rattle.std.specs.Prelude.{◌≡◌, ◌↔◌, true, IfOk, IfErr};
 ghost use Rattle.c8_known.specs.Growth.{Begins};
 ghost use Rattle.c8_game.specs.Rules.{id_of};
 ghost use Rattle.c8_log.specs.Slots.{kept};
+ghost use Rattle.c8_record.specs.Body.{records_of};
+ghost use Rattle.c8_record.specs.Numbers.{numbers_of, value_of as numbers_in};
 ghost use Rattle.c8_record.specs.Replay.{BeginsWithHead};
 ghost use Rattle.c8_audit.specs.Images.{first_bytes, later_bytes, IsReadTwice, names_player, readings_of, IsUnread, IsUnreadLater};
 ghost use Rattle.c8_audit.specs.Journals.{seen_of};
@@ -29,15 +31,17 @@ pub(crate) fn read_twice(
     file: &Twice,
 ) -> Result<Journal, Unread>
     ensures read { IfOk result (λ journal. IsReadTwice game.now journal.named.room
-        journal.first.me (readings_of (first_bytes file.now) (later_bytes file.now))) }
+        journal.first.me (readings_of game.now.width (first_bytes file.now) (later_bytes file.now))) }
     ensures seen { IfOk result (λ journal. seen journal
         ≡ seen_of game.now journal.first.me
-        (readings_of (first_bytes file.now) (later_bytes file.now))) }
+        (readings_of game.now.width (first_bytes file.now) (later_bytes file.now))) }
     ensures named { IfOk result (λ journal. names_player journal.first.me
-        (readings_of (first_bytes file.now) (later_bytes file.now)).first ≡ true) }
-    ensures head { IfOk result (λ journal. BeginsWithHead (kept (first_bytes file.now))
+        (readings_of game.now.width (first_bytes file.now) (later_bytes file.now)).first ≡ true) }
+    ensures head { IfOk result (λ journal. BeginsWithHead game.now.width (kept (first_bytes file.now))
         journal.named.player.number (id_of game.now) journal.named.room) }
     ensures place { IfOk result (λ journal. journal.named.place ≡ place) }
+    ensures numbers { IfOk result (λ journal. numbers_in journal.named.numbers
+        ≡ numbers_of (records_of game.now.width (kept (first_bytes file.now)))) }
     ensures player { IfOk result (λ journal. journal.named.player.number ≡ journal.first.me) }
     ensures unread { IfErr result
         (λ error. IsUnread game.now (first_bytes file.now) (later_bytes file.now) error) }
@@ -53,6 +57,7 @@ pub(crate) fn read_twice(
     let player = one.known.me();
     let KeptJournal {
         room,
+        numbers,
         known,
         checks,
     } = one;
@@ -60,6 +65,7 @@ pub(crate) fn read_twice(
         place,
         player,
         room,
+        numbers,
     };
     Ok(joined(named, known, checks, later, tally_of(&file.first)))
 }

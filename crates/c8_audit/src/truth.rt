@@ -18,7 +18,7 @@ use c8_digest::{
 };
 use c8_game::{Game, Player};
 use c8_known::Known;
-use c8_machine::Machine;
+use c8_machine::{Keys, Machine};
 
 /// The most marks that a checkpoint keeps.
 const MOST_MARKS: u32 = 16;
@@ -63,7 +63,7 @@ fn is_on_the_way(game: &Game, known: &Known, last: &Checkpoint) -> bool
         if !has_mark(&machine, last, frame) {
             return false;
         }
-        machine.frame(game, game.joined(&known.row(frame)));
+        machine.frame(game, Keys::from(game.joined(&known.row(frame))));
     }
     has_mark(&machine, last, last.frames) && is_same(&machine, &last.machine)
 }

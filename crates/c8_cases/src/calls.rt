@@ -1,8 +1,8 @@
 //! What a peer is asked.
 use crate::look::look;
 use c8_disk::MemDisk;
-use c8_game::{Keys, Player};
-use c8_part_cases::{Answers, keys_in, player_in, unreadable};
+use c8_game::{Input, Player};
+use c8_part_cases::{Answers, input_in, player_in, unreadable};
 use c8_peer::{Check, Heard, Kind, Peer, Refused};
 use c8_wire::LONGEST_DATAGRAM;
 use std::io;
@@ -58,7 +58,7 @@ pub(crate) fn call(
 ) -> io::Result<()> {
     match (verb, words) {
         ("look", readers) => look(peer, readers, out),
-        ("tick", [keys]) => tick(peer, keys_in(keys)?, out),
+        ("tick", [input]) => tick(peer, input_in(input, peer.width())?, out),
         ("leave", [leaver]) => leave(peer, player_in(leaver)?, out),
         ("decide", [leaver]) => decide(peer, player_in(leaver)?, out),
         ("checkpoint", []) => checkpoint(peer, out),
@@ -66,8 +66,8 @@ pub(crate) fn call(
     }
 }
 
-fn tick(peer: &mut Peer<'_, MemDisk>, keys: Keys, out: &mut Answers) -> io::Result<()> {
-    match peer.tick(keys) {
+fn tick(peer: &mut Peer<'_, MemDisk>, input: Input, out: &mut Answers) -> io::Result<()> {
+    match peer.tick(input) {
         Ok(()) => out.tell("ok"),
         Err(error) => out.refuse("tick", error.number(), error.name(), error),
     }

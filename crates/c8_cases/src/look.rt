@@ -1,7 +1,7 @@
 //! What a peer shows of itself.
 use c8_digest::mark;
 use c8_disk::MemDisk;
-use c8_game::{Player, Row};
+use c8_game::{Player, Row, Width};
 use c8_part_cases::{Answers, count_in, player_in, unreadable, write_bytes};
 use c8_peer::Peer;
 use std::fmt::Display;
@@ -114,7 +114,7 @@ fn read_player(
     }
 }
 
-/// Prints the key sets of a confirmed frame, or the best ones of any frame.
+/// Prints the inputs of a confirmed frame, or the best ones of any frame.
 fn read_frame(
     peer: &Peer<'_, MemDisk>,
     name: &str,
@@ -122,18 +122,21 @@ fn read_frame(
     text: &mut Vec<u8>,
 ) -> io::Result<()> {
     if name == "best" {
-        return write_row(text, name, &peer.best_row(frame));
+        return write_row(text, name, &peer.best_row(frame), peer.width());
     }
     let rows = peer.rows();
     if frame >= rows.len() {
         return named(text, name, "none");
     }
-    write_row(text, name, &rows.row(frame))
+    write_row(text, name, &rows.row(frame), peer.width())
 }
 
-fn write_row(text: &mut Vec<u8>, name: &str, row: &Row) -> io::Result<()> {
-    let [one, two, three, four] = row.sets;
-    write!(text, "{name} {one} {two} {three} {four}")
+fn write_row(text: &mut Vec<u8>, name: &str, row: &Row, width: Width) -> io::Result<()> {
+    write!(text, "{name}")?;
+    for input in &row.inputs {
+        write!(text, " {}", input.digits(width))?;
+    }
+    Ok(())
 }
 
 /// Prints how many inputs the journal has of each player, whether they are frozen, whether the player leaves, and where

@@ -133,7 +133,9 @@ fn look(spectator: &Spectator<'_>, words: &[&str], out: &mut Answers) -> io::Res
         ["mark"] => out.spell("mark", &mark(spectator.shown())),
         ["row", frame] => match spectator.rows().get(count_in(frame)? as usize) {
             Some(row) => {
-                let [one, two, three, four] = row.sets;
+                let [one, two, three, four] = row
+                    .inputs
+                    .map(|input| input.digits(spectator.game().width()));
                 out.tell(format_args!("row {one} {two} {three} {four}"))
             }
             None => out.tell("row none"),

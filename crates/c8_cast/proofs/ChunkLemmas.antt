@@ -15,65 +15,66 @@ range_grows rows more from size within =
     ap (take n) (drop-append-le from rows more (omega (arith, within)))
     ∙ take-append-le n (drop from rows) more (omega (arith, within, length-drop from rows))
 
-pub chunks_grow : (players : ℕ) (rows more : List Row) (count : ℕ) → count * chunk_rows ≤ length rows
-    → chunks_of players (rows ++ more) count ≡ chunks_of players rows count
+pub chunks_grow : (width players : ℕ) (rows more : List Row) (count : ℕ) → count * chunk_rows ≤ length rows
+    → chunks_of width players (rows ++ more) count ≡ chunks_of width players rows count
 unfolding chunks_of
-chunks_grow players rows more zero within = refl
-chunks_grow players rows more (suc count) within =
-    let before = chunks_grow players rows more count (omega (arith, within)) in
-    let here : chunk_bytes players (rows ++ more) count ≡ chunk_bytes players rows count =
-    ap (rows_bytes players) (range_grows rows more (count * chunk_rows) chunk_rows (omega (arith, within))) in
+chunks_grow width players rows more zero within = refl
+chunks_grow width players rows more (suc count) within =
+    let before = chunks_grow width players rows more count (omega (arith, within)) in
+    let here : chunk_bytes width players (rows ++ more) count ≡ chunk_bytes width players rows count =
+    ap (rows_bytes width players) (range_grows rows more (count * chunk_rows) chunk_rows (omega (arith, within))) in
     λ i. before i ++ here i ∷ []
 
-pub spells_grow : (players : ℕ) (rows more : List Row) (chunks : List (List ℕ)) → SpellsBeginning players rows chunks
-    → SpellsBeginning players (rows ++ more) chunks
-spells_grow players rows more chunks spells = record {
+pub spells_grow : (width players : ℕ) (rows more : List Row) (chunks : List (List ℕ)) → SpellsBeginning width players rows chunks
+    → SpellsBeginning width players (rows ++ more) chunks
+spells_grow width players rows more chunks spells = record {
   within = omega (arith, spells.within, length-append rows more);
-  chunks_are = spells.chunks_are ∙ sym (chunks_grow players rows more (length chunks) spells.within);
+  chunks_are = spells.chunks_are ∙ sym (chunks_grow width players rows more (length chunks) spells.within);
 }
 
-pub spells_more : (players : ℕ) (rows : List Row) (chunks : List (List ℕ)) → SpellsBeginning players rows chunks
+pub spells_more : (width players : ℕ) (rows : List Row) (chunks : List (List ℕ)) → SpellsBeginning width players rows chunks
     → length chunks * chunk_rows + chunk_rows ≤ length rows
-    → SpellsBeginning players rows (chunks ++ chunk_bytes players rows (length chunks) ∷ [])
+    → SpellsBeginning width players rows (chunks ++ chunk_bytes width players rows (length chunks) ∷ [])
 unfolding chunks_of
-spells_more players rows chunks spells room =
-    let chunk : List ℕ = chunk_bytes players rows (length chunks) in
+spells_more width players rows chunks spells room =
+    let chunk : List ℕ = chunk_bytes width players rows (length chunks) in
     let one_more : length (chunks ++ chunk ∷ []) ≡ suc (length chunks) = length_push chunks chunk ∙ omega arith in
     record {
       within = omega (arith, one_more, room);
-      chunks_are = ap (λ (cs : List (List ℕ)). cs ++ chunk ∷ []) spells.chunks_are ∙ sym (ap (chunks_of players rows) one_more);
+      chunks_are = ap (λ (cs : List (List ℕ)). cs ++ chunk ∷ []) spells.chunks_are ∙ sym (ap (chunks_of width players rows) one_more);
     }
 
 -- ---- what holds for every cast
 
-pub cast_begins : (chunks : List (List ℕ)) (players : ℕ) → chunks ≡ [] → players ≤ 4 → IsCast chunks players [] 0
+pub cast_begins : (chunks : List (List ℕ)) (width players : ℕ) → chunks ≡ [] → players ≤ 4 → IsCast chunks width players [] 0
 unfolding chunks_of
-cast_begins chunks players none few =
-    subst (λ (cs : List (List ℕ)). IsCast cs players [] 0) (sym none) (record {
+cast_begins chunks width players none few =
+    subst (λ (cs : List (List ℕ)). IsCast cs width players [] 0) (sym none) (record {
       spells = record { within = omega arith; chunks_are = refl };
       whole_is = refl;
       most_players = few;
       most_rows = omega arith;
     })
 
-pub cast_grows : (chunks : List (List ℕ)) (players : ℕ) (rows given : List Row) (whole : ℕ) → IsCast chunks players rows whole
-    → length rows ≤ length given → length given ≤ most_frames → IsCast chunks players (rows ++ drop (length rows) given) whole
-cast_grows chunks players rows given whole cast more few =
+pub cast_grows : (chunks : List (List ℕ)) (width players : ℕ) (rows given : List Row) (whole : ℕ) → IsCast chunks width players rows whole
+    → length rows ≤ length given → length given ≤ most_frames → IsCast chunks width players (rows ++ drop (length rows) given) whole
+cast_grows chunks width players rows given whole cast more few =
     let fresh : List Row = drop (length rows) given in
     record {
-      spells = spells_grow players rows fresh chunks cast.spells;
+      spells = spells_grow width players rows fresh chunks cast.spells;
       whole_is = cast.whole_is;
       most_players = cast.most_players;
       most_rows = omega (arith, more, few, length-append rows fresh, length-drop (length rows) given);
     }
 
-pub cast_more : (chunks : List (List ℕ)) (chunk : List ℕ) (players : ℕ) (rows : List Row) (whole : ℕ) → IsCast chunks players rows whole
-    → chunk ≡ chunk_bytes players rows whole → length chunks * chunk_rows + chunk_rows ≤ length rows
-    → IsCast (chunks ++ chunk ∷ []) players rows (whole + 1)
-cast_more chunks chunk players rows whole cast is room =
-    let here : chunk ≡ chunk_bytes players rows (length chunks) = is ∙ ap (chunk_bytes players rows) cast.whole_is in
+pub cast_more : (chunks : List (List ℕ)) (chunk : List ℕ) (width players : ℕ) (rows : List Row) (whole : ℕ) → IsCast chunks width players rows whole
+    → chunk ≡ chunk_bytes width players rows whole → length chunks * chunk_rows + chunk_rows ≤ length rows
+    → IsCast (chunks ++ chunk ∷ []) width players rows (whole + 1)
+cast_more chunks chunk width players rows whole cast is room =
+    let here : chunk ≡ chunk_bytes width players rows (length chunks) = is ∙ ap (chunk_bytes width players rows) cast.whole_is in
     record {
-      spells = subst (λ (c : List ℕ). SpellsBeginning players rows (chunks ++ c ∷ [])) (sym here) (spells_more players rows chunks cast.spells room);
+      spells = subst (λ (c : List ℕ). SpellsBeginning width players rows (chunks ++ c ∷ [])) (sym here)
+          (spells_more width players rows chunks cast.spells room);
       whole_is = omega (arith, cast.whole_is, length_push chunks chunk);
       most_players = cast.most_players;
       most_rows = cast.most_rows;

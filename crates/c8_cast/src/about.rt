@@ -3,7 +3,7 @@
 use crate::error::CastError;
 use crate::folder::Spelled;
 use crate::spelling::CHUNK_ROWS;
-use c8_game::{Game, Player};
+use c8_game::{Game, Player, WireVersion};
 use std::alloc::Global;
 use std::io;
 use std::io::Write;
@@ -51,7 +51,7 @@ impl About {
 
 /// Writes all but the time.
 fn write_match<W: Write>(out: &mut W, game: &Game, room: u64) -> io::Result<()> {
-    let (players, frames) = (game.players(), game.frames());
+    let (players, frames, width) = (game.players(), game.frames(), game.width());
     write!(
         out,
         "{{\"version\":{VERSION},\"room\":\"{room}\",\"players\":{players}"
@@ -63,7 +63,7 @@ fn write_match<W: Write>(out: &mut W, game: &Game, room: u64) -> io::Result<()> 
     write_numbers(out, game)?;
     for number in 1..players + 1 {
         if let Some(player) = Player::new(number) {
-            write!(out, "mask{number} {}\\n", game.mask(player))?;
+            write!(out, "mask{number} {}\\n", game.mask(player).digits(width))?;
         }
     }
     for line in game.program().chunks(LINE_BYTES) {
@@ -81,7 +81,11 @@ fn write_numbers<W: Write>(out: &mut W, game: &Game) -> io::Result<()> {
     write!(
         out,
         "delay {delay}\\nwindow {window}\\nseed {seed}\\nwire {wire}\\n"
-    )
+    )?;
+    match game.wire() {
+        WireVersion::Three => write!(out, "input {}\\n", game.width().bytes),
+        WireVersion::One | WireVersion::Two => Ok(()),
+    }
 }
 
 /// Writes a line of code.

@@ -7,6 +7,6 @@ ghost use Rattle.c8_cast.specs.Cast.{IsGrown, SpellsBeginning};
 /// some rows spell a beginning of all longer lists (`longer`).
 pub fn a_cast_follows_a_list_that_grows()
     ensures grown { (old more new : List Row) → IsGrown old (old ++ more) new → new ≡ old ++ more }
-    ensures longer { (players : ℕ) (rows more : List Row) (chunks : List (List ℕ))
-        → SpellsBeginning players rows chunks → SpellsBeginning players (rows ++ more) chunks }
+    ensures longer { (width players : ℕ) (rows more : List Row) (chunks : List (List ℕ))
+        → SpellsBeginning width players rows chunks → SpellsBeginning width players (rows ++ more) chunks }
 {}

@@ -1,7 +1,7 @@
 -- How the program ends.
 use Rattle.std.specs.Prelude.{ℕ, Result, Ok, Err}
 use Rattle.c8_command.specs.declared.refusal.Part.{Part}
-use Rattle.c8_command.specs.declared.refusal.Part.TheVariants.{Game, Keys, Script, Hex, Wire, Open, Disk, Socket, Secret, Replay, Audit}
+use Rattle.c8_command.specs.declared.refusal.Part.TheVariants.{Game, Keys, Script, Hex, Wire, Open, Disk, Socket, Secret, Replay, Audit, Hand}
 use Rattle.c8_command.specs.declared.status.Status.{Status}
 use Rattle.c8_command.specs.declared.status.Status.TheVariants.{Done, Refused, CommandLine, Failed}
 
@@ -25,6 +25,7 @@ status_of Socket = Failed
 status_of Secret = Refused
 status_of Replay = Refused
 status_of Audit = Refused
+status_of Hand = Refused
 
 -- a command that has something to print is done; otherwise the part of its error decides
 abbrev pub status_of_outcome : {T E : Type 0} → (E → Part) → Result T E → Status

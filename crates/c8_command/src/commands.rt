@@ -16,7 +16,7 @@ pub static RUN: Outline = Outline {
         },
         Argument {
             name: "KEYS",
-            help: "The path of the key lines: one a frame, four hexadecimal digits a player",
+            help: "The path of the key lines: one a frame, four hexadecimal digits a player (2N with a line input N)",
             ..Argument::NEEDED
         },
         Argument::EXPLAIN,

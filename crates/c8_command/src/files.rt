@@ -1,4 +1,4 @@
-//! Files by what they are, whatever their names.
+//! Files, and their names.
 
 use std::fs;
 use std::fs::File;
@@ -10,5 +10,13 @@ pub fn is_same_file<R: Files<File = File>>(rt: &R, one: &str, other: &str) -> bo
     match (fs::metadata(rt, one), fs::metadata(rt, other)) {
         (Ok(one), Ok(other)) => one.dev() == other.dev() && one.ino() == other.ino(),
         _ => false,
+    }
+}
+
+/// The name of a file, without its folders.
+pub fn last_part(path: &str) -> &str {
+    match path.rsplit_once('/') {
+        Some((_, name)) => name,
+        None => path,
     }
 }

@@ -34,6 +34,8 @@ pub enum Part {
     Replay,
     /// The journals of a match, which `audit` compares.
     Audit,
+    /// What another player says of this one.
+    Hand,
 }
 
 impl Part {
@@ -51,6 +53,7 @@ impl Part {
             Part::Secret => "secret",
             Part::Replay => "replay",
             Part::Audit => "audit",
+            Part::Hand => "hand",
         }
     }
 }
@@ -86,7 +89,7 @@ impl Refusal {
         match self.part {
             Part::Disk | Part::Socket => Status::Failed,
             Part::Game | Part::Keys | Part::Script | Part::Hex | Part::Wire => Status::Refused,
-            Part::Open | Part::Secret | Part::Replay | Part::Audit => Status::Refused,
+            Part::Open | Part::Secret | Part::Replay | Part::Audit | Part::Hand => Status::Refused,
         }
     }
 

@@ -2,6 +2,7 @@
 use Rattle.std.specs.Prelude.{ℕ, List, [], ◌∷◌, drop, fold}
 use Rattle.c8_game.specs.Rules.{Rules, joined}
 use Rattle.c8_game.specs.declared.row.Row.{Row}
+use Rattle.c8_machine.specs.Keys.{keys_of}
 use Rattle.c8_machine.specs.State.{State, IsState, state, first_state}
 use Rattle.c8_machine.specs.Serial.{frame_of}
 use Rattle.c8_digest.specs.declared.marks.FrameMark.{FrameMark}
@@ -29,4 +30,4 @@ origin_of c = record { frames = c.frames; machine = state c.machine; marks = mar
 
 -- the machine after rows from an origin: one frame for each row from the origin's number of frames on
 abbrev pub run_since : Rules → Origin → List Row → State
-run_since rules from rows = fold (λ s row. frame_of rules (joined rules row) s) from.machine (drop from.frames rows)
+run_since rules from rows = fold (λ s row. frame_of rules (keys_of (joined rules row)) s) from.machine (drop from.frames rows)

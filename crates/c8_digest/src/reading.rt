@@ -7,8 +7,7 @@ ghost use Rattle.c8_digest.specs.Reading.{place_at, row_at, waits_in, stop_in, s
 ghost use Rattle.c8_digest.specs.checked.Read.{AreRead};
 
 use crate::digest::{STATE_LENGTH, spelled};
-use c8_game::Keys;
-use c8_machine::{Machine, Parts, Stop};
+use c8_machine::{Keys, Machine, Parts, Stop};
 use c8_screen::Screen;
 
 // Where each part begins (`state_bytes`); the memory comes first.

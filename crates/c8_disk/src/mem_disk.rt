@@ -102,6 +102,48 @@ impl MemDisk {
         &self.bytes
     }
 
+    /// Loses all bytes: returns an empty disk, which serves as many calls as a new one, and no failure is
+    /// armed.
+    pub fn wipe(self) -> MemDisk
+        ensures settled { Only (bytes_of result) (images_of result) }
+        ensures value { value_of result ≡ record (value_of self) {
+          bytes = [];
+          first = [];
+          calls = [];
+          left = calls_allowed self;
+          arm = Arm.Off;
+        } }
+    {
+        let MemDisk {
+            mut first,
+            mut bytes,
+            mut calls,
+            room,
+            allowed,
+            budget,
+            asked,
+            arms,
+        } = self;
+        first.clear();
+        bytes.clear();
+        calls.clear();
+        let budget = Budget {
+            calls: allowed,
+            arm: Arm::Off,
+            failures: budget.failures,
+        };
+        MemDisk {
+            first,
+            bytes,
+            calls,
+            room,
+            allowed,
+            budget,
+            asked,
+            arms,
+        }
+    }
+
     /// Crashes: returns a disk with an image that a crash at this moment may leave. It serves as many
     /// calls as a new one, and no failure is armed. Pick 0 is what was last synced, pick 1 is what a
     /// read gives, and any other pick is the seed of a generator that chooses.

@@ -1,14 +1,11 @@
 -- What a handle for C owns, and what it is for.
 use Rattle.std.specs.Prelude.{Bool, true, false, if◌then◌else◌}
-use Rattle.std.specs.Borrow.{Lends, MutBor, Fml}
-use denote.RattleType.{RattleType}
 use Rattle.c8_embed.specs.declared.any.Side.{Side}
 use Rattle.c8_embed.specs.declared.any.Side.TheVariants as sides
 use Rattle.c8_embed.specs.declared.any.Role.{Role}
 use Rattle.c8_embed.specs.declared.any.Role.TheVariants as roles
 use Rattle.c8_embed.specs.declared.endpoint.Endpoint.{Endpoint}
 use Rattle.c8_embed.specs.declared.watch.WatchEndpoint.{WatchEndpoint}
-use Rattle.c8_embed.specs.contracts.any.Side as side
 
 -- the endpoint of a player, or of a watcher
 abbrev pub AnyEndpoint : Type 0
@@ -22,11 +19,3 @@ watches (sides.Watcher w) = true
 abbrev pub role_of : AnyEndpoint → Role
 role_of (sides.Player e) = if e.is_replay then roles.Replay else roles.Player
 role_of (sides.Watcher w) = roles.Watcher
-
--- once the borrow ends, it is a player's: what was last written through the borrow
-abbrev pub LendsPlayer : (P W : RattleType) → MutBor (Side P.Denot W.Denot) → MutBor P.Denot → Fml
-LendsPlayer P W s r = Lends (side.the_row P W) P s r (λ e. sides.Player e)
-
--- the same of a watcher
-abbrev pub LendsWatcher : (P W : RattleType) → MutBor (Side P.Denot W.Denot) → MutBor W.Denot → Fml
-LendsWatcher P W s r = Lends (side.the_row P W) W s r (λ w. sides.Watcher w)

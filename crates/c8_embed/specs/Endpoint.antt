@@ -1,9 +1,10 @@
 -- What the calls of an endpoint do: with a secret it sends and takes sealed packets, without one bare datagrams.
-use Rattle.std.specs.Prelude.{ℕ, ◌≡◌, ◌↔◌, ◌*◌, ◌-◌, ◌^◌, Bool, true, false, IsTrue, List, [], ◌∷◌, ◌++◌, take, Option, None, Some, IsSome, Result}
+use Rattle.std.specs.Prelude.{ℕ, ◌≡◌, ◌↔◌, ◌+◌, ◌-◌, ◌*◌, ◌/◌, ◌^◌, min, Bool, true, false, IsTrue, List, []}
+use Rattle.std.specs.Prelude.{◌∷◌, ◌++◌, take, Option, None, Some, IsSome, Result}
 use Rattle.std.specs.Prelude.{Ok, Err}
 use Rattle.std.specs.List.{All}
 use Rattle.c8_disk.specs.declared.file.FileDisk.{FileDisk}
-use Rattle.c8_known.specs.Journal.{epoch}
+use Rattle.c8_known.specs.Journal.{epoch, life_of}
 use Rattle.c8_wire.specs.checked.Read.{read}
 use Rattle.c8_peer.specs.Asked.{saying_of}
 use Rattle.c8_peer.specs.Peer.{IsAnswered, IsSaid, IsStep}
@@ -50,12 +51,18 @@ pub record IsAsBefore (old new : Endpoint) : Type 0 where
 
 -- ---- a secret
 
--- The sealer of an endpoint that has sealed and taken nothing: the keys of these secrets, the own seat, and the counters of the epoch.
+-- The first counter of an opening: 2^32 for each second since 1970 at which the life began, and for each of its epochs. The upper 4 bytes of
+-- the number of a life are these seconds; in versions 1 and 2 it is 0.
+abbrev pub first_counter : ℕ → ℕ → ℕ
+first_counter life epoch = min ((life / 2 ^ 32 + epoch) * 2 ^ 32) (2 ^ 64 - 2 ^ 32)
+
+-- The sealer of an endpoint that has sealed and taken nothing: the keys of these secrets, the own seat, and the counters of the life and
+-- the epoch.
 pub record IsFirstSealer (endpoint : Endpoint) (secrets : Secrets) (s : SealerValue) : Type 0 where
   pub keys : AreKeysOf secrets endpoint.number s.seal.keys
   pub seat : s.seal.seat.number ≡ endpoint.engine.peer.me
   pub session : s.seal.session ≡ endpoint.number
-  pub next : s.next ≡ epoch endpoint.engine.peer.state.journal * 2 ^ 32
+  pub next : s.next ≡ first_counter (life_of endpoint.engine.peer.state.journal) (epoch endpoint.engine.peer.state.journal)
   pub left : s.left ≡ 2 ^ 32 - 1
   pub taken : s.taken ≡ []
 

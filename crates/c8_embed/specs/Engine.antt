@@ -8,6 +8,7 @@ use Rattle.c8_peer.specs.declared.heard.Heard.{Heard}
 use Rattle.c8_refusals.specs.declared.error.Refused.{Refused}
 use Rattle.c8_wire.specs.declared.error.WireError.{WireError}
 use Rattle.c8_session.specs.Due.{said_in_turn}
+use Rattle.c8_session.specs.Notes.{Notes}
 use Rattle.c8_wire.specs.Packet.{Packet}
 use Rattle.c8_embed.specs.declared.events.Event.{Event}
 use Rattle.c8_embed.specs.declared.lead.Lead.{Lead}
@@ -37,9 +38,9 @@ pub record IsEngine {D : Type 0} (peer : PeerValue D) (steps : StepsValue) (is_t
 abbrev pub HasSpoken : {D : Type 0} → EngineValue D → EngineValue D → Type 0
 HasSpoken old new = new ≡ record old { left = new.left }
 
--- All that a turn says is left. The session's own are whose HELLO is to be answered, and which watchers are shown the rows.
+-- All that a turn says is left. What it notes from turn to turn is the session's own.
 abbrev pub OwesTurn : {D : Type 0} → EngineValue D → Type 0
-OwesTurn e = (greeters : List Bool) × (shown : List Bool) × (e.left ≡ said_in_turn e.peer greeters shown)
+OwesTurn e = (notes : Notes) × (e.left ≡ said_in_turn notes e.peer)
 
 -- ---- looks
 

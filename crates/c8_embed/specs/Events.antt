@@ -12,13 +12,14 @@
 --   of its own session, and no `Dropped`, since its peer records no cut of itself.
 -- - `Restarted`: a delivery of a HELLO or a WELCOME that is taken, if the last one of that player named another epoch. After a HELLO
 --   `Linked` follows, once the link is open again. A WELCOME that comes before it keeps the link open, and then there is no `Linked`.
+-- - `CameBack`, in version 3: the delivery of the first datagram that is refused as one of another life of the player.
 --
 -- A second event of one kind and player takes the place of the first, if that waits still.
 use Rattle.std.specs.Prelude.{ℕ, ◌≡◌, ◌+◌, ◌*◌, ◌-◌, ◌<◌, ◌≤◌, ◌&&◌, min, not, Bool, true, false, slice_index_or, slice_set, replicate}
 use Rattle.std.specs.Prelude.{Option, Some, None}
 use Rattle.c8_embed.specs.declared.events.Event.{Event}
 use Rattle.c8_embed.specs.declared.events.EventKind.{EventKind}
-use Rattle.c8_embed.specs.declared.events.EventKind.TheVariants.{Linked, Interrupted, Resumed, Dropped, Desynced, Ended, Restarted}
+use Rattle.c8_embed.specs.declared.events.EventKind.TheVariants.{Linked, Interrupted, Resumed, Dropped, Desynced, Ended, Restarted, CameBack}
 use Rattle.c8_embed.specs.declared.events.Events.{Events}
 use Rattle.c8_embed.specs.declared.events.Shown.{Shown}
 use Rattle.c8_embed.specs.declared.events.Waiting.{Waiting}
@@ -33,6 +34,7 @@ number_of Dropped = 3
 number_of Desynced = 4
 number_of Ended = 5
 number_of Restarted = 6
+number_of CameBack = 7
 
 -- the place of a kind and a player; player 0 stands for the session itself
 abbrev pub place_of : EventKind → ℕ → ℕ
@@ -80,6 +82,7 @@ news Dropped before after = new_of before.cut after.cut
 news Desynced before after = None
 news Ended before after = None
 news Restarted before after = None
+news CameBack before after = once (after.has_come_back && not before.has_come_back)
 
 abbrev pub noted_news : EventKind → ℕ → Shown → Shown → Events → Events
 noted_news kind player before after e = noted_if kind player (news kind before after) e
@@ -87,14 +90,15 @@ noted_news kind player before after e = noted_if kind player (news kind before a
 -- the events after a look at a player
 abbrev pub compared : ℕ → Shown → Shown → Events → Events
 compared player before after e =
-    noted_news Resumed player before after
-    (noted_news Interrupted player before after (noted_news Linked player before after (noted_news Dropped player before after e)))
+    noted_news CameBack player before after
+    (noted_news Resumed player before after
+    (noted_news Interrupted player before after (noted_news Linked player before after (noted_news Dropped player before after e))))
 
 -- ---- what is taken
 
 -- no event waits
 pub record AreTold (e : Events) : Type 0 where
-  pub none : e.waiting ≡ replicate 28 None
+  pub none : e.waiting ≡ replicate 32 None
   pub first : e.next ≡ 0
 
 -- the oldest of the events that wait at the first places, and its place
@@ -110,7 +114,7 @@ FoundBelow e end (Some found) = IsOldestBelow e end found.0 found.1
 
 -- the oldest event is taken, and waits no more; or there is none
 abbrev pub HasTaken : Events → Option Event → Events → Type 0
-HasTaken old None new = ((p : ℕ) → p < 28 → waiting_at old p ≡ None) × (new ≡ old)
+HasTaken old None new = ((p : ℕ) → p < 32 → waiting_at old p ≡ None) × (new ≡ old)
 HasTaken old (Some event) new =
-    (place : ℕ) × (w : Waiting) × IsOldestBelow old 28 place w × (event ≡ w.event)
+    (place : ℕ) × (w : Waiting) × IsOldestBelow old 32 place w × (event ≡ w.event)
     × (new ≡ record old { waiting = slice_set old.waiting place None })

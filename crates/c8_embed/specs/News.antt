@@ -3,6 +3,7 @@ use Rattle.std.specs.Prelude.{ℕ, ◌≡◌, ◌==◌, ◌-◌, ◌&&◌, ◌||
 use Rattle.std.specs.Prelude.{Option, Some, None}
 use Rattle.std.specs.Prelude.{Result, Ok, Err, if◌then◌else◌}
 use Rattle.c8_hand.specs.Links.{link_to}
+use Rattle.c8_hand.specs.Lives.{life_of}
 use Rattle.c8_known.specs.Known.{player_in, is_frozen_in}
 use Rattle.c8_known.specs.Confirmed.{confirmed}
 use Rattle.c8_wire.specs.declared.error.WireError.{WireError}
@@ -30,9 +31,10 @@ pub record IsShown {D : Type 0} (peer : PeerValue D) (player : ℕ) (s : Shown) 
   pub gone : s.is_gone ≡ is_frozen_in (known_by peer) player
   pub cut : s.cut ≡ (player_in (known_by peer) player).cut
   pub silent : s.is_silent ≡ true → (s.is_linked ≡ true) × (s.is_gone ≡ false)
+  pub came_back : s.has_come_back ≡ not ((life_of peer.state.memory.links.lives player).other == 0)
 
 abbrev pub nothing_shown : Shown
-nothing_shown = record { is_linked = false; is_silent = false; is_gone = false; cut = None }
+nothing_shown = record { is_linked = false; is_silent = false; is_gone = false; cut = None; has_come_back = false }
 
 -- before the first look
 pub record AreNoNews (n : News) : Type 0 where
@@ -86,6 +88,8 @@ mark_in from (packets.Frozen f) = None
 mark_in from (packets.Cut c) = None
 mark_in from (packets.Show shown) = None
 mark_in from (packets.Seen ack) = None
+mark_in from (packets.Pass pass) = None
+mark_in from (packets.Refused word) = None
 
 -- whose mark a packet carries, and of which frame
 abbrev pub mark_of : Packet → Option Alarm
@@ -149,6 +153,8 @@ greeting head (packets.Frozen f) = None
 greeting head (packets.Cut c) = None
 greeting head (packets.Show shown) = None
 greeting head (packets.Seen ack) = None
+greeting head (packets.Pass pass) = None
+greeting head (packets.Refused word) = None
 
 abbrev pub greeting_of : Packet → Option Greeting
 greeting_of p = greeting p.head p.message

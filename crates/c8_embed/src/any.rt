@@ -1,7 +1,6 @@
 //! What a handle for C owns.
 ghost use Rattle.std.specs.Prelude.{◌≡◌, ◌≢◌, true, false};
-ghost use Rattle.std.specs.Borrow.{sem};
-ghost use Rattle.c8_embed.specs.Any.{role_of, watches, LendsPlayer, LendsWatcher};
+ghost use Rattle.c8_embed.specs.Any.{role_of, watches};
 ghost use Rattle.c8_embed.specs.declared.any.Side.TheVariants as sides;
 ghost use Rattle.c8_embed.specs.declared.any.Role.TheVariants as roles;
 
@@ -28,32 +27,6 @@ pub enum Role {
     Replay,
     /// It watches.
     Watcher,
-}
-
-impl<P, W> Side<P, W> {
-    /// Lends what a player has.
-    pub fn player(&mut self) -> &mut P
-        requires { watches self.old ≡ false }
-        ensures* writes_back { sem 𝓛 (LendsPlayer P.row W.row self.entry result) }
-        ensures value { self.old ≡ sides.Player result.now }
-    {
-        match self {
-            Side::Player(player) => player,
-            Side::Watcher(_) => unreachable!(),
-        }
-    }
-
-    /// Lends what a watcher has.
-    pub fn watcher(&mut self) -> &mut W
-        requires { watches self.old ≡ true }
-        ensures* writes_back { sem 𝓛 (LendsWatcher P.row W.row self.entry result) }
-        ensures value { self.old ≡ sides.Watcher result.now }
-    {
-        match self {
-            Side::Watcher(watcher) => watcher,
-            Side::Player(_) => unreachable!(),
-        }
-    }
 }
 
 /// Returns what an endpoint is for.

@@ -61,7 +61,7 @@ impl Endpoint {
         }
     }
 
-    /// From now on this endpoint sends and takes sealed packets, with the keys of these secrets and the counters of its
+    /// From now on this endpoint sends and takes sealed packets, with the keys of these secrets and the counters of its life and
     /// epoch. A second time, or at an endpoint with a secret, it changes nothing and returns false: the counters would be
     /// used twice.
     pub fn seal_with(&mut self, secrets: &Secrets) -> bool
@@ -75,7 +75,8 @@ impl Endpoint {
             seat: Seat::from(self.engine.peer().me()),
             session: self.number,
         };
-        let counters = Counters::of_epoch(self.engine.peer().epoch());
+        let peer = self.engine.peer();
+        let counters = Counters::of_epoch(peer.life(), peer.epoch());
         self.sealer = Some(Sealer::new(seal, counters));
         true
     }

@@ -1,10 +1,13 @@
 //! One peer inside an engine: its calls, its turns, and the rows that it gives to the engine.
 ghost use Rattle.std.specs.Prelude.{ℕ, ◌≡◌, ◌≤◌, ◌+◌, ◌∷◌, [], IfOk, IfErr, IfSome, None, true, take, length};
 ghost use Rattle.c8_wire.specs.checked.Read.{read};
+ghost use Rattle.c8_wire.specs.Format.{has_lives};
 ghost use Rattle.c8_peer.specs.Opened.{IsOpened, IsRefusedOpening};
+ghost use Rattle.c8_peer.specs.Opening.{MayDraw};
 ghost use Rattle.c8_peer.specs.Peer.{IsAnswered, IsSaid, known_by};
 ghost use Rattle.c8_peer.specs.State.{Call, Tick, Deliver, Leave, Decide, Checkpoint, Ticked, Delivered, Left, Decided, Checked};
 ghost use Rattle.c8_session.specs.Due.{left_to_say, said_in_turn, places_of_turn};
+ghost use Rattle.c8_session.specs.Notes.{notes_of};
 ghost use Rattle.c8_session.specs.Runs.{IsStopped};
 ghost use Rattle.c8_session.specs.Turns.{HasTurned, IsSayingTo};
 ghost use Rattle.c8_embed.specs.Engine.{HasLookedAt, HasHeardAt, HasToldAt, HasSpoken, OwesTurn, is_dropped};
@@ -16,15 +19,15 @@ use crate::events::Event;
 use crate::laws::what_was_given_stays;
 use crate::lead::Lead;
 use crate::news::News;
-use crate::patience::{Clock, End, Opening, Patience};
+use crate::patience::{Clock, Opening, Patience};
 use crate::steps::{Stepped, Steps};
 use c8_disk::{Disk, DiskError};
-use c8_game::{Game, Keys, Player};
+use c8_game::{Game, Input, Player};
 use c8_peer::laws::deliveries_are_calls;
 use c8_peer::{
-    Check, CheckError, DecideError, Heard, LeaveError, OpenError, Peer, Refused, TickError,
+    Check, CheckError, DecideError, Heard, LeaveError, OpenError, Peer, Refused, Signs, TickError,
 };
-use c8_session::Session;
+use c8_session::{Session, SessionEnd};
 use c8_session::laws::peers_run_on;
 use c8_wire::{LONGEST_DATAGRAM, Seat, Watcher};
 use std::alloc::Global;
@@ -45,7 +48,6 @@ pub struct Engine<'g, D: Disk> {
     patience: Patience,
     clock: Clock,
     opening: Opening,
-    end: End,
 }
 
 impl<'g, D: Disk> Model for Engine<'g, D> {
@@ -70,23 +72,26 @@ impl<'g, D: Disk> fmt::Debug for Engine<'g, D> {
 impl<'g, D: Disk> Engine<'g, D> {
     /// Opens the peer of player `me`, as [`Peer::open`] does. The engine has no rows yet. With `patience` player 1
     /// drops a player after that many silent turns. Once `interval` frames were confirmed since the last checkpoint,
-    /// the turns record the next one; with 0 they record none.
+    /// the turns record the next one; with 0 they record none. `drawn` is the number of a new life, if the journal is empty and the
+    /// game of version 3: one that no other life of the player has or had.
     pub fn open(
         alloc: Global,
         disk: D,
         game: &'g Game,
         me: Player,
         room: u64,
+        drawn: u64,
         patience: Option<u64>,
         interval: u32,
     ) -> Result<Engine<'g, D>, (OpenError, D)>
+        requires drawn { MayDraw game.entry.now drawn }
         ensures opened { IfOk result (λ engine.
-            IsOpened D.Disk disk game.entry.now room me.number engine.peer
+            IsOpened D.Disk disk game.entry.now room me.number drawn engine.peer
             × (engine.steps.given ≡ []) × (engine.depth ≡ 0)) }
         ensures news { IfOk result (λ engine. AreNoNews engine.news) }
         ensures lead { IfOk result (λ engine. IsNewLead game.entry.now.window engine.lead) }
         ensures refused { IfErr result (λ refusal.
-            IsRefusedOpening D.Disk disk game.entry.now room me.number refusal.0 refusal.1) }
+            IsRefusedOpening D.Disk disk game.entry.now room me.number drawn refusal.0 refusal.1) }
     {
         if me.number > game.players() {
             return Err((OpenError::WrongPlayer, disk));
@@ -95,7 +100,7 @@ impl<'g, D: Disk> Engine<'g, D> {
         let Ok(steps) = Steps::new(alloc, game.frames() + u32::from(game.window())) else {
             return Err((OpenError::Memory, disk));
         };
-        let peer = Peer::open(alloc, disk, game, me, room)?;
+        let peer = Peer::open(alloc, disk, game, me, room, drawn)?;
         let opening = Opening::new(&peer, game.delay());
         let mut session = Session::new(peer, game, None, interval);
         session.begin();
@@ -112,7 +117,6 @@ impl<'g, D: Disk> Engine<'g, D> {
             },
             clock: Clock::new(),
             opening,
-            end: End::new(),
         })
     }
 
@@ -134,16 +138,32 @@ impl<'g, D: Disk> Engine<'g, D> {
         self.session.silent(player)
     }
 
-    /// Returns whether the match is over for this peer: it knows that it was dropped, or everything has been
-    /// confirmed and acknowledged for more than 120 turns; for more than 1,200 at player 1 once it has dropped a player, if
-    /// `end_at` has named no end.
+    /// Returns whether the match is over for this player.
     pub fn is_over(&self) -> bool {
-        is_over(&self.session, &self.end)
+        is_over(&self.session)
     }
 
-    /// Enters the own player's next key set, as [`Peer::tick`] does.
-    pub fn tick(&mut self, keys: Keys) -> Result<(), TickError>
-        ensures answered { IsAnswered D.Disk self.old.peer (Tick keys.0) (Ticked result) self.new.peer }
+    /// Returns why the match is over for this player, if it is.
+    pub fn why_over(&self) -> Option<SessionEnd> {
+        self.session.why_over()
+    }
+
+    /// Returns what a DATA of version 3 tells of the session now. The turns say it by themselves.
+    pub fn signs(&self) -> Signs {
+        self.session.signs()
+    }
+
+    /// Leaves the match, as [`Session::bye`] does: the next turns say so. Returns whether they do, as in version 3.
+    pub fn bye(&mut self) -> bool
+        ensures spoken { HasSpoken self.old self.new }
+        ensures says { result ≡ has_lives self.old.peer.rules.wire }
+    {
+        self.session.bye()
+    }
+
+    /// Enters the own player's next input, as [`Peer::tick`] does.
+    pub fn tick(&mut self, input: Input) -> Result<(), TickError>
+        ensures answered { IsAnswered D.Disk self.old.peer (Tick input) (Ticked result) self.new.peer }
         ensures steps { self.new.steps ≡ self.old.steps }
         ensures depth { self.new.depth ≡ self.old.depth }
         ensures lead { self.new.lead ≡ self.old.lead }
@@ -153,9 +173,8 @@ impl<'g, D: Disk> Engine<'g, D> {
         what_was_given_stays::<D>();
         self.session.is_sound();
         self.is_told = false;
-        let answer = self.session.tick(keys);
-        self.news
-            .look(&self.session, is_over(&self.session, &self.end));
+        let answer = self.session.tick(input);
+        self.news.look(&self.session, is_over(&self.session));
         answer
     }
 
@@ -174,8 +193,7 @@ impl<'g, D: Disk> Engine<'g, D> {
         self.is_told = false;
         let answer = self.session.deliver(bytes);
         self.clock.note(&self.session);
-        self.news
-            .look(&self.session, is_over(&self.session, &self.end));
+        self.news.look(&self.session, is_over(&self.session));
         self.news.hear(bytes, answer);
         answer
     }
@@ -193,8 +211,7 @@ impl<'g, D: Disk> Engine<'g, D> {
         self.session.is_sound();
         self.is_told = false;
         let answer = self.session.leave(leaver);
-        self.news
-            .look(&self.session, is_over(&self.session, &self.end));
+        self.news.look(&self.session, is_over(&self.session));
         answer
     }
 
@@ -211,8 +228,7 @@ impl<'g, D: Disk> Engine<'g, D> {
         self.session.is_sound();
         self.is_told = false;
         let answer = self.session.decide(leaver);
-        self.news
-            .look(&self.session, is_over(&self.session, &self.end));
+        self.news.look(&self.session, is_over(&self.session));
         answer
     }
 
@@ -229,8 +245,7 @@ impl<'g, D: Disk> Engine<'g, D> {
         self.session.is_sound();
         self.is_told = false;
         let answer = self.session.checkpoint();
-        self.news
-            .look(&self.session, is_over(&self.session, &self.end));
+        self.news.look(&self.session, is_over(&self.session));
         answer
     }
 
@@ -259,8 +274,7 @@ impl<'g, D: Disk> Engine<'g, D> {
             &self.opening,
             &self.clock,
         );
-        self.news
-            .look(&self.session, is_over(&self.session, &self.end));
+        self.news.look(&self.session, is_over(&self.session));
         answer
     }
 
@@ -296,7 +310,6 @@ impl<'g, D: Disk> Engine<'g, D> {
         ensures { HasSpoken self.old self.new }
     {
         if self.session.end() {
-            self.end.rest(self.session.peer());
             self.session.begin();
             self.opening.turn();
         }
@@ -311,8 +324,7 @@ impl<'g, D: Disk> Engine<'g, D> {
         ensures left { self.new.left ≡ self.old.left }
         ensures told { HasToldAt self.new.peer self.old.news result self.new.news }
     {
-        self.news
-            .look(&self.session, is_over(&self.session, &self.end));
+        self.news.look(&self.session, is_over(&self.session));
         self.news.tell()
     }
 
@@ -343,12 +355,12 @@ impl<'g, D: Disk> Engine<'g, D> {
         self.clock.tell(milliseconds);
     }
 
-    /// The match ends after this many frames, as the engine's machine says: once they are confirmed and acknowledged, the
-    /// session is over after 120 turns.
+    /// The match ends after this many frames, as the engine's machine says, or with the game if that has no more. From then on the
+    /// session is over by the rule of the last frame.
     pub fn end_at(&mut self, frames: u32)
-        ensures { self.new ≡ self.old }
+        ensures { HasSpoken self.old self.new }
     {
-        self.end.set(frames);
+        self.session.end_at(frames);
     }
 
     /// Starts a test of the engine's machine: from now on each step rolls back `depth` frames, unless they are
@@ -411,15 +423,15 @@ fn make_turn<D: Disk>(
     ensures turned { HasTurned D.Disk session.old.peer session.new.peer }
     ensures stopped { IfErr result (IsStopped D.Disk session.old.peer session.new.peer) }
     ensures due { IfOk result (λ done. left_to_say session.new
-        ≡ said_in_turn session.new.peer session.new.schedule.greeters session.new.is_shown) }
+        ≡ said_in_turn (notes_of session.new) session.new.peer) }
 {
     patience.give_up(session, opening, clock);
     session.turn()
 }
 
-/// Returns whether a session is over, by its own rule or by the end that the engine's machine has set.
-fn is_over<D: Disk>(session: &Session<'_, D>, end: &End) -> bool
+/// Returns whether a session is over.
+fn is_over<D: Disk>(session: &Session<'_, D>) -> bool
     ensures { is_dropped session.now.peer ≡ true → result ≡ true }
 {
-    session.is_over() || end.has_rested()
+    session.is_over()
 }

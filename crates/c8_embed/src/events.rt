@@ -5,7 +5,7 @@ ghost use Rattle.c8_embed.specs.Events.{number_of, once, new_of, noted, noted_if
 use c8_game::MOST_PLAYERS;
 
 /// How many kinds of events there are.
-const KINDS: usize = 7;
+const KINDS: usize = 8;
 
 /// How many events can wait: one of each kind and player.
 pub const MOST_EVENTS: usize = KINDS * MOST_PLAYERS;
@@ -27,6 +27,8 @@ pub enum EventKind {
     Ended,
     /// A player has started again.
     Restarted,
+    /// A player has come back without its journal: a life of it was refused that is not the one of this match.
+    CameBack,
 }
 
 /// An event of a session.
@@ -65,6 +67,8 @@ pub struct Shown {
     pub is_gone: bool,
     /// From which frame on its inputs are empty, once that is known.
     pub cut: Option<u32>,
+    /// Another life of it was refused here.
+    pub has_come_back: bool,
 }
 
 impl EventKind {
@@ -81,6 +85,7 @@ impl EventKind {
             EventKind::Desynced => 4,
             EventKind::Ended => 5,
             EventKind::Restarted => 6,
+            EventKind::CameBack => 7,
         }
     }
 
@@ -93,6 +98,7 @@ impl EventKind {
             EventKind::Interrupted => once(after.is_silent && !before.is_silent),
             EventKind::Resumed => once(before.is_silent && !after.is_silent && !after.is_gone),
             EventKind::Dropped => new_of(before.cut, after.cut),
+            EventKind::CameBack => once(after.has_come_back && !before.has_come_back),
             EventKind::Desynced | EventKind::Ended | EventKind::Restarted => None,
         }
     }
@@ -167,6 +173,8 @@ impl Events {
         self.note_if(EventKind::Interrupted, player, interrupted);
         let resumed = EventKind::Resumed.news(before, after);
         self.note_if(EventKind::Resumed, player, resumed);
+        let came_back = EventKind::CameBack.news(before, after);
+        self.note_if(EventKind::CameBack, player, came_back);
     }
 
     /// Takes the oldest event that waits.
@@ -180,7 +188,7 @@ impl Events {
 
     /// Returns the oldest event that waits, and its place.
     fn oldest(&self) -> Option<(usize, Waiting)>
-        ensures { FoundBelow self.now 28 result }
+        ensures { FoundBelow self.now 32 result }
     {
         let mut found = None;
         for place in 0..MOST_EVENTS {

@@ -5,7 +5,7 @@ ghost use Rattle.c8_embed.specs.Head.{NamesHead, NamesNone};
 
 use crate::medium::Medium;
 use c8_disk::{Disk, FileDisk};
-use c8_game::Player;
+use c8_game::{Player, Width};
 use c8_log::{kept_body, kept_len};
 use c8_record::{Record, view};
 
@@ -35,7 +35,7 @@ fn head_in(bytes: &[u8]) -> Option<Head>
     if kept_len(bytes) == 0 {
         return None;
     }
-    let Some(record) = view(kept_body(bytes, 0)) else {
+    let Some(record) = view(kept_body(bytes, 0), Width::DEFAULT) else {
         return None;
     };
     let Record::Head { player, room, .. } = record else {

@@ -50,6 +50,7 @@ impl News {
             is_silent: false,
             is_gone: false,
             cut: None,
+            has_come_back: false,
         };
         News {
             events: Events::new(),
@@ -154,6 +155,7 @@ fn look_at<D: Disk>(session: &Session<'_, D>, player: Player) -> Shown
         is_silent: is_linked && !is_gone && session.silent(player) >= TURNS_OF_SECOND,
         is_gone,
         cut: peer.cut_of(player),
+        has_come_back: peer.other(player) != 0,
     }
 }
 
@@ -242,7 +244,9 @@ fn greeting_of(datagram: &Datagram<'_>) -> Option<Greeting>
         | Datagram::Frozen(_)
         | Datagram::Cut(_)
         | Datagram::Show(_)
-        | Datagram::Seen(_) => None,
+        | Datagram::Seen(_)
+        | Datagram::Pass(_)
+        | Datagram::Refused(_) => None,
     }
 }
 
@@ -289,6 +293,8 @@ fn mark_of(datagram: &Datagram<'_>) -> Option<Alarm>
         | Datagram::Frozen(_)
         | Datagram::Cut(_)
         | Datagram::Show(_)
-        | Datagram::Seen(_) => None,
+        | Datagram::Seen(_)
+        | Datagram::Pass(_)
+        | Datagram::Refused(_) => None,
     }
 }

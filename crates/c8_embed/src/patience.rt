@@ -1,14 +1,10 @@
-//! When player 1 drops a silent player, and when a session rests.
+//! When player 1 drops a silent player.
 ghost use Rattle.std.specs.Prelude.{◌≡◌};
 
 use c8_disk::Disk;
 use c8_game::{MOST_PLAYERS, Player};
 use c8_peer::Peer;
 use c8_session::Session;
-
-/// How many turns a session goes on after everything is confirmed and acknowledged, so that the others get its last
-/// acknowledgements.
-const REST: u32 = 120;
 
 /// After how many silent turns player 1 drops a player, or with a clock after how many milliseconds; `None` for never.
 #[derive(Clone, Copy)]
@@ -145,66 +141,4 @@ impl Clock {
             None => turns,
         }
     }
-}
-
-/// Where an engine's match ends, if its machine has said so.
-#[derive(Clone, Copy)]
-pub(crate) struct End {
-    /// After how many frames.
-    frames: Option<u32>,
-    /// How many turns ended with all of them confirmed and acknowledged.
-    rested: u32,
-}
-
-impl End {
-    /// The match goes on to the last frame of the game.
-    pub fn new() -> End {
-        End {
-            frames: None,
-            rested: 0,
-        }
-    }
-
-    /// The match ends after this many frames. Another number starts the rest again.
-    pub fn set(&mut self, frames: u32) {
-        let is_same = match self.frames {
-            Some(end) => end == frames,
-            None => false,
-        };
-        if !is_same {
-            self.frames = Some(frames);
-            self.rested = 0;
-        }
-    }
-
-    /// Returns whether the session has rested for more than 120 turns after this end.
-    pub fn has_rested(&self) -> bool {
-        self.rested > REST
-    }
-
-    /// Notes the end of a turn.
-    pub fn rest<D: Disk>(&mut self, peer: &Peer<'_, D>) {
-        if let Some(frames) = self.frames
-            && is_finished(peer, frames)
-        {
-            self.rested = self.rested.saturating_add(1);
-        }
-    }
-}
-
-/// Returns whether these frames are confirmed, and each player without a cut has acknowledged the own inputs of them.
-fn is_finished<D: Disk>(peer: &Peer<'_, D>, frames: u32) -> bool {
-    if peer.confirmed() < frames {
-        return false;
-    }
-    for number in 1..peer.players() + 1 {
-        if let Some(player) = Player::new(number)
-            && player != peer.me()
-            && peer.cut_of(player).is_none()
-            && peer.acked(player) < frames
-        {
-            return false;
-        }
-    }
-    true
 }

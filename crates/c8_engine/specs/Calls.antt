@@ -1,18 +1,19 @@
 -- What the calls of a handle do to its session.
-use Rattle.std.specs.Prelude.{ℕ, ◌≡◌, ◌≢◌, ◌⊎◌, ◌/◌, min, Bool, true, false, List, [], ◌∷◌, ◌++◌, length, map, Option, None, Some, Result, Err}
+use Rattle.std.specs.Prelude.{ℕ, ◌≡◌, ◌≢◌, ◌⊎◌, ◌/◌, min, Bool, true, false, List, [], ◌∷◌, ◌++◌, length, Option, None, Some, Result, Err}
 use Rattle.std.specs.Prelude.{IfOk, IfErr, nat_lt, if◌then◌else◌}
 use Rattle.c8_disk.specs.declared.error.DiskError.{DiskError}
 use Rattle.c8_disk.specs.File.{file_bytes}
 use Rattle.c8_disk.specs.declared.file.FileDisk.{FileDisk}
 use Rattle.c8_game.specs.Rules.{Rules, session_of}
+use Rattle.c8_log.specs.Begun.{MayBeLog}
 use Rattle.c8_game.specs.GameText.{Spells}
-use Rattle.c8_game.specs.declared.row.Keys.{Keys}
 use Rattle.c8_game.specs.declared.row.Row.{Row}
 use Rattle.c8_peer.specs.declared.check.Check.{Check}
 use Rattle.c8_peer.specs.declared.heard.Heard.{Heard}
 use Rattle.c8_peer.specs.Opened.{IsOpened}
 use Rattle.c8_peer.specs.Peer.{IsStep, known_by, begun_by}
-use Rattle.c8_peer.specs.State.{Saying, Hello, Welcome, Data, Freeze, Frozen, Cut, Said, Tick, Say, Leave, Decide, Checkpoint, Ticked, Left}
+use Rattle.c8_peer.specs.State.{Saying, Hello, Welcome, Data, Freeze, Frozen, Cut, Pass, RefusedLife, Said, Tick}
+use Rattle.c8_peer.specs.State.{Say, Leave, Decide, Checkpoint, Ticked, Left}
 use Rattle.c8_peer.specs.State.{Decided, Checked}
 use Rattle.c8_refusals.specs.declared.error.TickError.{TickError}
 use Rattle.c8_refusals.specs.declared.error.Unsayable.{Unsayable}
@@ -136,10 +137,10 @@ sender_of (sides.Watcher w) = w.sender
 
 -- The handle has a session of this player in this room, of the game that the text spells, over the journal of this disk, or
 -- a replay of that. Its engine was given nothing.
-pub record IsOpenedBy (text : List ℕ) (player room : ℕ) (kept : FileDisk Medium) (is_replay : Bool) (session : Endpoint) : Type 0 where
+pub record IsOpenedBy (text : List ℕ) (player room drawn : ℕ) (kept : FileDisk Medium) (is_replay : Bool) (session : Endpoint) : Type 0 where
   pub rules : Rules
   pub game : Spells text rules
-  pub opened : IsOpened disk kept rules room player session.engine.peer
+  pub opened : IsOpened disk kept rules room player drawn session.engine.peer
   pub given : session.engine.steps.given ≡ []
   pub depth : session.engine.depth ≡ 0
   pub news : AreNoNews session.engine.news
@@ -149,26 +150,27 @@ pub record IsOpenedBy (text : List ℕ) (player room : ℕ) (kept : FileDisk Med
   pub sender : session.sender ≡ None
   pub replay : session.is_replay ≡ is_replay
 
-abbrev pub IsOpenOver : List ℕ → ℕ → ℕ → FileDisk Medium → Bool → Option AnyEndpoint → Type 0
-IsOpenOver text player room kept is_replay None = ⊥
-IsOpenOver text player room kept is_replay (Some (sides.Player session)) = IsOpenedBy text player room kept is_replay session
-IsOpenOver text player room kept is_replay (Some (sides.Watcher session)) = ⊥
+abbrev pub IsOpenOver : List ℕ → ℕ → ℕ → ℕ → FileDisk Medium → Bool → Option AnyEndpoint → Type 0
+IsOpenOver text player room drawn kept is_replay None = ⊥
+IsOpenOver text player room drawn kept is_replay (Some (sides.Player session)) = IsOpenedBy text player room drawn kept is_replay session
+IsOpenOver text player room drawn kept is_replay (Some (sides.Watcher session)) = ⊥
 
--- a session of this player in this room
-abbrev pub IsOpenWith : List ℕ → ℕ → ℕ → Option AnyEndpoint → Type 0
-IsOpenWith text player room session = (kept : FileDisk Medium) × IsOpenOver text player room kept false session
+-- A session of this player in this room, over what may be a journal. `drawn` is the number of its life if the journal is empty.
+abbrev pub IsOpenWith : List ℕ → ℕ → ℕ → ℕ → Option AnyEndpoint → Type 0
+IsOpenWith text player room drawn session =
+    (kept : FileDisk Medium) × MayBeLog (file_bytes kept) × IsOpenOver text player room drawn kept false session
 
 -- a replay of a journal, of the player and the room that its first record names
 abbrev pub IsReplayWith : List ℕ → Option AnyEndpoint → Type 0
 IsReplayWith text session =
-    (player : ℕ) × (room : ℕ) × (kept : FileDisk Medium) × NamesHead (file_bytes kept) player room
-    × IsOpenOver text player room kept true session
+    (player : ℕ) × (room : ℕ) × (drawn : ℕ) × (kept : FileDisk Medium) × NamesHead (file_bytes kept) player room
+    × IsOpenOver text player room drawn kept true session
 
 -- ---- calls
 
-pub record HasTicked (old new : EngineOf) (keys code : ℕ) : Type 0 where
+pub record HasTicked (old new : EngineOf) (input code : ℕ) : Type 0 where
   pub reply : Result (Unit {0}) TickError
-  pub called : HasCalled old new (Tick keys) (Ticked reply)
+  pub called : HasCalled old new (Tick input) (Ticked reply)
   pub code_is : code ≡ tick_code reply
 
 pub record HasHeard (old : Endpoint) (bytes : List ℕ) (code : ℕ) (new : Endpoint) : Type 0 where
@@ -253,10 +255,12 @@ HasSaid e to size out f = HasNext e to size out f ⊎ ((size ≡ 0) × HasNoNext
 abbrev pub IsKind : ℕ → ℕ → Saying → Type 0
 IsKind kind leaver Hello = kind ≡ 0
 IsKind kind leaver Welcome = kind ≡ 1
-IsKind kind leaver Data = kind ≡ 2
+IsKind kind leaver (Data signs) = kind ≡ 2
 IsKind kind leaver (Freeze l) = (kind ≡ 3) × (l ≡ leaver)
 IsKind kind leaver (Frozen l) = (kind ≡ 4) × (l ≡ leaver)
 IsKind kind leaver (Cut l) = (kind ≡ 5) × (l ≡ leaver)
+IsKind kind leaver (Pass l) = (kind ≡ 6) × (l ≡ leaver)
+IsKind kind leaver RefusedLife = kind ≡ 7
 
 -- the first `size` bytes are the packet of a datagram of this kind that the peer says to this player; none can be sealed any
 -- more if there are none
@@ -302,7 +306,7 @@ HasSecrets e players watchers code f =
 -- ---- rows as C reads them: four words each
 
 abbrev pub words_of_row : Row → List ℕ
-words_of_row row = map (λ (keys : Keys). keys.0) row.sets
+words_of_row row = row.inputs
 
 abbrev pub words_of : List Row → List ℕ
 words_of [] = []

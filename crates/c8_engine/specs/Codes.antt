@@ -1,5 +1,5 @@
 -- The number that each answer has in C: 0 for an Ok, else one number for each refusal, the same in all calls.
-use Rattle.std.specs.Prelude.{ℕ, ◌+◌, Bool, true, false, Result, Ok, Err}
+use Rattle.std.specs.Prelude.{ℕ, ◌+◌, Bool, true, false, Option, None, Some, Result, Ok, Err}
 use Rattle.c8_game.specs.Errors as games
 use Rattle.c8_game.specs.declared.error.GameError.{GameError}
 use Rattle.c8_disk.specs.Errors as disks
@@ -26,6 +26,8 @@ use Rattle.c8_spectator.specs.declared.taken.Taken.{Taken}
 use Rattle.c8_spectator.specs.declared.taken.Taken.TheVariants as takes
 use Rattle.c8_embed.specs.declared.events.EventKind.{EventKind}
 use Rattle.c8_embed.specs.declared.events.EventKind.TheVariants as events
+use Rattle.c8_session.specs.declared.ending.SessionEnd.{SessionEnd}
+use Rattle.c8_session.specs.declared.ending.SessionEnd.TheVariants as ends
 use Rattle.c8_refusals.specs.Errors as refusing
 use Rattle.c8_refusals.specs.declared.error.OpenError.{OpenError}
 use Rattle.c8_refusals.specs.declared.error.OpenError.TheVariants as opens
@@ -69,6 +71,14 @@ replay_code = 107
 abbrev pub watcher_code : ℕ
 watcher_code = 108
 
+-- what an opening in version 3 answers without a number for a new life
+abbrev pub no_life_code : ℕ
+no_life_code = 109
+
+-- a file that is something else than a journal
+abbrev pub no_journal_code : ℕ
+no_journal_code = 110
+
 abbrev pub disk_code : DiskError → ℕ
 disk_code why = 1300 + disks.disk_number_of why
 
@@ -90,6 +100,7 @@ tick_code (Err ticks.End) = 402
 tick_code (Err ticks.Dropped) = 403
 tick_code (Err (ticks.Disk why)) = disk_code why
 tick_code (Err ticks.Down) = 405
+tick_code (Err ticks.Wide) = 406
 
 -- 1 for a datagram that adds a record, and 2 for the one that tells the player that it was dropped
 abbrev pub heard_code : Result Heard Refused → ℕ
@@ -164,6 +175,22 @@ event_code events.Dropped = 4
 event_code events.Desynced = 5
 event_code events.Ended = 6
 event_code events.Restarted = 7
+event_code events.CameBack = 8
+
+-- the number of why a session is over; 0 if it is not
+abbrev pub end_code : Option SessionEnd → ℕ
+end_code None = 0
+end_code (Some ends.Done) = 1
+end_code (Some ends.Dropped) = 2
+end_code (Some ends.Left) = 3
+end_code (Some ends.Refused) = 4
+end_code (Some ends.ChairLost) = 5
+end_code (Some ends.ChairLeft) = 6
+
+-- 1 if turns say that the player leaves
+abbrev pub bye_code : Bool → ℕ
+bye_code true = 1
+bye_code false = 0
 
 -- how many ticks to leave out
 abbrev pub wait_code : Bool → ℕ

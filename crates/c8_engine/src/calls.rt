@@ -2,30 +2,31 @@
 ghost use Rattle.std.specs.Prelude.{◌≡◌, ◌≤◌, None, IfSome};
 ghost use Rattle.c8_embed.specs.Engine.{HasSpoken};
 ghost use Rattle.c8_embed.specs.Watch.{OwesSeen};
-ghost use Rattle.c8_engine.specs.Codes.{nobody_code};
+ghost use Rattle.c8_wire.specs.Format.{has_lives};
+ghost use Rattle.c8_engine.specs.Codes.{nobody_code, bye_code};
 ghost use Rattle.c8_engine.specs.Calls.{IfOpen, IfPlays, IfPlaying, IfWatches, refusal_of, lack_of, silence_of, HasTicked, HasHeard, HasLeft, HasDecided, HasSaved, HasMadeTurn};
 ghost use Rattle.c8_engine.specs.Watched.{HasBeenShown};
 
 use crate::codes::{
-    check_code, decide_code, delivered_code, leave_code, nobody_code, shown_code, tick_code,
+    bye_code, check_code, decide_code, delivered_code, leave_code, nobody_code, shown_code, tick_code,
     turn_code, watcher_code,
 };
 use crate::handle::Handle;
 use c8_embed::{Patience, Side};
-use c8_game::{Keys, Player};
+use c8_game::{Input, Player};
 use c8_wire::Watcher;
 
-/// Enters the own player's next key set.
+/// Enters the own player's next input, which has no more bytes than the game's inputs.
 #[unsafe(no_mangle)]
-pub extern "C" fn c8_tick(handle: &mut Handle, keys: u16) -> u32
+pub extern "C" fn c8_tick(handle: &mut Handle, input: u64) -> u32
     ensures refused { IfSome (refusal_of handle.old.value) (λ code. (result ≡ code) × (handle.new ≡ handle.old)) }
-    ensures ticked { IfPlays handle.old.value handle.new.value (λ e f. HasTicked e f keys result) }
+    ensures ticked { IfPlays handle.old.value handle.new.value (λ e f. HasTicked e f input result) }
 {
     if let Some(code) = handle.refusal() {
         return code;
     }
     match handle.session() {
-        Side::Player(player) => tick_code(player.engine.tick(Keys(keys))),
+        Side::Player(player) => tick_code(player.engine.tick(Input(input))),
         Side::Watcher(_) => watcher_code(),
     }
 }
@@ -216,11 +217,27 @@ pub(crate) fn turns(number: u32) -> Option<u64> {
     }
 }
 
+/// The player leaves: in version 3 the next turns say so, and the answer is 1. Otherwise it is 0, and nothing changes.
+#[unsafe(no_mangle)]
+pub extern "C" fn c8_bye(handle: &mut Handle) -> u32
+    ensures refused { IfSome (refusal_of handle.old.value) (λ code. (result ≡ code) × (handle.new ≡ handle.old)) }
+    ensures said { IfPlays handle.old.value handle.new.value (λ e f. HasSpoken e f
+        × (result ≡ bye_code (has_lives e.peer.rules.wire))) }
+{
+    if let Some(code) = handle.refusal() {
+        return code;
+    }
+    match handle.session() {
+        Side::Player(player) => bye_code(player.engine.bye()),
+        Side::Watcher(_) => watcher_code(),
+    }
+}
+
 /// The match ends after this many frames.
 #[unsafe(no_mangle)]
 pub extern "C" fn c8_end(handle: &mut Handle, frames: u32) -> u32
     ensures refused { IfSome (refusal_of handle.old.value) (λ code. (result ≡ code) × (handle.new ≡ handle.old)) }
-    ensures ended { IfPlays handle.old.value handle.new.value (λ e f. (f ≡ e) × (result ≡ 0)) }
+    ensures ended { IfPlays handle.old.value handle.new.value (λ e f. HasSpoken e f × (result ≡ 0)) }
 {
     if let Some(code) = handle.refusal() {
         return code;

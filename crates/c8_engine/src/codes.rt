@@ -1,6 +1,6 @@
 //! The number that each answer has in C.
 ghost use Rattle.std.specs.Prelude.{◌≡◌, ◌<◌};
-ghost use Rattle.c8_engine.specs.Codes.{closed_code, nobody_code, not_taken_code, bad_secret_code, sealed_already_code, replay_code, watcher_code, delivered_code, shown_code, disk_code, game_code, open_code, tick_code, heard_code, leave_code, decide_code, check_code, turn_code, file_code, say_code, event_code, wait_code};
+ghost use Rattle.c8_engine.specs.Codes.{closed_code, nobody_code, not_taken_code, bad_secret_code, sealed_already_code, replay_code, watcher_code, no_life_code, no_journal_code, delivered_code, shown_code, disk_code, game_code, open_code, tick_code, heard_code, leave_code, decide_code, check_code, turn_code, file_code, say_code, event_code, end_code, bye_code, wait_code};
 
 use c8_disk::{DiskError, FileError};
 use c8_embed::{EventKind, Undelivered, Unshown};
@@ -8,6 +8,7 @@ use c8_game::GameError;
 use c8_peer::{
     Check, CheckError, DecideError, Heard, LeaveError, OpenError, Refused, TickError, Unsayable,
 };
+use c8_session::SessionEnd;
 use c8_spectator::{NotTaken as Untaken, Taken};
 use c8_transport::NotTaken;
 
@@ -60,6 +61,20 @@ pub(crate) fn watcher_code() -> u32
     ensures { result ≡ watcher_code }
 {
     108
+}
+
+/// What an opening in version 3 answers without a number for a new life.
+pub(crate) fn no_life_code() -> u32
+    ensures { result ≡ no_life_code }
+{
+    109
+}
+
+/// What `c8_open_journal` answers to a file that is something else.
+pub(crate) fn no_journal_code() -> u32
+    ensures { result ≡ no_journal_code }
+{
+    110
 }
 
 pub(crate) fn disk_code(why: DiskError) -> u32
@@ -202,7 +217,30 @@ pub(crate) fn event_code(kind: EventKind) -> u8
         EventKind::Desynced => 5,
         EventKind::Ended => 6,
         EventKind::Restarted => 7,
+        EventKind::CameBack => 8,
     }
+}
+
+/// The number of why a session is over; 0 if it is not.
+pub(crate) fn end_code(end: Option<SessionEnd>) -> u32
+    ensures { result ≡ end_code end }
+{
+    match end {
+        None => 0,
+        Some(SessionEnd::Done) => 1,
+        Some(SessionEnd::Dropped) => 2,
+        Some(SessionEnd::Left) => 3,
+        Some(SessionEnd::Refused) => 4,
+        Some(SessionEnd::ChairLost) => 5,
+        Some(SessionEnd::ChairLeft) => 6,
+    }
+}
+
+/// Whether the turns say that the player leaves.
+pub(crate) fn bye_code(says: bool) -> u32
+    ensures { result ≡ bye_code says }
+{
+    if says { 1 } else { 0 }
 }
 
 pub(crate) fn wait_code(leaves_out: bool) -> u32

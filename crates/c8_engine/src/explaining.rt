@@ -86,6 +86,14 @@ fn own(number: u8, text: &mut Text) -> fmt::Result {
             text,
             "Watcher: the session is a watcher's, which only watches"
         ),
+        9 => write!(
+            text,
+            "NoLife: an opening in version 3 needs a number for a new life that is not 0"
+        ),
+        10 => write!(
+            text,
+            "NoJournal: the file is something else, and has not changed"
+        ),
         _ => Ok(()),
     }
 }
@@ -127,7 +135,8 @@ fn tick(number: u8, text: &mut Text) -> fmt::Result {
         TickError::Threshold,
         TickError::End,
         TickError::Dropped,
-        TickError::Down
+        TickError::Down,
+        TickError::Wide
     )
 }
 
@@ -156,7 +165,9 @@ fn hand(number: u8, text: &mut Text) -> fmt::Result {
         HandError::Stale,
         HandError::Ahead,
         HandError::NotMine,
-        HandError::Session
+        HandError::Session,
+        HandError::Restarted,
+        HandError::OtherMatch
     )
 }
 
@@ -248,6 +259,7 @@ fn watching(number: u8, text: &mut Text) -> fmt::Result {
         WatchError::Gap,
         WatchError::Differs,
         WatchError::Full,
-        WatchError::Absent
+        WatchError::Absent,
+        WatchError::Restarted
     )
 }

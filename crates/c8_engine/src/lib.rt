@@ -20,7 +20,7 @@ mod telling;
 mod version;
 
 pub use calls::{
-    c8_check, c8_checkpoint, c8_clock, c8_decide, c8_deliver, c8_end, c8_leave, c8_patience,
+    c8_bye, c8_check, c8_checkpoint, c8_clock, c8_decide, c8_deliver, c8_end, c8_leave, c8_patience,
     c8_tick, c8_turn, c8_watched,
 };
 pub use explaining::c8_explain;
@@ -28,7 +28,7 @@ pub use handle::Handle;
 pub use opening::{c8_close, c8_open, c8_open_journal, c8_replay_open, c8_watch_open};
 pub use reading::{
     PlayerState, c8_confirmed, c8_epoch, c8_is_lost, c8_is_over, c8_mark, c8_player, c8_screen,
-    c8_state, c8_status, c8_ticked, c8_tone,
+    c8_state, c8_status, c8_ticked, c8_tone, c8_why_over,
 };
 pub use rules::c8_rules;
 pub use saying::{c8_next, c8_say};

@@ -1,5 +1,8 @@
 //! Opening and closing a session.
-ghost use Rattle.std.specs.Prelude.{◌≡◌, ◌<◌, ◌⊎◌, ℕ, List, None, IfErr};
+ghost use Rattle.std.specs.Prelude.{◌≡◌, ◌<◌, ◌⊎◌, ◌↔◌, ℕ, List, None, IfErr, IsTrue, false};
+ghost use Rattle.c8_disk.specs.File.{file_bytes};
+ghost use Rattle.c8_log.specs.Begun.{MayBeLog};
+ghost use Rattle.c8_peer.specs.Opening.{MayDraw};
 ghost use Rattle.c8_game.specs.GameText.{Spells};
 ghost use Rattle.c8_refusals.specs.declared.error.OpenError.TheVariants as opens;
 ghost use Rattle.c8_engine.specs.Calls.{IsOpenWith, IsOpenOver, IsReplayWith};
@@ -8,14 +11,16 @@ ghost use Rattle.c8_engine.specs.Refused.{IsNoJournal, IsNoSession, IsNoReplay, 
 ghost use Rattle.c8_engine.specs.Watched.{IsWatchWith, IsNoWatch};
 
 use crate::calls::turns;
-use crate::codes::{file_code, game_code, nobody_code, open_code};
+use crate::codes::{
+    file_code, game_code, no_journal_code, no_life_code, nobody_code, open_code,
+};
 use crate::handle::Handle;
-use c8_disk::{FileDisk, FileError};
+use c8_disk::{Disk, FileDisk, FileError};
 use c8_embed::{Endpoint, Engine, Medium, Patience, Side, WatchEndpoint, head_of};
 use c8_game::{Game, Player};
-use c8_log::SLOT_LENGTH;
+use c8_log::{SLOT_LENGTH, may_be_log};
 use c8_peer::OpenError;
-use c8_wire::Watcher;
+use c8_wire::{Watcher, has_lives};
 use std::alloc::Global;
 
 /// After how many frames a checkpoint is recorded.
@@ -27,51 +32,69 @@ const RECORDS_OF_CHECKPOINT: u32 = 37;
 /// How many records a journal has room for beside the inputs and the checkpoints: openings and drop rounds.
 const SPARE_RECORDS: u32 = 16_384;
 
+/// The number for a new life where the journal has one.
+const UNUSED_LIFE: u64 = 1;
+
 /// How a session is opened.
 #[derive(Clone, Copy)]
 pub(crate) struct Way {
+    /// The number of a new life, if the journal is empty and the game of version 3.
+    drawn: u64,
     /// After how many silent turns player 1 drops a player; 0 for never.
     patience: u32,
     /// Whether the session only reads.
     is_replay: bool,
 }
 
-/// Opens a session over a journal in memory, in place of the one that the handle had.
+/// Opens a session over a journal in memory, in place of the one that the handle had. `drawn` is the number of its life, in version 3.
 #[unsafe(no_mangle)]
 pub extern "C" fn c8_open(
     alloc: Global,
     text: &[u8],
     player: u8,
     room: u64,
+    drawn: u64,
     patience: u32,
     handle: &mut Handle,
 ) -> u32
-    ensures opened { result ≡ 0 → IsOpenWith text.now player room handle.new.value }
+    ensures opened { result ≡ 0 → IsOpenWith text.now player room drawn handle.new.value }
     ensures refused { 0 < result → handle.new ≡ handle.old }
-    ensures why { 0 < result → IsRefusedAs text.now player room result }
+    ensures why { 0 < result → IsRefusedAs text.now player room drawn result }
 {
-    open_over(alloc, text, player, room, patience, Medium::Memory, handle)
+    let way = Way {
+        drawn,
+        patience,
+        is_replay: false,
+    };
+    open_over(alloc, text, player, room, way, Medium::Memory, handle)
 }
 
 /// Opens a session over a journal in a file, in place of the one that the handle had. It takes both descriptors, and closes
-/// them also when it refuses.
+/// them also when it refuses. It refuses a file that is no journal, and does not change it. `drawn` is the number of the life of a new
+/// journal, in version 3.
 #[unsafe(no_mangle)]
 pub extern "C" fn c8_open_journal(
     alloc: Global,
     text: &[u8],
     player: u8,
     room: u64,
+    drawn: u64,
     patience: u32,
     file: i32,
     folder: i32,
     handle: &mut Handle,
 ) -> u32
-    ensures opened { result ≡ 0 → IsOpenWith text.now player room handle.new.value }
+    ensures opened { result ≡ 0 → IsOpenWith text.now player room drawn handle.new.value }
     ensures refused { 0 < result → handle.new ≡ handle.old }
-    ensures why { 0 < result → IsRefusedAs text.now player room result }
+    ensures why { 0 < result → IsRefusedAs text.now player room drawn result }
 {
+    let way = Way {
+        drawn,
+        patience,
+        is_replay: false,
+    };
     match Medium::take(file, folder) {
-        Some(medium) => open_over(alloc, text, player, room, patience, medium, handle),
+        Some(medium) => open_over(alloc, text, player, room, way, medium, handle),
         None => file_code(FileError::Failed),
     }
 }
@@ -164,6 +187,7 @@ fn replay_over(alloc: Global, text: &[u8], medium: Medium, handle: &mut Handle) 
         return open_code(OpenError::BadRecord(0));
     };
     let way = Way {
+        drawn: UNUSED_LIFE,
         patience: 0,
         is_replay: true,
     };
@@ -187,13 +211,14 @@ fn open_over(
     text: &[u8],
     player: u8,
     room: u64,
-    patience: u32,
+    way: Way,
     medium: Medium,
     handle: &mut Handle,
 ) -> u32
-    ensures opened { result ≡ 0 → IsOpenWith text.now player room handle.new.value }
+    requires { way.is_replay ≡ false }
+    ensures opened { result ≡ 0 → IsOpenWith text.now player room way.drawn handle.new.value }
     ensures refused { 0 < result → handle.new ≡ handle.old }
-    ensures why { 0 < result → IsRefusedAs text.now player room result }
+    ensures why { 0 < result → IsRefusedAs text.now player room way.drawn result }
 {
     let game = match Game::read(alloc, text) {
         Ok(game) => game,
@@ -202,17 +227,36 @@ fn open_over(
     let Some(me) = Player::new(player) else {
         return nobody_code();
     };
+    if !may_draw(&game, way.drawn) {
+        return no_life_code();
+    }
     let disk = match disk_for(alloc, capacity_of(&game), medium) {
         Ok(disk) => disk,
         Err(code) => return code,
     };
-    let way = Way {
-        patience,
-        is_replay: false,
-    };
+    if !is_journal(&disk) {
+        return no_journal_code();
+    }
     match Box::new(alloc, game) {
         Ok(game) => open_on(alloc, disk, Box::leak(game), me, room, way, handle),
         Err(_) => open_code(OpenError::Memory),
+    }
+}
+
+/// Returns whether a new life may have this number: in version 3 not 0.
+fn may_draw(game: &Game, drawn: u64) -> bool
+    ensures { IsTrue result ↔ MayDraw game.now drawn }
+{
+    !has_lives(game.wire()) || drawn != 0
+}
+
+/// Returns whether a disk may have a journal, or is new.
+fn is_journal(disk: &FileDisk<Medium>) -> bool
+    ensures { IsTrue result ↔ MayBeLog (file_bytes disk.now) }
+{
+    match disk.held() {
+        Some(bytes) => may_be_log(bytes),
+        None => unreachable!(),
     }
 }
 
@@ -240,14 +284,15 @@ fn open_on(
     way: Way,
     handle: &mut Handle,
 ) -> u32
+    requires drawn { MayDraw game.now way.drawn }
     ensures opened { result ≡ 0 → (text : List ℕ) → Spells text game.now
-        → IsOpenOver text me.number room disk way.is_replay handle.new.value }
+        → IsOpenOver text me.number room way.drawn disk way.is_replay handle.new.value }
     ensures refused { 0 < result → handle.new ≡ handle.old }
     ensures why { 0 < result → (text : List ℕ) → Spells text game.now
-        → IsNoSession text me.number room result }
+        → IsNoSession text me.number room way.drawn result }
 {
     let number = game.session(room);
-    let mut engine = match Engine::open(alloc, disk, game, me, room, None, INTERVAL) {
+    let mut engine = match Engine::open(alloc, disk, game, me, room, way.drawn, None, INTERVAL) {
         Ok(engine) => engine,
         Err((error, _)) => return open_code(error),
     };

@@ -1,5 +1,5 @@
 //! What a session's peer knows, and the machine that its player sees.
-ghost use Rattle.std.specs.Prelude.{◌≡◌, ◌≤◌, None, IfSome, true, false, length, take, drop};
+ghost use Rattle.std.specs.Prelude.{◌≡◌, ◌≤◌, ◌==◌, not, Option, None, IfSome, true, false, length, take, drop};
 ghost use Rattle.c8_digest.specs.StateBytes.{mark_of, state_bytes};
 ghost use Rattle.c8_machine.specs.State.{state};
 ghost use Rattle.c8_embed.specs.Watch.{has_all};
@@ -7,12 +7,14 @@ ghost use Rattle.c8_known.specs.Confirmed.{confirmed};
 ghost use Rattle.c8_known.specs.Journal.{ticks, epoch};
 ghost use Rattle.c8_known.specs.Known.{count_in, player_in, is_frozen_in};
 ghost use Rattle.c8_hand.specs.Links.{link_to};
+ghost use Rattle.c8_hand.specs.Lives.{life_of};
+ghost use Rattle.c8_session.specs.declared.ending.SessionEnd.{SessionEnd};
 ghost use Rattle.c8_window.specs.Window.{acked_of};
 ghost use Rattle.c8_peer.specs.Peer.{known_by};
-ghost use Rattle.c8_engine.specs.Codes.{closed_code, nobody_code};
+ghost use Rattle.c8_engine.specs.Codes.{closed_code, nobody_code, end_code};
 ghost use Rattle.c8_engine.specs.Calls.{IfOpen, IfWatches, lack_of, machine_of, cut_code, statuses, status_in};
 
-use crate::codes::{closed_code, nobody_code, watcher_code};
+use crate::codes::{closed_code, end_code, nobody_code, watcher_code};
 use crate::handle::Handle;
 use c8_digest::{STATE_LENGTH, mark, state_bytes};
 use c8_disk::Disk;
@@ -40,6 +42,8 @@ pub struct PlayerState {
     pub dropped: bool,
     /// From which frame on its inputs are empty; the greatest number if that is not known.
     pub cut: u32,
+    /// Whether it has come back without its journal: another life of it was refused.
+    pub came_back: bool,
 }
 
 /// How many ticks the own player has made, or how many rows a watcher has; 0 at a closed handle.
@@ -112,6 +116,24 @@ pub extern "C" fn c8_is_over(handle: &mut Handle) -> bool
     }
 }
 
+/// Why the match is over for this peer: 1 all is confirmed, 2 it was dropped, 3 it has left, 4 its life is refused, 5 player 1 came back
+/// without its journal, 6 player 1 has left; 0 if it is not over, at a closed handle, and at a watcher.
+#[unsafe(no_mangle)]
+pub extern "C" fn c8_why_over(handle: &mut Handle) -> u32
+    ensures same { handle.new.value ≡ handle.old.value }
+    ensures lacking { IfSome (lack_of handle.old.value) (λ code. result ≡ 0) }
+    ensures end { IfOpen handle.old.value handle.new.value (λ e f.
+        (end : Option SessionEnd) × (result ≡ end_code end)) }
+{
+    if let Some(_code) = handle.lack() {
+        return 0;
+    }
+    match handle.session() {
+        Side::Player(player) => end_code(player.engine.why_over()),
+        Side::Watcher(_) => 0,
+    }
+}
+
 /// Whether the others hold inputs that this session's journal does not have; false at a closed handle and at a watcher.
 #[unsafe(no_mangle)]
 pub extern "C" fn c8_is_lost(handle: &mut Handle) -> bool
@@ -145,6 +167,8 @@ pub extern "C" fn c8_player(handle: &mut Handle, player: u8, state: &mut PlayerS
         state.new.dropped ≡ is_frozen_in (known_by e.peer) player) }
     ensures cut { result ≡ 0 → IfOpen handle.old.value handle.new.value (λ e f.
         state.new.cut ≡ cut_code (player_in (known_by e.peer) player).cut) }
+    ensures came_back { result ≡ 0 → IfOpen handle.old.value handle.new.value (λ e f.
+        state.new.came_back ≡ not ((life_of e.peer.state.memory.links.lives player).other == 0)) }
 {
     if let Some(code) = handle.lack() {
         return code;
@@ -162,6 +186,7 @@ pub extern "C" fn c8_player(handle: &mut Handle, player: u8, state: &mut PlayerS
                 linked: peer.is_linked(player),
                 dropped: peer.frozen(player),
                 cut: cut_code(peer.cut_of(player)),
+                came_back: peer.other(player) != 0,
             };
             0
         }

@@ -10,14 +10,14 @@ use c8_disk::FileDisk;
 use c8_embed::{Engine, Medium, Side, WatchEndpoint};
 use c8_game::Row;
 
-/// How many words a row has: a key set of each of four players.
+/// How many words a row has: an input of each of four players.
 const WORDS: usize = 4;
 
 /// Gives the best rows from the first frame on whose best row the engine was not given: writes the frame to `from`, and at
 /// most a fourth as many rows as `rows` has words to its front. Returns how many; 0 at a closed handle. At a
 /// watcher they are the rows that it was not given yet.
 #[unsafe(no_mangle)]
-pub extern "C" fn c8_step(handle: &mut Handle, from: &mut u32, rows: &mut [u16]) -> u32
+pub extern "C" fn c8_step(handle: &mut Handle, from: &mut u32, rows: &mut [u64]) -> u32
     ensures closed { handle.old.value ≡ None → (result ≡ 0) × (handle.new ≡ handle.old) }
     ensures kept { IfOpen handle.old.value handle.new.value (λ e f. (f.peer ≡ e.peer)
         × (f.depth ≡ e.depth) × (f.news ≡ e.news) × (f.lead ≡ e.lead) × (f.left ≡ e.left)) }
@@ -44,7 +44,7 @@ fn step(
     engine: &mut Engine<'static, FileDisk<Medium>>,
     most: u32,
     from: &mut u32,
-    rows: &mut [u16],
+    rows: &mut [u64],
 ) -> u32
     requires { most ≡ rows_in (length rows.old) }
     ensures peer { engine.new.peer ≡ engine.old.peer }
@@ -65,7 +65,7 @@ fn step(
 }
 
 /// Gives at most `most` rows of a watcher.
-fn step_watcher(watcher: &mut WatchEndpoint, most: u32, from: &mut u32, rows: &mut [u16]) -> u32
+fn step_watcher(watcher: &mut WatchEndpoint, most: u32, from: &mut u32, rows: &mut [u64]) -> u32
     requires { most ≡ rows_in (length rows.old) }
     ensures given { HasGiven watcher.old most from.new result watcher.new }
     ensures rows { rows.new ≡ words_of (take result (drop from.new watcher.old.spectator.rows))
@@ -80,7 +80,7 @@ fn step_watcher(watcher: &mut WatchEndpoint, most: u32, from: &mut u32, rows: &m
 }
 
 /// Writes rows to the front of `words`.
-fn write_rows(rows: &[Row], words: &mut [u16])
+fn write_rows(rows: &[Row], words: &mut [u64])
     requires { 4 * length rows.now ≤ length words.old }
     ensures { words.new ≡ words_of rows.now ++ drop (4 * length rows.now) words.old }
 {
@@ -90,11 +90,11 @@ fn write_rows(rows: &[Row], words: &mut [u16])
     }
 }
 
-/// The key sets of a row as words.
-fn words_of_row(row: &Row) -> [u16; WORDS]
+/// The inputs of a row as words.
+fn words_of_row(row: &Row) -> [u64; WORDS]
     ensures value { result ≡ words_of_row row.now }
     ensures four { length (words_of_row row.now) ≡ 4 }
 {
-    let [one, two, three, four] = row.sets;
+    let [one, two, three, four] = row.inputs;
     [one.0, two.0, three.0, four.0]
 }

@@ -10,7 +10,7 @@ use c8_embed::Side;
 #[derive(Clone, Copy)]
 #[repr(C)]
 pub struct EventState {
-    /// 1 linked, 2 interrupted, 3 resumed, 4 dropped, 5 desynchronised, 6 ended, 7 restarted.
+    /// 1 linked, 2 interrupted, 3 resumed, 4 dropped, 5 desynchronised, 6 ended, 7 restarted, 8 came back without its journal.
     pub kind: u8,
     /// The player that it is about; 0 for the session itself.
     pub player: u8,

@@ -8,5 +8,5 @@ ghost use Rattle.c8_engine.specs.Version.{version};
 pub extern "C" fn c8_version() -> u32
     ensures version { result ≡ version }
 {
-    0x000202
+    0x000300
 }

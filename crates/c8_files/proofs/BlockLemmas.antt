@@ -52,40 +52,40 @@ pair_inner name value first second = list_all-append is_inner name (32 ∷ value
 
 -- ---- blocks
 
-says_both : (first second : List (List ℕ)) (items others : List Item) → AllZip Says first items → AllZip Says second others
-    → AllZip Says (first ++ second) (items ++ others)
-says_both [] second [] others all each = each
-says_both [] second (item ∷ items) others all each = absurd all
-says_both (line ∷ first) second [] others all each = absurd all
-says_both (line ∷ first) second (item ∷ items) others all each = (all.0, says_both first second items others all.1 each)
+says_both : (width : ℕ) (first second : List (List ℕ)) (items others : List Item) → AllZip (Says width) first items
+    → AllZip (Says width) second others → AllZip (Says width) (first ++ second) (items ++ others)
+says_both width [] second [] others all each = each
+says_both width [] second (item ∷ items) others all each = absurd all
+says_both width (line ∷ first) second [] others all each = absurd all
+says_both width (line ∷ first) second (item ∷ items) others all each = (all.0, says_both width first second items others all.1 each)
 
-pub block_none : IsBlock [] []
-block_none = record { text_lines = []; ends = λ more. refl; says = tt }
+pub block_none : (width : ℕ) → IsBlock width [] []
+block_none width = record { text_lines = []; ends = λ more. refl; says = tt }
 
-pub block_both : (text other : List ℕ) (items others : List Item) → IsBlock text items → IsBlock other others
-    → IsBlock (text ++ other) (items ++ others)
-block_both text other items others first second = record {
+pub block_both : (width : ℕ) (text other : List ℕ) (items others : List Item) → IsBlock width text items → IsBlock width other others
+    → IsBlock width (text ++ other) (items ++ others)
+block_both width text other items others first second = record {
   text_lines = first.text_lines ++ second.text_lines;
   ends = λ more. ap lines (append_assoc text other more) ∙ first.ends (other ++ more)
       ∙ ap (λ rest. first.text_lines ++ rest) (second.ends more) ∙ sym (append_assoc first.text_lines second.text_lines (lines more));
-  says = says_both first.text_lines second.text_lines items others first.says second.says;
+  says = says_both width first.text_lines second.text_lines items others first.says second.says;
 }
 
 -- how a line that is written continues
 line_joined : (name value more : List ℕ) → line_text name value ++ more ≡ (name ++ 32 ∷ value) ++ 10 ∷ more
 line_joined name value more = grind (arith, append_assoc)
 
-pub block_line : (name value : List ℕ) (item : Item) → list_all is_inner (name ++ 32 ∷ value) ≡ true → Says (name ++ 32 ∷ value) item
-    → IsBlock (line_text name value) (item ∷ [])
-block_line name value item inner says = record {
+pub block_line : (width : ℕ) (name value : List ℕ) (item : Item) → list_all is_inner (name ++ 32 ∷ value) ≡ true
+    → Says width (name ++ 32 ∷ value) item → IsBlock width (line_text name value) (item ∷ [])
+block_line width name value item inner says = record {
   text_lines = (name ++ 32 ∷ value) ∷ [];
   ends = λ more. ap lines (line_joined name value more) ∙ line_and_more (name ++ 32 ∷ value) more inner;
   says = (says, tt);
 }
 
 -- the lines of a block alone
-pub block_lines : (text : List ℕ) (items : List Item) → IsBlock text items → AllZip Says (lines text) items
-block_lines text items block =
+pub block_lines : (width : ℕ) (text : List ℕ) (items : List Item) → IsBlock width text items → AllZip (Says width) (lines text) items
+block_lines width text items block =
     let same : lines text ≡ block.text_lines = ap lines (sym (append-nil text)) ∙ block.ends [] ∙ append-nil block.text_lines in
     rw same block.says
 
@@ -98,8 +98,8 @@ pub program_more : (text bytes more : List ℕ) → IsProgramText text bytes →
     → IsProgramText (text ++ line_text (codes "code") (encode_lower more)) (bytes ++ more)
 program_more text bytes more written some each = record {
   items = written.items ++ Code more ∷ [];
-  block = block_both text (line_text (codes "code") (encode_lower more)) written.items (Code more ∷ []) written.block
-      (block_line (codes "code") (encode_lower more) (Code more) (pair_inner (codes "code") (encode_lower more) refl (code_inner more each))
+  block = λ width. block_both width text (line_text (codes "code") (encode_lower more)) written.items (Code more ∷ []) (written.block width)
+      (block_line width (codes "code") (encode_lower more) (Code more) (pair_inner (codes "code") (encode_lower more) refl (code_inner more each))
       (encode_lower more, refl, decode_of-encode_lower more each, some));
   code = flat_map-append code_in written.items (Code more ∷ []) ∙ ap (λ front. front ++ (more ++ [])) written.code
       ∙ ap (λ end. bytes ++ end) (append-nil more);

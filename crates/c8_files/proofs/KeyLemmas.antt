@@ -1,19 +1,21 @@
 -- Key sets, key by key.
 use Rattle.std.proofs.Common.{◌≡◌, ℕ, zero, suc, ◌+◌, ◌*◌, ◌/◌, ◌%◌, ◌^◌, ◌<◌, ◌≤◌, ◌⊎◌, Bool, true, false, length, List, Option, Some}
 use Rattle.std.proofs.Common.{None, refl, ap, sym, ◌∙◌, inl, inr, arith, nat_lt, bit_and, bit_or}
-use Rattle.std.specs.Prelude.{◌↔◌, slice_index, IfSome, ◌||◌}
-use Rattle.std.specs.Int.{bit_at, w16}
-use Rattle.std.proofs.lemmas.Bool.{cases_Bool, cases_eq, cases_lt, lt-ltb, ltb-true}
+use Rattle.std.specs.Prelude.{◌↔◌, nat_le, slice_index, IfSome, ◌||◌}
+use Rattle.std.specs.Int.{bit_at, bit_not, w16}
+use Rattle.std.proofs.lemmas.Bool.{cases_Bool, cases_eq, cases_lt, lt-ltb, ltb-true, lt-leb}
 use Rattle.std.proofs.lemmas.List.{get_or_past}
-use Rattle.std.proofs.lemmas.Nat.{or_of_16}
-use Rattle.std.proofs.lemmas.Nat.Bits.{bit_at_and, bit_at_or, bit_at-lt, bit_at-zero, bit_at-suc, bit_at_lowest, bit_at_not}
+use Rattle.std.proofs.Math.Nat.{mul_comm, mod-eq_of_lt, pow-le-pow_right}
+use Rattle.std.proofs.lemmas.Nat.{or_of_16, pow_pos}
+use Rattle.std.proofs.lemmas.Nat.Bits.{bit_at_and, bit_at_or, bit_at-lt, bit_at-zero, bit_at-suc, bit_at_lowest, bit_at_not, bit_at_cat_low}
 use Rattle.std.proofs.lemmas.Nat.Bits.{bit_at_set_same, bit_at_set_other}
+use Rattle.byteorder.proofs.Bytes.{pow256}
 use Rattle.hex.specs.Hex.{hex_digit_value}
-use Rattle.c8_game.specs.Rules.{HasKey}
+use Rattle.c8_game.specs.Rules.{HasBit}
 use Rattle.c8_files.specs.Asked.{usual_keys, given_or, given_at, AreKeySets, later_mask, keys_of_others, masks_of}
 use Rattle.c8_files.specs.Faults.{do_meet, has_shared, IsShared}
 use Rattle.c8_files.specs.declared.settings.Settings.{Settings}
-use Rattle.c8_game.specs.declared.row.Keys.{Keys}
+use Rattle.c8_machine.specs.declared.keys.Keys.{Keys}
 
 -- ---- the keys that digits name
 
@@ -24,7 +26,7 @@ pub record HasDigitBefore (digits : List ℕ) (count key : ℕ) : Type 0 where
   pub names : hex_digit_value (slice_index digits place) ≡ Some key
 
 abbrev pub AreNamed : List ℕ → ℕ → ℕ → Type 0
-AreNamed digits count keys = (key : ℕ) → HasKey keys key ↔ HasDigitBefore digits count key
+AreNamed digits count keys = (key : ℕ) → HasBit keys key ↔ HasDigitBefore digits count key
 
 pub none_named : (digits : List ℕ) → AreNamed digits 0 0
 none_named digits key = (λ has. absurd (omega (arith, bit_at-zero key, has)), λ named. absurd (omega (arith, named.within)))
@@ -33,7 +35,7 @@ same_key : (one other : ℕ) → Some one ≡ Some other → one ≡ other
 same_key one other same = cc
 
 named_now : (digits : List ℕ) (count keys digit key : ℕ) → AreNamed digits count keys
-    → hex_digit_value (slice_index digits count) ≡ Some digit → digit < 16 → HasKey (bit_or keys (1 * 2 ^ digit % 2 ^ 16)) key
+    → hex_digit_value (slice_index digits count) ≡ Some digit → digit < 16 → HasBit (bit_or keys (1 * 2 ^ digit % 2 ^ 16)) key
     → HasDigitBefore digits (count + 1) key
 named_now digits count keys digit key named names small has =
     elim (cases_eq key digit) [
@@ -45,7 +47,7 @@ named_now digits count keys digit key named names small has =
 
 named_then : (digits : List ℕ) (count keys digit key : ℕ) → AreNamed digits count keys
     → hex_digit_value (slice_index digits count) ≡ Some digit → digit < 16 → HasDigitBefore digits (count + 1) key
-    → HasKey (bit_or keys (1 * 2 ^ digit % 2 ^ 16)) key
+    → HasBit (bit_or keys (1 * 2 ^ digit % 2 ^ 16)) key
 named_then digits count keys digit key named names small has =
     elim (cases_eq key digit) [
       | inl same ↦ rw same (bit_at_set_same w16 keys digit small)
@@ -74,13 +76,13 @@ some_bit (suc fuel) number few some =
       | inr odd ↦ (0, bit_at_lowest number ∙ omega arith)
     ]
 
-in_both : (one other key : ℕ) → HasKey (bit_and one other) key → HasKey one key × HasKey other key
+in_both : (one other key : ℕ) → HasBit (bit_and one other) key → HasBit one key × HasBit other key
 in_both one other key has = (
   omega (arith, bit_at_and one other key, bit_at-lt one key, bit_at-lt other key),
   omega (arith, bit_at_and one other key, bit_at-lt one key, bit_at-lt other key),
 )
 
-from_both : (one other key : ℕ) → HasKey one key → HasKey other key → do_meet one other ≡ true
+from_both : (one other key : ℕ) → HasBit one key → HasBit other key → do_meet one other ≡ true
 from_both one other key first second =
     let has : bit_at (bit_and one other) key ≡ 1 = omega (arith, bit_at_and one other key) in
     elim (cases_eq (bit_and one other) 0) [
@@ -137,8 +139,8 @@ any_pair false false false false false false some =
       | inr (inr (inr (inr (inr f)))) ↦ f
     ]
 
-pub shared_pair : (masks : List ℕ) (one other key : ℕ) → length masks ≡ 4 → one < other → HasKey (slice_index masks one) key
-    → HasKey (slice_index masks other) key
+pub shared_pair : (masks : List ℕ) (one other key : ℕ) → length masks ≡ 4 → one < other → HasBit (slice_index masks one) key
+    → HasBit (slice_index masks other) key
     → (meet_at masks 0 1 ≡ true) ⊎ (meet_at masks 0 2 ≡ true) ⊎ (meet_at masks 0 3 ≡ true) ⊎ (meet_at masks 1 2 ≡ true)
     ⊎ (meet_at masks 1 3 ≡ true) ⊎ (meet_at masks 2 3 ≡ true)
 shared_pair masks one zero key size apart first second = absurd (omega arith)
@@ -168,7 +170,7 @@ shared_told masks size shared =
 
 -- ---- no key is lost
 
-in_either : (one other key : ℕ) → HasKey (bit_or one other) key → HasKey one key ⊎ HasKey other key
+in_either : (one other key : ℕ) → HasBit (bit_or one other) key → HasBit one key ⊎ HasBit other key
 in_either one other key has =
     elim (cases_lt (bit_at one key) 1) [
       | inl none ↦ inr (omega (arith, bit_at_or one other key, bit_at-lt other key))
@@ -198,11 +200,35 @@ others_small settings small =
     or_of_16 (later_mask settings 1) (bit_or (later_mask settings 2) (later_mask settings 3)) (later_small settings 1 small)
     (or_of_16 (later_mask settings 2) (later_mask settings 3) (later_small settings 2 small) (later_small settings 3 small))
 
-pub key_kept : (settings : Settings) → AreKeySets settings → given_at settings 0 ≡ None → (key : ℕ) → key < 16
-    → (place : ℕ) × HasKey (slice_index (masks_of settings) place) key
-key_kept settings small none key within =
+-- a bit below some number is kept where the bits from there on are cut off
+bit_below : (n k i : ℕ) → i < k → bit_at (n % 2 ^ k) i ≡ bit_at n i
+bit_below n k i below =
+    let some : 0 < 2 ^ k = pow_pos k in
+    let whole : n / 2 ^ k * 2 ^ k + n % 2 ^ k ≡ n = omega (arith, mul_comm (n / 2 ^ k) (2 ^ k)) in
+    sym (bit_at_cat_low (n / 2 ^ k) k (n % 2 ^ k) i below) ∙ ap (λ m. bit_at m i) whole
+
+bit_in : (n width i : ℕ) → i < 8 * width → bit_at (n % 256 ^ width) i ≡ bit_at n i
+bit_in n width i below = ap (λ m. bit_at (n % m) i) (pow256 width) ∙ bit_below n (8 * width) i below
+
+-- two bytes have a bit for each key
+within_two : (width keys : ℕ) → 2 ≤ width → keys < 2 ^ 16 → keys < 256 ^ width
+within_two width keys wide small = let most = pow-le-pow_right {n = 256} (omega arith) {i = 2} {j = width} wide in omega (arith, most, small)
+
+pub all_kept : (width keys : ℕ) → 2 ≤ width → keys < 2 ^ 16 → keys ≡ keys % 256 ^ width
+all_kept width keys wide small = sym (mod-eq_of_lt (within_two width keys wide small))
+
+pub none_wide : (width keys : ℕ) → 2 ≤ width → keys < 2 ^ 16 → false ≡ nat_le (256 ^ width) keys
+none_wide width keys wide small = sym (lt-leb (256 ^ width) keys (within_two width keys wide small))
+
+pub key_kept : (settings : Settings) → AreKeySets settings → given_at settings 0 ≡ None → (key : ℕ) → key < 16 → key < 8 * settings.width
+    → (place : ℕ) × HasBit (slice_index (masks_of settings) place) key
+key_kept settings small none key within narrow =
     elim (cases_lt (bit_at (keys_of_others settings) key) 1) [
-      | inl free ↦ (0, rw none (bit_at_not w16 (keys_of_others settings) key (others_small settings small) within ∙ omega arith))
+      | inl free ↦ (
+        0,
+        rw none (bit_in (bit_not w16 (keys_of_others settings)) settings.width key narrow
+            ∙ bit_at_not w16 (keys_of_others settings) key (others_small settings small) within ∙ omega arith),
+      )
       | inr taken ↦ elim (in_either (later_mask settings 1) (bit_or (later_mask settings 2) (later_mask settings 3)) key
           (omega (arith, bit_at-lt (keys_of_others settings) key))) [
             | inl two ↦ (1, two)

@@ -1,20 +1,22 @@
 -- Values that are written say their numbers, and have no byte that ends a line.
 use Rattle.std.proofs.Common.{◌≡◌, ℕ, zero, suc, ◌+◌, ◌-◌, ◌*◌, ◌/◌, ◌%◌, ◌^◌, ◌<◌, ◌≤◌, Bool, true, false, cond, length, List, [], ◌∷◌}
-use Rattle.std.proofs.Common.{◌++◌, refl, ◌∙◌, inl, inr, arith, nat_lt, ◌&&◌, length-append}
+use Rattle.std.proofs.Common.{◌++◌, refl, ap, sym, ◌∙◌, inl, inr, arith, nat_lt, ◌&&◌, length-append}
 use Rattle.std.specs.Prelude.{nat_le, slice_index, decimal}
 use Rattle.std.specs.Char.{is_ascii_digit}
-use Rattle.std.specs.Int.{to_be_bytes, w16}
+use Rattle.std.specs.Int.{byte_at}
 use Rattle.std.specs.List.{list_all}
 use Rattle.std.proofs.lemmas.Bool.{cases_lt, both_ways, and_from, and_parts, lt-leb, le-leb, lt-ltb, leb-true}
 use Rattle.std.proofs.lemmas.Fmt.{decimal_by_steps, decimal_nonempty, length-decimal-le}
 use Rattle.std.proofs.lemmas.List.Folds.{list_all-append}
 use Rattle.std.proofs.lemmas.List.Sums.{list_all-from_AllPass}
-use Rattle.std.proofs.lemmas.Nat.{from_be_bytes-to_be_bytes_2}
+use Rattle.std.proofs.lemmas.List.{append-nil}
 use native.Mathlib.Numerals.{unary_clauses}
+use Rattle.byteorder.specs.Endian.{big_bytes, big_number}
+use Rattle.byteorder.specs.Numbers.{length-bytes_high_first, big_number-reads_back}
 use Rattle.hex.specs.Hex.{encode_lower, is_hex_digit}
 use Rattle.hex.proofs.HexLemmas.{decode_of-encode_lower, decode_of-ok, decode_sized-encode_lower, IsOk-decode_sized}
 use Rattle.c8_game.specs.Fields.{is_decimal, decimal_number}
-use Rattle.c8_game.specs.KeysText.{is_keys_text, keys_number}
+use Rattle.c8_game.specs.Inputs.{Fits, is_input_text, input_number}
 use Rattle.c8_files.specs.checked.Blocks.{spelled}
 
 -- ---- decimals
@@ -65,23 +67,30 @@ decimal_fine number small =
 
 -- ---- masks
 
-pair_bytes : (number : ℕ) → number < 2 ^ 16 → (i : ℕ) → slice_index (to_be_bytes w16 number) i < 256
-pair_bytes number small zero = omega arith
-pair_bytes number small (suc zero) = omega arith
-pair_bytes number small (suc (suc i)) = omega arith
+byte_small : (k number : ℕ) → byte_at k number < 256
+byte_small zero number = omega arith
+byte_small (suc k) number = omega arith
 
-mask_fine : (number : ℕ) → number < 2 ^ 16
-    → (is_keys_text (encode_lower (to_be_bytes w16 number)) ≡ true) × (keys_number (encode_lower (to_be_bytes w16 number)) ≡ number)
-mask_fine number small =
-    let decoded = decode_sized-encode_lower (to_be_bytes w16 number) 2 refl (pair_bytes number small) in
-    (rw decoded refl, rw decoded (from_be_bytes-to_be_bytes_2 number small))
+each_byte : (width number i : ℕ) → slice_index (big_bytes width number) i < 256
+each_byte zero number i = omega arith
+each_byte (suc width) number zero = byte_small width number
+each_byte (suc width) number (suc i) = each_byte width number i
 
-pub value_fine : (mask : Bool) (number : ℕ) → number < cond mask (2 ^ 16) (2 ^ 64)
-    → (cond mask (is_keys_text (spelled mask number)) (is_decimal (spelled mask number)) ≡ true)
-    × (cond mask (keys_number (spelled mask number)) (decimal_number (spelled mask number)) ≡ number)
+read_again : (width number : ℕ) → Fits width number → big_number width (big_bytes width number) ≡ number
+read_again width number fits = ap (big_number width) (sym (append-nil (big_bytes width number))) ∙ big_number-reads_back width number [] fits
+
+mask_fine : (width number : ℕ) → Fits width number
+    → (is_input_text width (encode_lower (big_bytes width number)) ≡ true) × (input_number width (encode_lower (big_bytes width number)) ≡ number)
+mask_fine width number fits =
+    let decoded = decode_sized-encode_lower (big_bytes width number) width (length-bytes_high_first width number) (each_byte width number) in
+    (rw decoded refl, rw decoded (read_again width number fits))
+
+pub value_fine : (width : ℕ) (mask : Bool) (number : ℕ) → number < cond mask (256 ^ width) (2 ^ 64)
+    → (cond mask (is_input_text width (spelled width mask number)) (is_decimal (spelled width mask number)) ≡ true)
+    × (cond mask (input_number width (spelled width mask number)) (decimal_number (spelled width mask number)) ≡ number)
 unfolding spelled
-value_fine true number small = mask_fine number small
-value_fine false number small = decimal_fine number small
+value_fine width true number small = mask_fine width number small
+value_fine width false number small = decimal_fine number small
 
 -- ---- bytes above those that end lines
 
@@ -105,9 +114,11 @@ hex_inner : (byte : ℕ) → is_hex_digit byte ≡ true → is_inner byte ≡ tr
 hex_inner byte digit = elim (cases_lt 13 byte)
     [ inl above ↦ lt-ltb 13 byte above | inr small ↦ absurd (both_ways (is_hex_digit byte) (no_hex_digit byte small) digit) ]
 
-pub value_inner : (mask : Bool) (value : List ℕ) → cond mask (is_keys_text value) (is_decimal value) ≡ true → list_all is_inner value ≡ true
-value_inner true value is = all_inner is_hex_digit hex_inner value (list_all-from_AllPass is_hex_digit value ((IsOk-decode_sized value 2).0 is).1)
-value_inner false value is = all_inner is_ascii_digit digit_inner value
+pub value_inner : (width : ℕ) (mask : Bool) (value : List ℕ) → cond mask (is_input_text width value) (is_decimal value) ≡ true
+    → list_all is_inner value ≡ true
+value_inner width true value is =
+    all_inner is_hex_digit hex_inner value (list_all-from_AllPass is_hex_digit value ((IsOk-decode_sized value width).0 is).1)
+value_inner width false value is = all_inner is_ascii_digit digit_inner value
     (and_parts (nat_lt 0 (length value) && nat_le (length value) 20) (list_all is_ascii_digit value) is).1
 
 pub code_inner : (bytes : List ℕ) → ((i : ℕ) → slice_index bytes i < 256) → list_all is_inner (encode_lower bytes) ≡ true

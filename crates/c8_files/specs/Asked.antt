@@ -1,9 +1,9 @@
 -- The game that settings and a program ask for.
-use Rattle.std.specs.Prelude.{ℕ, ◌^◌, ◌<◌, List, [], ◌∷◌, Option, IfSome, Some, None, bit_or, nat_lt, slice_index, slice_index_or, if◌then◌else◌}
+use Rattle.std.specs.Prelude.{ℕ, ◌%◌, ◌^◌, ◌<◌, List, [], ◌∷◌, Option, IfSome, Some, None, bit_or, nat_lt, slice_index, slice_index_or, if◌then◌else◌}
 use Rattle.std.specs.Int.{bit_not, w16}
 use Rattle.c8_game.specs.Rules.{Rules}
-use Rattle.c8_game.specs.declared.row.Keys.{Keys}
 use Rattle.c8_game.specs.declared.wire.WireVersion.TheVariants as wires
+use Rattle.c8_machine.specs.declared.keys.Keys.{Keys}
 use Rattle.c8_files.specs.declared.settings.Settings.{Settings}
 
 -- the keys of players 2, 3 and 4 to whom none are given, by place: C D E F, 2 5 8 0 and 3 6 9 B
@@ -31,9 +31,9 @@ later_mask settings place = if nat_lt place settings.players then given_or (usua
 abbrev pub keys_of_others : Settings → ℕ
 keys_of_others settings = bit_or (later_mask settings 1) (bit_or (later_mask settings 2) (later_mask settings 3))
 
--- the keys of player 1: those given, else all that no other player has
+-- the keys of player 1: those given, else all that no other player has and that an input has a bit for
 abbrev pub first_mask : Settings → ℕ
-first_mask settings = given_or (bit_not w16 (keys_of_others settings)) (given_at settings 0)
+first_mask settings = given_or (bit_not w16 (keys_of_others settings) % 256 ^ settings.width) (given_at settings 0)
 
 abbrev pub masks_of : Settings → List ℕ
 masks_of settings = first_mask settings ∷ later_mask settings 1 ∷ later_mask settings 2 ∷ later_mask settings 3 ∷ []
@@ -48,6 +48,7 @@ rules_of settings program = record {
   window = settings.window;
   seed = settings.seed;
   wire = settings.wire;
+  width = settings.width;
   masks = masks_of settings;
   program = program;
 }
@@ -62,5 +63,6 @@ usual_settings = record {
   window = 8;
   seed = 0;
   wire = wires.One;
+  width = 2;
   keys = None ∷ None ∷ None ∷ None ∷ [];
 }

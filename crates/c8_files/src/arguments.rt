@@ -4,7 +4,8 @@ use crate::help::GAME_ENDING;
 use crate::keys::keys_of;
 use crate::settings::Settings;
 use c8_command::{Argument, Form, Outline};
-use c8_game::{Keys, MOST_PLAYERS, Player, WireVersion};
+use c8_game::{MOST_PLAYERS, Player, WireVersion};
+use c8_machine::Keys;
 use clap::ArgMatches;
 use clap::builder::ValueParser;
 
@@ -62,9 +63,16 @@ pub static GAME: Outline = Outline {
         },
         Argument {
             name: "wire",
-            help: "The version of the datagrams, 1 or 2",
-            value: Some(ValueParser::Signed(1, 2)),
+            help: "The version of the datagrams, 1 to 3",
+            value: Some(ValueParser::Signed(1, 3)),
             default: Some("1"),
+            ..Argument::NUMBER
+        },
+        Argument {
+            name: "input",
+            help: "Bytes of an input, 1 to 8; other than 2 with --wire 3 alone",
+            value: Some(ValueParser::Signed(1, 8)),
+            default: Some("2"),
             ..Argument::NUMBER
         },
         Argument {
@@ -82,24 +90,45 @@ pub static GAME: Outline = Outline {
     ],
 };
 
-/// The settings that a parsed command line asks for; the parser has checked the ranges. `None` if a `--keys` is not
-/// `N=LIST`, or if two are for one player.
-pub(crate) fn settings_of(given: &ArgMatches<'_>) -> Option<Settings> {
+/// The mistake of a `--keys` that is not as it should be.
+const NO_KEYS: &str =
+    "--keys takes N=LIST: a player from 1 to 4, once each, and hexadecimal digits of keys";
+
+/// The mistake of a width that only games of wire version 3 have.
+const NO_WIDTH: &str = "--input takes another number than 2 with --wire 3 alone";
+
+/// Returns the settings that a parsed command line asks for; the parser has checked the ranges. The error is the sentence
+/// of the mistake: a `--keys` is not `N=LIST`, or two are for one player; or `--input` is not 2, and `--wire` not 3.
+pub(crate) fn settings_of(given: &ArgMatches<'_>) -> Result<Settings, &'static str> {
     let usual = Settings::usual();
-    let wire = match given.get_one::<u8>("wire") {
-        Some(2) => WireVersion::Two,
-        _ => WireVersion::One,
+    let Some(keys) = keys_given(given.get_strs("keys").unwrap_or(&[])) else {
+        return Err(NO_KEYS);
     };
-    Some(Settings {
+    let settings = Settings {
         players: given.get_one::<u8>("players").unwrap_or(usual.players),
         ipf: given.get_one::<u8>("ipf").unwrap_or(usual.ipf),
         frames: given.get_one::<u32>("frames").unwrap_or(usual.frames),
         delay: given.get_one::<u8>("delay").unwrap_or(usual.delay),
         window: given.get_one::<u8>("window").unwrap_or(usual.window),
         seed: given.get_one::<u64>("seed").unwrap_or(usual.seed),
-        wire,
-        keys: keys_given(given.get_strs("keys").unwrap_or(&[]))?,
-    })
+        wire: wire_of(given.get_one::<u8>("wire").unwrap_or(1)),
+        width: given.get_one::<u8>("input").unwrap_or(usual.width),
+        keys,
+    };
+    if settings.is_early() {
+        Err(NO_WIDTH)
+    } else {
+        Ok(settings)
+    }
+}
+
+/// Returns the wire version with a number; the first one for any other number.
+fn wire_of(number: u8) -> WireVersion {
+    match number {
+        2 => WireVersion::Two,
+        3 => WireVersion::Three,
+        _ => WireVersion::One,
+    }
 }
 
 /// The keys of each player to whom words `N=LIST` give some. `None` if a word is not so, or if two are for one player.

@@ -11,7 +11,7 @@ use std::rt::Files;
 use std::{fs, io};
 
 /// The random numbers of the system.
-const RANDOM: &str = "/dev/urandom";
+pub const RANDOM: &str = "/dev/urandom";
 
 const ENDING: &str = "\
 The players of a match share one secret, each in a file that nobody else may read:

@@ -12,9 +12,10 @@ use thiserror::Error;
 /// `Twice` that applies. Numbers and names are those of the same fault in a game text.
 #[derive(Clone, Copy, Debug, PartialEq, Eq, Hash, Error)]
 pub enum ProgramError {
-    /// A number is outside its range, the program has more than 3584 bytes, or keys are given for a player who is not
-    /// in the game.
-    #[error("more than 3584 bytes, a number out of range, or keys for an absent player")]
+    /// A number is outside its range, the program has more than 3584 bytes, keys are given for a player who is not in the
+    /// game, a player has a key that inputs have no bit for, or inputs have another width than 2 bytes and the wire
+    /// version is not 3.
+    #[error("more than 3584 bytes, a number out of range, keys for an absent player, or a key that inputs have no bit for")]
     Range,
     /// The program has no byte.
     #[error("a program without a byte")]

@@ -39,10 +39,12 @@ pub fn game_given<R, W: Write, E: Write>(
 where
     R: Files + AllocGlobal,
 {
-    let Some(settings) = settings_of(given) else {
-        let form = "N=LIST: a player from 1 to 4, once each, and hexadecimal digits of keys";
-        writeln!(refused, "error: --keys takes {form}")?;
-        return Ok(Status::CommandLine);
+    let settings = match settings_of(given) {
+        Ok(settings) => settings,
+        Err(mistake) => {
+            writeln!(refused, "error: {mistake}")?;
+            return Ok(Status::CommandLine);
+        }
     };
     let (file, explain) = (word_of(given, "FILE"), is_explained(given));
     match read_file(rt, file) {

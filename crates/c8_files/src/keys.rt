@@ -4,7 +4,7 @@ ghost use Rattle.std.specs.List.{list_all};
 ghost use Rattle.hex.specs.Hex.{hex_digit_value, is_hex_digit};
 ghost use Rattle.c8_files.specs.KeyLists.{AreKeysOf};
 
-use c8_game::Keys;
+use c8_machine::Keys;
 
 /// Reads a key set from the hexadecimal digits of its keys, in either case and any order, as `147a`. None if the text
 /// has anything else. An empty text gives no keys.

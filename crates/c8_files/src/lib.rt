@@ -6,7 +6,7 @@
 //!
 //! [`secret_in`] reads a secret from a file, [`make_secret`] and [`write_secret`] make one; [`warn_of_readers`] says if
 //! others may read or write it. The command `secret` prints a new one. No message shows a digit of a secret. A match card is a
-//! game's text whose comments say where its match is ([`on_card`]).
+//! game's text whose comments say where its match is ([`card_in`]). [`drawn_life`] draws the number of a new journal.
 //!
 //! Games of binary programs, and the command `game`: a program's bytes, and the numbers and key sets that players agree
 //! on, become the text of a game.
@@ -27,6 +27,7 @@ mod help;
 mod journal;
 mod keys;
 pub mod laws;
+mod life;
 mod listing;
 mod medium;
 mod secrets;
@@ -35,13 +36,16 @@ mod syncs;
 mod text;
 
 pub use arguments::GAME;
-pub use card::{CARD_HOST, CARD_RELAY, CARD_ROOM, CARD_SECRET, first_behind, on_card};
-pub use command::{SECRET, random_bytes, secret_given};
+pub use card::{
+    CARD_HOST, CARD_RELAY, CARD_ROOM, CARD_SEAT, CARD_SECRET, Card, card_in, first_behind, on_card,
+};
+pub use command::{RANDOM, SECRET, random_bytes, secret_given};
 pub use error::ProgramError;
 pub use file::{IS_TEXT, NO_TEXT, is_binary, is_program, is_text, text_of};
 pub use game_command::{game_given, list, make};
-pub use journal::JournalDisk;
+pub use journal::{JournalDisk, JournalFault};
 pub use keys::keys_of;
+pub use life::{drawn_life, millis};
 pub use listing::write_listing;
 pub use medium::{Medium, Trouble};
 pub use secrets::{SecretFault, make_secret, secret_in, warn_of_readers, write_card, write_secret};

@@ -22,9 +22,14 @@ const SYNCS_OF_FRAME: u32 = 4;
 /// How many frames a second has.
 const RATE: u32 = 60;
 
-/// Writes a line to `out` if the disk of a journal is too slow for a match of two at sixty frames a second. The error
-/// is the writer's.
-pub fn warn_of_a_slow_disk<R, E>(rt: &R, journal: &str, out: &mut E) -> io::Result<()>
+/// Writes a line to `out` if the disk of a journal is too slow for a match of two at sixty frames a second. `without` is the word
+/// or the option that plays without a journal. The error is the writer's.
+pub fn warn_of_a_slow_disk<R, E>(
+    rt: &R,
+    journal: &str,
+    without: &str,
+    out: &mut E,
+) -> io::Result<()>
 where
     R: Files<File = File> + Clock,
     E: Write,
@@ -34,7 +39,7 @@ where
     {
         writeln!(
             out,
-            "this disk needs {millis} ms a frame: frames will be late; '-' plays without a journal"
+            "this disk needs {millis} ms a frame: frames will be late; {without} plays without a journal"
         )?;
     }
     Ok(())

@@ -1,6 +1,5 @@
 //! The game text of a program.
-ghost use Rattle.std.specs.Prelude.{◌≡◌, ◌≤◌, ◌<◌, ◌++◌, ◌∷◌, ◌⊎◌, ◌^◌, ℕ, List, [], None, IfOk, IfErr, OnOk, IsTrue, length};
-ghost use Rattle.c8_game.specs.Fields.{is_mask};
+ghost use Rattle.std.specs.Prelude.{◌≡◌, ◌≤◌, ◌<◌, ◌++◌, ◌∷◌, ◌⊎◌, ◌^◌, ℕ, List, [], None, IfOk, IfErr, OnOk, length};
 ghost use Rattle.c8_game.specs.GameText.{Spells};
 ghost use Rattle.c8_files.specs.Asked.{rules_of, usual_settings};
 ghost use Rattle.c8_files.specs.Faults.{fault_of};
@@ -80,6 +79,7 @@ pub fn usual_game(alloc: Global, program: &[u8]) -> Result<Game, ProgramError>
 
 /// Adds a line for each field of the game.
 fn add_fields(alloc: Global, text: &mut Vec<u8>, settings: &Settings) -> Result<(), AllocError>
+    requires { settings.now.width ≤ 8 }
     ensures { OnOk result
         (text.new.items ≡ text.old.items ++ fields_text (rules_of settings.now [])) }
 {
@@ -89,30 +89,35 @@ fn add_fields(alloc: Global, text: &mut Vec<u8>, settings: &Settings) -> Result<
     Ok(())
 }
 
-/// Adds a field's line; none for the mask of a player who is not in the game.
+/// Adds a field's line; none for the mask of a player who is not in the game, and none for a field that the wire version
+/// does not have.
 fn add_field(
     alloc: Global,
     text: &mut Vec<u8>,
     settings: &Settings,
     field: Field,
 ) -> Result<(), AllocError>
+    requires { settings.now.width ≤ 8 }
     ensures { OnOk result
         (text.new.items ≡ text.old.items ++ field_text (rules_of settings.now []) field) }
 {
-    if field.owner() > u64::from(settings.players) {
+    if field.owner() > u64::from(settings.players)
+        || field.since() > u64::from(settings.wire.number())
+    {
         return Ok(());
     }
-    let value = value_of(alloc, field, settings.number(field))?;
+    let value = value_of(alloc, settings.width, field, settings.number(field))?;
     add_line(text, field.word(), &value)
 }
 
-/// Spells the number of a field: a mask by four hexadecimal digits, any other in decimal.
-fn value_of(alloc: Global, field: Field, number: u64) -> Result<Vec<u8>, AllocError>
-    requires { IsTrue (is_mask field) → number < 65536 }
-    ensures { IfOk result (λ value. value.items ≡ value_text field number) }
+/// Spells the number of a field: a mask by two hexadecimal digits for each byte of an input, any other in decimal.
+fn value_of(alloc: Global, width: u8, field: Field, number: u64) -> Result<Vec<u8>, AllocError>
+    requires { width ≤ 8 }
+    ensures { IfOk result (λ value. value.items ≡ value_text width field number) }
 {
     if field.is_mask() {
-        let digits = hex::encode(alloc, (number as u16).to_be_bytes())?;
+        let bytes = number.to_be_bytes();
+        let digits = hex::encode(alloc, &bytes[8 - usize::from(width)..])?;
         Vec::from_slice(alloc, digits.as_bytes())
     } else {
         Vec::from_slice(alloc, Buffer::new().format(number).as_bytes())

@@ -1,11 +1,12 @@
 -- How one more line changes a draft.
-use Rattle.std.proofs.Common.{◌≡◌, ℕ, ◌⊎◌, Bool, true, false, not, cond, length, List, [], ◌∷◌, ◌++◌, Option, Some, None, Result, Ok, Err}
+use Rattle.std.proofs.Common.{◌≡◌, ℕ, zero, suc, ◌^◌, ◌⊎◌, Bool, true, false, not, cond, length, List, [], ◌∷◌, ◌++◌, Option, Some, None}
+use Rattle.std.proofs.Common.{Result, Ok, Err}
 use Rattle.std.proofs.Common.{refl, ap, sym, ◌∙◌, inl, inr, ◌&&◌, ◌||◌, ◌==◌, ◌<◌, ◌≤◌, nat_lt, get_or, arith}
 use Rattle.std.specs.Prelude.{slice_set, codes, MatchResult, OnOk, IfErr, is_ok, is_some, is_none, nat_le, slice_index, unwrap_or}
 use Rattle.std.specs.List.{list_any, AllZip}
 use Rattle.std.specs.Result.{result_unwrap_or}
 use Rattle.std.specs.Str.{bytes_eq}
-use Rattle.std.proofs.lemmas.Bool.{cases_Bool, cases_eq, both_ways, false_from_ne_true, eq-eqb, ne_eqb, eqb-false, or_right, and_from}
+use Rattle.std.proofs.lemmas.Bool.{cases_Bool, cases_eq, both_ways, false_from_ne_true, eq-eqb, ne_eqb, eqb-false, or_left, or_right, and_from}
 use Rattle.std.proofs.lemmas.Bool.{lt-ltb, le-ltb, le-leb, ltb-true, ltb-false}
 use Rattle.std.proofs.lemmas.List.Folds.{list_any_at}
 use Rattle.std.proofs.lemmas.List.Concat.{flat_map-append}
@@ -15,11 +16,15 @@ use Rattle.c8_game.specs.declared.error.GameError.{GameError}
 use Rattle.c8_game.specs.declared.error.GameError.TheVariants.{Memory, Hex, Missing, Range}
 use Rattle.c8_game.specs.declared.text.draft.Draft.{Draft}
 use Rattle.c8_game.specs.declared.text.field.Field.{Field}
-use Rattle.c8_game.specs.declared.text.field.Field.TheVariants.{Players, Ipf, Frames, Delay, Window, Seed, Wire, Mask1, Mask2, Mask3, Mask4}
-use Rattle.c8_game.specs.Fields.{fields, owner_of, default_of, field_named, number_of}
+use Rattle.c8_game.specs.declared.text.field.Field.TheVariants.{Players, Ipf, Frames, Delay, Window, Seed, Wire, InputWidth, Mask1, Mask2}
+use Rattle.c8_game.specs.declared.text.field.Field.TheVariants.{Mask3, Mask4}
+use Rattle.std.proofs.Math.Nat.{one-le-pow}
+use Rattle.c8_game.specs.Inputs.{Fits}
+use Rattle.c8_game.specs.checked.FaultLaws.{none_or_some}
+use Rattle.c8_game.specs.Fields.{fields, owner_of, is_mask, since_of, default_of, field_named, number_of}
 use Rattle.c8_game.specs.GameText.{Item, Blank, Number, Code, Says, is_skipped, number_in, numbers_for, code_in, code_of, rule_of, Tell, Give}
 use Rattle.c8_game.specs.GameFaults.{is_name_and_value, name_in, value_in, names, is_told, field_fault, named_fault, code_fault, line_fault}
-use Rattle.c8_game.specs.GameFaults.{players_in, is_lacking, is_stray, end_fault}
+use Rattle.c8_game.specs.GameFaults.{players_in, version_in, is_lacking, is_stray, end_fault}
 use Rattle.c8_game.specs.checked.Draft.{Holds, AddsLine, AreFirst, first_for}
 use Rattle.c8_game.specs.Rules.{Rules, most_program}
 use Rattle.c8_game.specs.checked.Places.{index_of, number_at, untold_number, told_by, listed}
@@ -45,7 +50,7 @@ code_stays items item none = sym (code_more items item ∙ ap (λ more. code_of 
 
 pub blank_line : (draft : Draft) (line : List ℕ) → is_skipped line ≡ true → AddsLine draft draft line (Ok tt)
 blank_line draft line skipped before items says holds = (
-  fault_blank before line skipped,
+  fault_blank draft.width.bytes before line skipped,
   (
     Blank,
     skipped,
@@ -60,13 +65,14 @@ pub ok_unwrapped : {E : Type 0} (r : Result (List ℕ) E) → is_ok r ≡ true �
 ok_unwrapped (Ok bytes) good = refl
 ok_unwrapped (Err e) good = absurd (cc)
 
-pub fault_coded : (before : List (List ℕ)) (line : List ℕ) → is_skipped line ≡ false → is_name_and_value line ≡ true
-    → bytes_eq (name_in line) (codes "code") ≡ true → line_fault before line ≡ code_fault (value_in line)
-fault_coded before line said shaped coded = rw (said, shaped, coded) refl
+pub fault_coded : (width : ℕ) (before : List (List ℕ)) (line : List ℕ) → is_skipped line ≡ false → is_name_and_value line ≡ true
+    → bytes_eq (name_in line) (codes "code") ≡ true → line_fault width before line ≡ code_fault (value_in line)
+fault_coded width before line said shaped coded = rw (said, shaped, coded) refl
 
-pub fault_named : (before : List (List ℕ)) (line : List ℕ) → is_skipped line ≡ false → is_name_and_value line ≡ true
-    → bytes_eq (name_in line) (codes "code") ≡ false → line_fault before line ≡ named_fault before (field_named (name_in line)) (value_in line)
-fault_named before line said shaped uncoded = rw (said, shaped, uncoded) refl
+pub fault_named : (width : ℕ) (before : List (List ℕ)) (line : List ℕ) → is_skipped line ≡ false → is_name_and_value line ≡ true
+    → bytes_eq (name_in line) (codes "code") ≡ false → line_fault width before line
+    ≡ named_fault width before (field_named (name_in line)) (value_in line)
+fault_named width before line said shaped uncoded = rw (said, shaped, uncoded) refl
 
 pub coded_line : (old new : Draft) (line : List ℕ) (result : Result (Unit {0}) GameError) → is_skipped line ≡ false
     → is_name_and_value line ≡ true → bytes_eq (name_in line) (codes "code") ≡ true
@@ -75,10 +81,10 @@ pub coded_line : (old new : Draft) (line : List ℕ) (result : Result (Unit {0})
     → IfErr result (λ e. (e ≡ Memory) ⊎ ((is_ok (decode_of (value_in line)) ≡ false) × (e ≡ Hex))) → AddsLine old new line result
 coded_line old new line (Ok u) said shaped coded good longer same fault before items says holds =
     let bytes : List ℕ = result_unwrap_or (decode_of (value_in line)) [] in (
-      fault_coded before line said shaped coded ∙ rw good refl,
+      fault_coded old.width.bytes before line said shaped coded ∙ rw good refl,
       (
         Code bytes,
-        says_code line bytes shaped coded (ok_unwrapped (decode_of (value_in line)) good),
+        says_code old.width.bytes line bytes shaped coded (ok_unwrapped (decode_of (value_in line)) good),
         record {
           numbers = λ field. numbers_stay field items (Code bytes) refl ∙ holds.numbers field
               ∙ ap (λ values. listed (number_at values field)) (sym same);
@@ -89,7 +95,7 @@ coded_line old new line (Ok u) said shaped coded good longer same fault before i
 coded_line old new line (Err e) said shaped coded good longer same fault before items says holds =
     elim fault [
       | inl memory ↦ inl memory
-      | inr bad ↦ inr (fault_coded before line said shaped coded ∙ rw (bad.0, bad.1) refl)
+      | inr bad ↦ inr (fault_coded old.width.bytes before line said shaped coded ∙ rw (bad.0, bad.1) refl)
     ]
 
 some_listed : (value : Option ℕ) → is_some value ≡ nat_lt 0 (length (listed value))
@@ -101,22 +107,24 @@ none_listed None none = refl
 none_listed (Some number) none = absurd (cc)
 
 -- an earlier line names the field exactly if the draft has a number for it
-named_before : (draft : Draft) (field : Field) (before : List (List ℕ)) (items : List Item) → AllZip Says before items → Holds draft items
+named_before : (draft : Draft) (field : Field) (before : List (List ℕ)) (items : List Item) → AllZip (Says draft.width.bytes) before items
+    → Holds draft items
     → list_any (names field) before ≡ is_some (number_at draft.values field)
 named_before draft field before items says holds =
-    named_told field before items says ∙ ap (λ numbers. nat_lt 0 (length numbers)) (holds.numbers field)
+    named_told draft.width.bytes field before items says ∙ ap (λ numbers. nat_lt 0 (length numbers)) (holds.numbers field)
     ∙ sym (some_listed (number_at draft.values field))
 
-fault_of_field : (draft : Draft) (before : List (List ℕ)) (items : List Item) (line : List ℕ) (field : Field) → AllZip Says before items
+fault_of_field : (draft : Draft) (before : List (List ℕ)) (items : List Item) (line : List ℕ) (field : Field)
+    → AllZip (Says draft.width.bytes) before items
     → Holds draft items → is_skipped line ≡ false → is_name_and_value line ≡ true
     → bytes_eq (name_in line) (codes "code") ≡ false → field_named (name_in line) ≡ Some field
-    → line_fault before line ≡ field_fault field (is_some (number_at draft.values field)) (value_in line)
+    → line_fault draft.width.bytes before line ≡ field_fault draft.width.bytes field (is_some (number_at draft.values field)) (value_in line)
 fault_of_field draft before items line field says holds said shaped uncoded named =
-    fault_named before line said shaped uncoded ∙ ap (λ found. named_fault before found (value_in line)) named
-    ∙ ap (λ again. field_fault field again (value_in line)) (named_before draft field before items says holds)
+    fault_named draft.width.bytes before line said shaped uncoded ∙ ap (λ found. named_fault draft.width.bytes before found (value_in line)) named
+    ∙ ap (λ again. field_fault draft.width.bytes field again (value_in line)) (named_before draft field before items says holds)
 
 -- the field has its first number now, and the others keep theirs
-number_more : (old new : Draft) (items : List Item) (field : Field) (number : ℕ) → length old.values ≡ 11 → Holds old items
+number_more : (old new : Draft) (items : List Item) (field : Field) (number : ℕ) → length old.values ≡ 12 → Holds old items
     → is_some (number_at old.values field) ≡ false
     → new.values ≡ slice_set old.values (index_of field) (Some number) → new.program.items ≡ old.program.items
     → Holds new (items ++ Number field number ∷ [])
@@ -134,16 +142,16 @@ number_more old new items field number size holds fresh set same = record {
   program = same ∙ holds.program ∙ code_stays items (Number field number) refl;
 }
 
-pub named_line : (old new : Draft) (line : List ℕ) (field : Field) (result : Result (Unit {0}) GameError) → length old.values ≡ 11
+pub named_line : (old new : Draft) (line : List ℕ) (field : Field) (result : Result (Unit {0}) GameError) → length old.values ≡ 12
     → is_skipped line ≡ false → is_name_and_value line ≡ true
     → bytes_eq (name_in line) (codes "code") ≡ false → field_named (name_in line) ≡ Some field
-    → MatchResult result (λ _. field_fault field (is_some (number_at old.values field)) (value_in line) ≡ None)
-    (λ e. field_fault field (is_some (number_at old.values field)) (value_in line) ≡ Some e)
-    → OnOk result (new.values ≡ slice_set old.values (index_of field) (Some (number_of field (value_in line))))
+    → MatchResult result (λ _. field_fault old.width.bytes field (is_some (number_at old.values field)) (value_in line) ≡ None)
+    (λ e. field_fault old.width.bytes field (is_some (number_at old.values field)) (value_in line) ≡ Some e)
+    → OnOk result (new.values ≡ slice_set old.values (index_of field) (Some (number_of old.width.bytes field (value_in line))))
     → OnOk result (new.program.items ≡ old.program.items) → AddsLine old new line result
 named_line old new line field (Ok u) size said shaped uncoded named fault set same before items says holds =
-    let number = number_of field (value_in line) in
-    let meant = says_number line field (is_some (number_at old.values field)) shaped named fault in (
+    let number = number_of old.width.bytes field (value_in line) in
+    let meant = says_number old.width.bytes line field (is_some (number_at old.values field)) shaped named fault in (
       fault_of_field old before items line field says holds said shaped uncoded named ∙ fault,
       (Number field number, meant.0, number_more old new items field number size holds meant.1 set same),
     )
@@ -191,12 +199,21 @@ lacks_same draft items players holds told =
     (told ∙ first_same draft items holds Players)
     ∙ ap (λ some. nat_le (owner_of field) (players_in items) && is_none (default_of field) && not some) (sym (told_same draft items field holds)))
 
+-- what a draft finds of a field that its game may not have
+abbrev pub is_stray_at : Draft → ℕ → Field → Bool
+is_stray_at draft players field = (nat_lt players (owner_of field) || nat_lt (told_by draft.values Wire) (since_of field))
+    && is_some (number_at draft.values field)
+
 strays_same : (draft : Draft) (items : List Item) (players : ℕ) → Holds draft items → players ≡ told_by draft.values Players
-    → list_any (λ field. nat_lt players (owner_of field) && is_some (number_at draft.values field)) fields ≡ list_any (is_stray items) fields
+    → list_any (λ field. is_stray_at draft players field) fields ≡ list_any (is_stray items) fields
 strays_same draft items players holds told =
-    any_same (λ field. nat_lt players (owner_of field) && is_some (number_at draft.values field)) (is_stray items) fields (λ field.
-    ap (λ count. nat_lt count (owner_of field) && is_some (number_at draft.values field)) (told ∙ first_same draft items holds Players)
-    ∙ ap (λ some. nat_lt (players_in items) (owner_of field) && some) (sym (told_same draft items field holds)))
+    any_same (λ field. is_stray_at draft players field) (is_stray items) fields (λ field.
+    ap (λ count. (nat_lt count (owner_of field) || nat_lt (told_by draft.values Wire) (since_of field)) && is_some (number_at draft.values field))
+    (told ∙ first_same draft items holds Players)
+    ∙ ap (λ version. (nat_lt (players_in items) (owner_of field) || nat_lt version (since_of field)) && is_some (number_at draft.values field))
+    (first_same draft items holds Wire)
+    ∙ ap (λ some. (nat_lt (players_in items) (owner_of field) || nat_lt (version_in items) (since_of field)) && some)
+    (sym (told_same draft items field holds)))
 
 size_same : (draft : Draft) (items : List Item) → Holds draft items → length draft.program.items ≡ length (code_of items)
 size_same draft items holds = ap length holds.program
@@ -216,7 +233,7 @@ pub finds_range : (draft : Draft) (items : List Item) (players : ℕ) (lacks str
     → lacks ≡ list_any (λ field. nat_le (owner_of field) players && is_none (default_of field) && not
     (is_some (number_at draft.values field))) fields → lacks ≡ false → 0 < length draft.program.items
     → (most_program < length draft.program.items)
-    ⊎ ((strays ≡ list_any (λ field. nat_lt players (owner_of field) && is_some (number_at draft.values field)) fields) × (strays ≡ true))
+    ⊎ ((strays ≡ list_any (λ field. is_stray_at draft players field) fields) × (strays ≡ true))
     → end_fault items ≡ Some Range
 finds_range draft items players lacks strays holds told is none some either =
     let lacking : list_any (is_lacking items) fields ≡ false = sym (lacks_same draft items players holds told) ∙ sym is ∙ none in
@@ -234,7 +251,7 @@ pub finds_none : (draft : Draft) (items : List Item) (players : ℕ) (lacks stra
     → lacks ≡ list_any (λ field. nat_le (owner_of field) players && is_none (default_of field) && not
     (is_some (number_at draft.values field))) fields → lacks ≡ false → 0 < length draft.program.items
     → length draft.program.items ≤ most_program
-    → strays ≡ list_any (λ field. nat_lt players (owner_of field) && is_some (number_at draft.values field)) fields → strays ≡ false
+    → strays ≡ list_any (λ field. is_stray_at draft players field) fields → strays ≡ false
     → end_fault items ≡ None
 finds_none draft items players lacks strays holds told is none some fits stray straight =
     let lacking : list_any (is_lacking items) fields ≡ false = sym (lacks_same draft items players holds told) ∙ sym is ∙ none in
@@ -273,6 +290,7 @@ listed_at Delay = refl
 listed_at Window = refl
 listed_at Seed = refl
 listed_at Wire = refl
+listed_at InputWidth = refl
 listed_at Mask1 = refl
 listed_at Mask2 = refl
 listed_at Mask3 = refl
@@ -301,6 +319,7 @@ rule_first items rules are Delay = sym are.delay
 rule_first items rules are Window = sym are.window
 rule_first items rules are Seed = sym are.seed
 rule_first items rules are Wire = sym are.wire
+rule_first items rules are InputWidth = sym are.width
 rule_first items rules are Mask1 = sym (ap (λ masks. slice_index masks 0) are.masks)
 rule_first items rules are Mask2 = sym (ap (λ masks. slice_index masks 1) are.masks)
 rule_first items rules are Mask3 = sym (ap (λ masks. slice_index masks 2) are.masks)
@@ -327,6 +346,7 @@ untold_mask Delay mask = refl
 untold_mask Window mask = refl
 untold_mask Seed mask = refl
 untold_mask Wire mask = absurd (omega arith)
+untold_mask InputWidth mask = absurd (omega arith)
 untold_mask Mask1 mask = refl
 untold_mask Mask2 mask = refl
 untold_mask Mask3 mask = refl
@@ -346,10 +366,20 @@ tells_rule items rules field are once fine there =
           inr (none, default ∙ ap Some (sym (first_untold items field none) ∙ rule_first items rules are field))
     ]
 
-stray_untold : (owner players : ℕ) (told : Bool) → nat_lt players owner && told ≡ false → players < owner → told ≡ false
-stray_untold owner players told straying beyond =
-    false_from_ne_true told (λ is. both_ways (nat_lt players owner && told) straying
-    (and_from (nat_lt players owner) told (lt-ltb players owner beyond) is))
+stray_untold : (bad told : Bool) → bad && told ≡ false → bad ≡ true → told ≡ false
+stray_untold bad told straying is = false_from_ne_true told (λ there. both_ways (bad && told) straying (and_from bad told is there))
+
+beyond_untold : (items : List Item) (field : Field) → is_stray items field ≡ false → players_in items < owner_of field → is_told items field ≡ false
+beyond_untold items field fine beyond =
+    stray_untold (nat_lt (players_in items) (owner_of field) || nat_lt (version_in items) (since_of field)) (is_told items field) fine
+    (or_left (nat_lt (players_in items) (owner_of field)) (nat_lt (version_in items) (since_of field))
+    (lt-ltb (players_in items) (owner_of field) beyond))
+
+early_untold : (items : List Item) (field : Field) → is_stray items field ≡ false → version_in items < since_of field → is_told items field ≡ false
+early_untold items field fine early =
+    stray_untold (nat_lt (players_in items) (owner_of field) || nat_lt (version_in items) (since_of field)) (is_told items field) fine
+    (or_right (nat_lt (players_in items) (owner_of field)) (nat_lt (version_in items) (since_of field))
+    (lt-ltb (version_in items) (since_of field) early))
 
 pub gives_rules : (items : List Item) (rules : Rules) → AreOnce items → end_fault items ≡ None → AreFirst items rules → Give items rules
 gives_rules items rules once fine are =
@@ -360,12 +390,93 @@ gives_rules items rules once fine are =
     record {
       once = λ field there. tells_rule items rules field are (once field) (fails_each (is_lacking items) tests.0 field) (omega (arith, are.players));
       nowhere = λ field beyond.
-          let untold = stray_untold (owner_of field) (players_in items) (is_told items field) (fails_each (is_stray items) tests.3 field)
-          (omega (arith, are.players)) in
+          let untold = beyond_untold items field (fails_each (is_stray items) tests.3 field) (omega (arith, are.players)) in
           let none = none_of (numbers_for field items) untold in
           (none, sym (rule_first items rules are field) ∙ first_untold items field none ∙ untold_mask field (omega arith));
+      early = λ field early. none_of (numbers_for field items)
+          (early_untold items field (fails_each (is_stray items) tests.3 field) (omega (arith, are.wire)));
       masks = ap length are.masks;
       program = are.program;
       some_code = omega (arith, ap length are.program, some);
       most_code = omega (arith, ap length are.program);
     }
+
+-- ---- the width of a game
+
+unsome : (value : Option ℕ) → is_some value ≡ false → unwrap_or value 2 ≡ 2
+unsome None none = refl
+unsome (Some number) none = absurd (cc)
+
+-- a game of an early version has inputs of 2 bytes
+pub early_width : (draft : Draft) (players : ℕ) → list_any (λ field. is_stray_at draft players field) fields ≡ false
+    → told_by draft.values Wire < 3 → told_by draft.values InputWidth ≡ 2
+early_width draft players none early =
+    let untold = stray_untold (nat_lt players 0 || nat_lt (told_by draft.values Wire) 3) (is_some (number_at draft.values InputWidth))
+    (fails_each (λ field. is_stray_at draft players field) none InputWidth)
+    (or_right (nat_lt players 0) (nat_lt (told_by draft.values Wire) 3) (lt-ltb (told_by draft.values Wire) 3 early)) in
+    unsome (number_at draft.values InputWidth) untold
+
+-- ---- the masks of a game
+
+one_or_more : (width : ℕ) → 0 < 256 ^ width
+one_or_more width = let some = one-le-pow width 256 (omega arith) in omega arith
+
+-- the mask that a draft has for a player fits the width
+pub told_fits : (draft : Draft) (field : Field) → is_mask field ≡ true → (number : ℕ) → number ≡ told_by draft.values field
+    → Fits draft.width.bytes number
+told_fits draft field mask number told =
+    elim (none_or_some (number_at draft.values field)) [
+      | inl none ↦ let zero : number ≡ 0 = told ∙ ap (λ value. unwrap_or value (untold_number field)) none
+          ∙ untold_mask field (ltb-true 0 (owner_of field) mask) in omega (arith, zero, one_or_more draft.width.bytes)
+      | inr some ↦ let is : number ≡ some.0 = told ∙ ap (λ value. unwrap_or value (untold_number field)) some.1 in
+          omega (arith, is, draft.masks field mask some.0 some.1)
+    ]
+
+pub four_fit : (width one two three four : ℕ) → Fits width one → Fits width two → Fits width three → Fits width four → (place : ℕ)
+    → Fits width (slice_index (one ∷ two ∷ three ∷ four ∷ []) place)
+four_fit width one two three four a b c d zero = a
+four_fit width one two three four a b c d (suc zero) = b
+four_fit width one two three four a b c d (suc (suc zero)) = c
+four_fit width one two three four a b c d (suc (suc (suc zero))) = d
+four_fit width one two three four a b c d (suc (suc (suc (suc place)))) = one_or_more width
+
+-- ---- the ranges of a game
+
+-- a field that each game needs has a number
+pub needed_told : (draft : Draft) (players : ℕ)
+    → list_any (λ field. nat_le (owner_of field) players && is_none (default_of field) && not (is_some (number_at draft.values field))) fields ≡ false
+    → (field : Field) → owner_of field ≤ players → is_none (default_of field) ≡ true → is_some (number_at draft.values field) ≡ true
+needed_told draft players none field there needed =
+    elim (cases_Bool (is_some (number_at draft.values field))) [
+      | inl told ↦ told
+      | inr untold ↦ absurd (both_ways (nat_le (owner_of field) players && is_none (default_of field) && not (is_some (number_at draft.values field)))
+          (fails_each (λ f. nat_le (owner_of f) players && is_none (default_of f) && not (is_some (number_at draft.values f))) none field)
+          (and_from (nat_le (owner_of field) players && is_none (default_of field)) (not (is_some (number_at draft.values field)))
+          (and_from (nat_le (owner_of field) players) (is_none (default_of field)) (le-leb (owner_of field) players there) needed)
+          (rw untold refl)))
+    ]
+
+unwrapped : (value : Option ℕ) (untold : ℕ) → is_some value ≡ false → unwrap_or value untold ≡ untold
+unwrapped None untold none = refl
+unwrapped (Some number) untold none = absurd (cc)
+
+beyond_zero : (draft : Draft) (players : ℕ) → list_any (λ field. is_stray_at draft players field) fields ≡ false → (field : Field)
+    → players < owner_of field → told_by draft.values field ≡ 0
+beyond_zero draft players none field beyond =
+    let untold = stray_untold (nat_lt players (owner_of field) || nat_lt (told_by draft.values Wire) (since_of field))
+    (is_some (number_at draft.values field)) (fails_each (λ f. is_stray_at draft players f) none field)
+    (or_left (nat_lt players (owner_of field)) (nat_lt (told_by draft.values Wire) (since_of field)) (lt-ltb players (owner_of field) beyond)) in
+    unwrapped (number_at draft.values field) (untold_number field) untold ∙ untold_mask field (omega arith)
+
+-- the mask of a player who is not in the game is 0
+pub absent_masks : (draft : Draft) (players : ℕ) → list_any (λ field. is_stray_at draft players field) fields ≡ false → 2 ≤ players
+    → (masks : List ℕ) → masks ≡ told_by draft.values Mask1 ∷ told_by draft.values Mask2 ∷ told_by draft.values Mask3 ∷ told_by draft.values
+    Mask4 ∷ []
+    → (place : ℕ) → players ≤ place → slice_index masks place ≡ 0
+absent_masks draft players none some masks are zero past = absurd (omega arith)
+absent_masks draft players none some masks are (suc zero) past = absurd (omega arith)
+absent_masks draft players none some masks are (suc (suc zero)) past =
+    ap (λ all. slice_index all 2) are ∙ beyond_zero draft players none Mask3 (omega arith)
+absent_masks draft players none some masks are (suc (suc (suc zero))) past =
+    ap (λ all. slice_index all 3) are ∙ beyond_zero draft players none Mask4 (omega arith)
+absent_masks draft players none some masks are (suc (suc (suc (suc place)))) past = ap (λ all. slice_index all (suc (suc (suc (suc place))))) are

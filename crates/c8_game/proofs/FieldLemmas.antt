@@ -8,14 +8,17 @@ use Rattle.std.specs.List.{find}
 use Rattle.std.specs.Str.{bytes_eq}
 use Rattle.std.specs.Prelude.{slice_set}
 use Rattle.c8_game.specs.declared.text.field.Field.{Field}
-use Rattle.c8_game.specs.declared.text.field.Field.TheVariants.{Players, Ipf, Frames, Delay, Window, Seed, Wire, Mask1, Mask2, Mask3, Mask4}
-use Rattle.c8_game.specs.Fields.{fields, word_of, field_named, is_same, IsWithin}
+use Rattle.c8_game.specs.declared.text.field.Field.TheVariants.{Players, Ipf, Frames, Delay, Window, Seed, Wire, InputWidth, Mask1, Mask2}
+use Rattle.c8_game.specs.declared.text.field.Field.TheVariants.{Mask3, Mask4}
+use Rattle.c8_game.specs.Fields.{fields, word_of, is_mask, field_named, is_same, IsWithin}
+use Rattle.c8_game.specs.Inputs.{Fits}
 use Rattle.c8_game.specs.checked.Places.{index_of, number_at}
 
 field_at : ℕ → Field
 field_at n =
     cond (nat_eq n 0) Players (cond (nat_eq n 1) Ipf (cond (nat_eq n 2) Frames (cond (nat_eq n 3) Delay (cond (nat_eq n 4) Window
-    (cond (nat_eq n 5) Seed (cond (nat_eq n 6) Wire (cond (nat_eq n 7) Mask1 (cond (nat_eq n 8) Mask2 (cond (nat_eq n 9) Mask3 Mask4)))))))))
+    (cond (nat_eq n 5) Seed (cond (nat_eq n 6) Wire (cond (nat_eq n 7) InputWidth (cond (nat_eq n 8) Mask1 (cond (nat_eq n 9) Mask2 (cond
+    (nat_eq n 10) Mask3 Mask4))))))))))
 
 field_at-index : (field : Field) → field_at (index_of field) ≡ field
 unfolding field_at
@@ -26,6 +29,7 @@ field_at-index Delay = refl
 field_at-index Window = refl
 field_at-index Seed = refl
 field_at-index Wire = refl
+field_at-index InputWidth = refl
 field_at-index Mask1 = refl
 field_at-index Mask2 = refl
 field_at-index Mask3 = refl
@@ -34,7 +38,7 @@ field_at-index Mask4 = refl
 pub same_field : (f g : Field) → index_of f ≡ index_of g → f ≡ g
 same_field f g same = sym (field_at-index f) ∙ ap field_at same ∙ field_at-index g
 
-pub index_of-small : (f : Field) → index_of f < 11
+pub index_of-small : (f : Field) → index_of f < 12
 index_of-small Players = omega arith
 index_of-small Ipf = omega arith
 index_of-small Frames = omega arith
@@ -42,13 +46,14 @@ index_of-small Delay = omega arith
 index_of-small Window = omega arith
 index_of-small Seed = omega arith
 index_of-small Wire = omega arith
+index_of-small InputWidth = omega arith
 index_of-small Mask1 = omega arith
 index_of-small Mask2 = omega arith
 index_of-small Mask3 = omega arith
 index_of-small Mask4 = omega arith
 
 -- the field has the number that was set, and the others keep theirs
-pub number_at-set_same : (values : List (Option ℕ)) (field : Field) (number : ℕ) → length values ≡ 11
+pub number_at-set_same : (values : List (Option ℕ)) (field : Field) (number : ℕ) → length values ≡ 12
     → number_at (slice_set values (index_of field) (Some number)) field ≡ Some number
 number_at-set_same values field number size = let within : index_of field < length values = omega (arith, index_of-small field) in
     get_or-set_same values (index_of field) (Some number) None within
@@ -58,7 +63,7 @@ pub number_at-set_other : (values : List (Option ℕ)) (field other : Field) (nu
 number_at-set_other values field other number apart = get_or-set_other values (index_of field) (index_of other) (Some number) None apart
 
 -- all numbers stay in their ranges
-pub ranges_kept : (values : List (Option ℕ)) (field : Field) (number : ℕ) → length values ≡ 11
+pub ranges_kept : (values : List (Option ℕ)) (field : Field) (number : ℕ) → length values ≡ 12
     → ((f : Field) (n : ℕ) → number_at values f ≡ Some n → IsWithin f n) → IsWithin field number → (f : Field) (n : ℕ)
     → number_at (slice_set values (index_of field) (Some number)) f ≡ Some n → IsWithin f n
 ranges_kept values field number size kept within f n has =
@@ -72,6 +77,22 @@ ranges_kept values field number size kept within f n has =
       | inr apart ↦ kept f n (sym (number_at-set_other values field f number apart) ∙ has)
     ]
 
+-- masks stay within the width
+pub masks_kept : (width : ℕ) (values : List (Option ℕ)) (field : Field) (number : ℕ) → length values ≡ 12
+    → ((f : Field) → is_mask f ≡ true → (n : ℕ) → number_at values f ≡ Some n → Fits width n) → (is_mask field ≡ true → Fits width number)
+    → (f : Field) → is_mask f ≡ true → (n : ℕ)
+    → number_at (slice_set values (index_of field) (Some number)) f ≡ Some n → Fits width n
+masks_kept width values field number size kept fits f mask n has =
+    elim (cases_eq (index_of f) (index_of field)) [
+      | inl same ↦ let is : f ≡ field = same_field f field same in
+          let set_here : number_at (slice_set values (index_of field) (Some number)) f ≡ Some number =
+          rw is (number_at-set_same values field number size) in
+          let value : Some number ≡ Some n = sym set_here ∙ has in
+          let number_is : number ≡ n = cc in
+          rw (← number_is) (fits (sym (ap is_mask is) ∙ mask))
+      | inr apart ↦ kept f mask n (sym (number_at-set_other values field f number apart) ∙ has)
+    ]
+
 -- ---- fields and their words
 
 pub named_itself : (field : Field) → field_named (word_of field) ≡ Some field
@@ -82,6 +103,7 @@ named_itself Delay = refl
 named_itself Window = refl
 named_itself Seed = refl
 named_itself Wire = refl
+named_itself InputWidth = refl
 named_itself Mask1 = refl
 named_itself Mask2 = refl
 named_itself Mask3 = refl

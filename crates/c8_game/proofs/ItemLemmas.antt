@@ -1,11 +1,11 @@
 -- What a line says, compared with the name and the value that are read from it.
-use Rattle.std.proofs.Common.{◌≡◌, ℕ, ◌+◌, ◌<◌, Bool, true, false, not, cond, length, List, [], ◌∷◌, ◌++◌, ◌&&◌, ◌||◌, Some, None, Ok, refl}
+use Rattle.std.proofs.Common.{◌≡◌, ℕ, ◌+◌, ◌<◌, inl, inr, Bool, true, false, not, cond, length, List, [], ◌∷◌, ◌++◌, ◌&&◌, ◌||◌, Some, None, Ok, refl}
 use Rattle.std.proofs.Common.{ap, sym, ◌∙◌, arith, add_comm, add-one, take, drop, get_or, length-append}
 use Rattle.std.specs.Prelude.{codes, is_some, nat_lt, nat_le, position}
 use Rattle.std.specs.Char.{is_ascii_digit}
 use Rattle.std.specs.List.{position_or_len, list_any, list_all, AllZip, AllPass}
 use Rattle.std.specs.Str.{bytes_eq}
-use Rattle.std.proofs.lemmas.Bool.{eqb-true, and_parts, or_parts, and_from, or_left, both_ways, false_from_ne_true, lt-ltb, ltb-true}
+use Rattle.std.proofs.lemmas.Bool.{cases_Bool, eqb-true, and_parts, or_parts, and_from, or_left, both_ways, false_from_ne_true, lt-ltb, ltb-true}
 use Rattle.std.proofs.lemmas.Bool.{le-leb, leb-true}
 use Rattle.std.proofs.lemmas.List.Folds.{Any-from_list_any}
 use Rattle.std.proofs.lemmas.List.Sums.{AllPass-from_list_all, split_at_first, passes_at_first}
@@ -13,14 +13,17 @@ use Rattle.std.proofs.lemmas.Slice.Eq.{bytes_eq-Decides}
 use Rattle.hex.specs.Hex.{decode_of, is_hex_digit}
 use Rattle.hex.proofs.HexLemmas.{IsOk-decode_sized, decode_of-ok}
 use Rattle.c8_game.specs.declared.text.field.Field.{Field}
-use Rattle.c8_game.specs.declared.text.field.Field.TheVariants.{Players, Ipf, Frames, Delay, Window, Seed, Wire, Mask1, Mask2, Mask3, Mask4}
-use Rattle.c8_game.specs.Fields.{word_of, is_mask, field_named, is_same, is_number, is_decimal, number_of, IsWithin, least_of, greatest_of}
-use Rattle.c8_game.specs.KeysText.{is_keys_text}
+use Rattle.c8_game.specs.declared.text.field.Field.TheVariants.{Players, Ipf, Frames, Delay, Window, Seed, Wire, InputWidth, Mask1, Mask2}
+use Rattle.c8_game.specs.declared.text.field.Field.TheVariants.{Mask3, Mask4}
+use Rattle.c8_game.specs.Fields.{word_of, is_mask, field_named, is_same, is_number, is_decimal, decimal_number, number_of, IsWithin}
+use Rattle.c8_game.specs.Fields.{least_of, greatest_of}
+use Rattle.c8_game.specs.Inputs.{is_input_text}
 use Rattle.c8_game.specs.GameText.{Item, Blank, Number, Code, Says, is_skipped, number_in, numbers_for}
 use Rattle.c8_game.specs.declared.error.GameError.TheVariants.{Line, Range, Twice, Hex}
-use Rattle.c8_game.proofs.FieldLemmas.{named_itself, named_word}
+use Rattle.c8_game.proofs.FieldLemmas.{named_itself, named_word, same_words}
 use Rattle.c8_game.proofs.LineLemmas.{within_if_some}
 use Rattle.c8_game.specs.GameFaults.{is_space, name_in, value_in, is_name_and_value, names, is_told, is_within, field_fault, named_fault}
+use Rattle.c8_game.specs.GameFaults.{width_for, width_said, width_in}
 use Rattle.c8_game.specs.GameFaults.{code_fault, line_fault}
 
 -- ---- a name, one space and a value
@@ -33,6 +36,7 @@ word_spaceless Delay = refl
 word_spaceless Window = refl
 word_spaceless Seed = refl
 word_spaceless Wire = refl
+word_spaceless InputWidth = refl
 word_spaceless Mask1 = refl
 word_spaceless Mask2 = refl
 word_spaceless Mask3 = refl
@@ -79,10 +83,11 @@ spaceless p value other all =
     let space : any.1 ≡ 32 = eqb-true any.1 32 any.4 in
     both_ways (p 32) other (sym (ap p (any.3 ∙ space)) ∙ all any.0 any.1 any.2))
 
-number_shape : (mask : Bool) (value : List ℕ) → cond mask (is_keys_text value) (is_decimal value) ≡ true
+number_shape : (width : ℕ) (mask : Bool) (value : List ℕ) → 0 < width → cond mask (is_input_text width value) (is_decimal value) ≡ true
     → (0 < length value) × (list_any is_space value ≡ false)
-number_shape true value is = let digits = (IsOk-decode_sized value 2).0 is in (omega (arith, digits.0), spaceless is_hex_digit value refl digits.1)
-number_shape false value is =
+number_shape width true value some is =
+    let digits = (IsOk-decode_sized value width).0 is in (omega (arith, digits.0), spaceless is_hex_digit value refl digits.1)
+number_shape width false value some is =
     let parts = and_parts (nat_lt 0 (length value) && nat_le (length value) 20) (list_all is_ascii_digit value) is in
     let sizes = and_parts (nat_lt 0 (length value)) (nat_le (length value) 20) parts.0 in
     (ltb-true 0 (length value) sizes.0, spaceless is_ascii_digit value refl (AllPass-from_list_all is_ascii_digit value parts.1))
@@ -112,6 +117,7 @@ word_said Delay value = refl
 word_said Window value = refl
 word_said Seed value = refl
 word_said Wire value = refl
+word_said InputWidth value = refl
 word_said Mask1 value = refl
 word_said Mask2 value = refl
 word_said Mask3 value = refl
@@ -125,6 +131,7 @@ word_uncoded Delay = refl
 word_uncoded Window = refl
 word_uncoded Seed = refl
 word_uncoded Wire = refl
+word_uncoded InputWidth = refl
 word_uncoded Mask1 = refl
 word_uncoded Mask2 = refl
 word_uncoded Mask3 = refl
@@ -160,56 +167,60 @@ range_within : (field : Field) (number : ℕ) → is_within field number ≡ tru
 range_within field number lies = let parts = and_parts (nat_le (least_of field) number) (nat_le number (greatest_of field)) lies in
     (leb-true (least_of field) number parts.0, leb-true number (greatest_of field) parts.1)
 
-fault_pair : (before : List (List ℕ)) (name value : List ℕ) → is_skipped (name ++ 32 ∷ value) ≡ false → list_any is_space name ≡ false
+fault_pair : (width : ℕ) (before : List (List ℕ)) (name value : List ℕ) → is_skipped (name ++ 32 ∷ value) ≡ false → list_any is_space name ≡ false
     → (0 < length value) × (list_any is_space value ≡ false)
-    → line_fault before (name ++ 32 ∷ value) ≡ cond (bytes_eq name (codes "code")) (code_fault value) (named_fault before (field_named name) value)
-fault_pair before name value said plain shape =
+    → line_fault width before (name ++ 32 ∷ value) ≡ cond (bytes_eq name (codes "code")) (code_fault value) (named_fault width before
+    (field_named name) value)
+fault_pair width before name value said plain shape =
     rw (said, pair_shaped name value plain shape, name_of name value plain, value_of name value plain) refl
 
-pub fault_number : (before : List (List ℕ)) (line : List ℕ) (field : Field) (number : ℕ) → Says line (Number field number)
-    → line_fault before line ≡ cond (list_any (names field) before) (Some Twice) None
-fault_number before line field number (value, is, spelled, spells, lies) =
-    let within : is_within field (number_of field value) ≡ true = rw spells (within_range field number lies) in
+pub fault_number : (width : ℕ) (before : List (List ℕ)) (line : List ℕ) (field : Field) (number : ℕ) → 0 < width
+    → Says width line (Number field number)
+    → line_fault width before line ≡ cond (list_any (names field) before) (Some Twice) None
+fault_number width before line field number some (value, is, spelled, spells, lies) =
+    let within : is_within field (number_of width field value) ≡ true = rw spells (within_range field number lies) in
     rw (
       is,
-      fault_pair before (word_of field) value (word_said field value) (word_spaceless field)
-          (number_shape (is_mask field) value spelled),
+      fault_pair width before (word_of field) value (word_said field value) (word_spaceless field)
+          (number_shape width (is_mask field) value some spelled),
       word_uncoded field,
       named_itself field,
     )
-    (field_faultless (is_mask field) (is_number field value) (is_within field (number_of field value)) (list_any (names field) before) spelled within)
+    (field_faultless (is_mask field) (is_number width field value) (is_within field (number_of width field value)) (list_any (names field)
+    before) spelled within)
 
-pub fault_code : (before : List (List ℕ)) (line bytes : List ℕ) → Says line (Code bytes) → line_fault before line ≡ None
-fault_code before line bytes (value, is, decoded, some) =
-    let pair : line_fault before (codes "code" ++ 32 ∷ value) ≡ code_fault value =
-    fault_pair before (codes "code") value refl refl (code_shape value bytes decoded some) in
+pub fault_code : (width : ℕ) (before : List (List ℕ)) (line bytes : List ℕ) → Says width line (Code bytes) → line_fault width before line ≡ None
+fault_code width before line bytes (value, is, decoded, some) =
+    let pair : line_fault width before (codes "code" ++ 32 ∷ value) ≡ code_fault value =
+    fault_pair width before (codes "code") value refl refl (code_shape value bytes decoded some) in
     let fine : code_fault value ≡ None = rw decoded refl in
-    ap (line_fault before) is ∙ pair ∙ fine
+    ap (line_fault width before) is ∙ pair ∙ fine
 
-pub fault_blank : (before : List (List ℕ)) (line : List ℕ) → is_skipped line ≡ true → line_fault before line ≡ None
-fault_blank before line skipped = rw skipped refl
+pub fault_blank : (width : ℕ) (before : List (List ℕ)) (line : List ℕ) → is_skipped line ≡ true → line_fault width before line ≡ None
+fault_blank width before line skipped = rw skipped refl
 
 -- ---- what a line without a fault says
 
-pub says_number : (line : List ℕ) (field : Field) (again : Bool) → is_name_and_value line ≡ true → field_named (name_in line) ≡ Some field
-    → field_fault field again (value_in line) ≡ None
-    → Says line (Number field (number_of field (value_in line))) × (again ≡ false)
-says_number line field again shaped named fine =
-    let tests = field_tests (is_mask field) (is_number field (value_in line)) (is_within field (number_of field (value_in line))) again fine in
+pub says_number : (width : ℕ) (line : List ℕ) (field : Field) (again : Bool) → is_name_and_value line ≡ true → field_named (name_in line) ≡ Some field
+    → field_fault width field again (value_in line) ≡ None
+    → Says width line (Number field (number_of width field (value_in line))) × (again ≡ false)
+says_number width line field again shaped named fine =
+    let tests = field_tests (is_mask field) (is_number width field (value_in line)) (is_within field (number_of width field (value_in line)))
+    again fine in
     let word : name_in line ≡ word_of field = named_word (name_in line) field named in (
       (
         value_in line,
         in_two line shaped ∙ ap (λ name. name ++ 32 ∷ value_in line) word,
         tests.0,
         refl,
-        range_within field (number_of field (value_in line)) tests.1,
+        range_within field (number_of width field (value_in line)) tests.1,
       ),
       tests.2,
     )
 
-pub says_code : (line bytes : List ℕ) → is_name_and_value line ≡ true → bytes_eq (name_in line) (codes "code") ≡ true
-    → decode_of (value_in line) ≡ Ok bytes → Says line (Code bytes)
-says_code line bytes shaped coded decoded =
+pub says_code : (width : ℕ) (line bytes : List ℕ) → is_name_and_value line ≡ true → bytes_eq (name_in line) (codes "code") ≡ true
+    → decode_of (value_in line) ≡ Ok bytes → Says width line (Code bytes)
+says_code width line bytes shaped coded decoded =
     let word : name_in line ≡ codes "code" = (bytes_eq-Decides (name_in line) (codes "code")).0 coded in
     let both = (and_parts (is_some (position is_space line) && nat_lt 0 (length (value_in line))) (not (list_any is_space (value_in line)))
     shaped).0 in
@@ -228,6 +239,7 @@ empty_apart Delay = refl
 empty_apart Window = refl
 empty_apart Seed = refl
 empty_apart Wire = refl
+empty_apart InputWidth = refl
 empty_apart Mask1 = refl
 empty_apart Mask2 = refl
 empty_apart Mask3 = refl
@@ -241,6 +253,7 @@ hash_apart Delay more = refl
 hash_apart Window more = refl
 hash_apart Seed more = refl
 hash_apart Wire more = refl
+hash_apart InputWidth more = refl
 hash_apart Mask1 more = refl
 hash_apart Mask2 more = refl
 hash_apart Mask3 more = refl
@@ -259,11 +272,12 @@ is_some_number : (same : Bool) (number : ℕ) → same ≡ nat_lt 0 (length (con
 is_some_number true number = refl
 is_some_number false number = refl
 
-names_said : (field : Field) (line : List ℕ) (item : Item) → Says line item → names field line ≡ nat_lt 0 (length (number_in field item))
-names_said field line Blank says = blank_unnamed field line says
-names_said field line (Number named number) says =
+names_said : (width : ℕ) (field : Field) (line : List ℕ) (item : Item) → Says width line item
+    → names field line ≡ nat_lt 0 (length (number_in field item))
+names_said width field line Blank says = blank_unnamed field line says
+names_said width field line (Number named number) says =
     rw (says.1, name_of (word_of named) says.0 (word_spaceless named)) (is_some_number (is_same field named) number)
-names_said field line (Code bytes) says =
+names_said width field line (Code bytes) says =
     let name : name_in (codes "code" ++ 32 ∷ says.0) ≡ codes "code" = name_of (codes "code") says.0 refl in
     rw says.1 (rw name (word_uncoded field))
 
@@ -273,10 +287,65 @@ some_joined (first ∷ more) other = or_left (nat_lt 0 (length (first ∷ more))
     (lt-ltb 0 (length (first ∷ more)) (omega arith)) ∙ sym (lt-ltb 0 (length (first ∷ (more ++ other))) (omega arith))
 
 -- a line names a field exactly if an item has a number for it
-pub named_told : (field : Field) (text_lines : List (List ℕ)) (items : List Item) → AllZip Says text_lines items
+pub named_told : (width : ℕ) (field : Field) (text_lines : List (List ℕ)) (items : List Item) → AllZip (Says width) text_lines items
     → list_any (names field) text_lines ≡ is_told items field
-named_told field [] [] says = refl
-named_told field [] (item ∷ items) says = absurd says
-named_told field (line ∷ more) [] says = absurd says
-named_told field (line ∷ more) (item ∷ items) says =
-    rw (names_said field line item says.0, named_told field more items says.1) (some_joined (number_in field item) (numbers_for field items))
+named_told width field [] [] says = refl
+named_told width field [] (item ∷ items) says = absurd says
+named_told width field (line ∷ more) [] says = absurd says
+named_told width field (line ∷ more) (item ∷ items) says =
+    rw (names_said width field line item says.0, named_told width field more items says.1) (some_joined (number_in field item) (numbers_for
+    field items))
+
+-- ---- the width that a text says
+
+-- the width of an `input` line, by its tests
+said_by : (shaped named : Bool) (value : List ℕ) → named ≡ false → cond (shaped && named) (Some (width_for value)) None ≡ None
+said_by true named value none = rw none refl
+said_by false named value none = refl
+
+-- a line that names another field, or none, says no width
+unsaid : (width : ℕ) (line : List ℕ) (item : Item) → Says width line item → number_in InputWidth item ≡ [] → width_said line ≡ None
+unsaid width line item says none =
+    said_by (is_name_and_value line) (names InputWidth line) (value_in line)
+    (names_said width InputWidth line item says ∙ ap (λ numbers. nat_lt 0 (length numbers)) none)
+
+width_when : (decimal within : Bool) (found : ℕ) → decimal ≡ true → within ≡ true → cond (decimal && within) found 2 ≡ found
+width_when true true found is lies = refl
+width_when true false found is lies = absurd (cc)
+width_when false within found is lies = absurd (cc)
+
+said_when : (shaped named : Bool) (value : List ℕ) → shaped ≡ true → named ≡ true → cond (shaped && named) (Some (width_for value)) None ≡ Some
+    (width_for value)
+said_when true true value is names = refl
+said_when true false value is names = absurd (cc)
+said_when false named value is names = absurd (cc)
+
+said : (width : ℕ) (line : List ℕ) (number : ℕ) → Says width line (Number InputWidth number) → width_said line ≡ Some number
+said width line number (value, is, spelled, spells, lies) =
+    let shaped : is_name_and_value line ≡ true =
+    ap is_name_and_value is ∙ pair_shaped (word_of InputWidth) value (word_spaceless InputWidth) (number_shape 1 false value (omega arith) spelled) in
+    let named : names InputWidth line ≡ true =
+    names_said width InputWidth line (Number InputWidth number) (value, is, spelled, spells, lies) in
+    let same : value_in line ≡ value = ap value_in is ∙ value_of (word_of InputWidth) value (word_spaceless InputWidth) in
+    said_when (is_name_and_value line) (names InputWidth line) (value_in line) shaped named
+    ∙ ap Some (ap width_for same
+    ∙ width_when (is_decimal value) (is_within InputWidth (decimal_number value)) (decimal_number value) spelled
+    (ap (is_within InputWidth) spells ∙ within_range InputWidth number lies) ∙ spells)
+
+-- a text's width is its first number for the field, or 2
+pub width_told : (width : ℕ) (text_lines : List (List ℕ)) (items : List Item) → AllZip (Says width) text_lines items
+    → width_in text_lines ≡ get_or (numbers_for InputWidth items) 0 2
+width_told width [] [] says = refl
+width_told width [] (item ∷ items) says = absurd says
+width_told width (line ∷ more) [] says = absurd says
+width_told width (line ∷ more) (Blank ∷ items) says = rw (unsaid width line Blank says.0 refl) (width_told width more items says.1)
+width_told width (line ∷ more) (Code bytes ∷ items) says = rw (unsaid width line (Code bytes) says.0 refl) (width_told width more items says.1)
+width_told width (line ∷ more) (Number field number ∷ items) says =
+    elim (cases_Bool (is_same InputWidth field)) [
+      | inl same ↦ let is : InputWidth ≡ field = same_words InputWidth field same in
+          rw (said width line number (rw (← is) at says.0), same) refl
+      | inr apart ↦ rw (
+        unsaid width line (Number field number) says.0 (rw apart refl),
+        apart,
+      ) (width_told width more items says.1)
+    ]

@@ -8,5 +8,6 @@ pub mod ItemLemmas
 pub mod DraftLemmas
 pub mod ReadLemmas
 pub mod TextLaws
+pub mod SpelledLines
 pub mod TextExists
 pub mod KeyLaws

@@ -1,7 +1,7 @@
 pub mod Wire
 pub mod Rules
 pub mod Errors
-pub mod KeysText
+pub mod Inputs
 pub mod Fields
 pub mod GameText
 pub mod Faults

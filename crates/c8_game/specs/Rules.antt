@@ -1,12 +1,13 @@
 -- A game, apart from its text and from how the code stores it.
-use Rattle.std.specs.Prelude.{ℕ, ◌+◌, ◌^◌, ◌≡◌, ◌<◌, ◌≤◌, List, ◌++◌, length, bit_and, bit_or, slice_index, slice_index_or, take}
+use Rattle.std.specs.Prelude.{ℕ, ◌+◌, ◌^◌, ◌≡◌, ◌<◌, ◌≤◌, List, ◌++◌, length, bit_and, bit_or, slice_index, take}
 use Rattle.std.specs.Int.{bit_at, from_be_bytes, to_be_bytes, w8, w16, w32, w64}
 use Rattle.sha2.specs.Sha256.{sha256}
 use Rattle.c8_game.specs.declared.row.Row.{Row}
 use Rattle.c8_game.specs.declared.wire.WireVersion.{WireVersion}
-use Rattle.c8_game.specs.Wire.{version_bytes}
+use Rattle.c8_game.specs.Inputs.{Fits}
+use Rattle.c8_game.specs.Wire.{version_bytes, version_number}
 
--- the rules of a game: a mask for each of four players, 0 for a player who is not in the game
+-- the rules of a game: inputs have `width` bytes; a mask for each of four players, 0 for a player who is not in the game
 pub record Rules : Type 0 where
   pub players : ℕ
   pub ipf : ℕ
@@ -15,6 +16,7 @@ pub record Rules : Type 0 where
   pub window : ℕ
   pub seed : ℕ
   pub wire : WireVersion
+  pub width : ℕ
   pub masks : List ℕ
   pub program : List ℕ
 
@@ -41,41 +43,44 @@ pub record AreInRange (rules : Rules) : Type 0 where
   pub some_window : 1 ≤ rules.window
   pub window : rules.window ≤ 12
   pub seed : rules.seed < 2 ^ 64
+  pub some_width : 1 ≤ rules.width
+  pub width : rules.width ≤ 8
+  pub early : version_number rules.wire < 3 → rules.width ≡ 2
   pub masks : length rules.masks ≡ 4
-  pub key_sets : (place : ℕ) → slice_index rules.masks place < 2 ^ 16
+  pub mask_fits : (place : ℕ) → Fits rules.width (slice_index rules.masks place)
   pub absent : (place : ℕ) → rules.players ≤ place → slice_index rules.masks place ≡ 0
   pub some_program : 1 ≤ length rules.program
   pub program : length rules.program ≤ most_program
   pub bytes : (place : ℕ) → slice_index rules.program place < 2 ^ 8
 
--- the key set of the player at a place of a row; player 1 is at place 0
-abbrev pub set_at : Row → ℕ → ℕ
-set_at row place = (slice_index_or row.sets place (record { 0 = 0 })).0
+-- the input of the player at a place of a row; player 1 is at place 0
+abbrev pub input_at : Row → ℕ → ℕ
+input_at row place = slice_index row.inputs place
 
--- that set without the keys that the player's mask lacks
+-- that input without the bits that the player's mask lacks
 abbrev pub masked : Rules → Row → ℕ → ℕ
-masked rules row place = bit_and (set_at row place) (slice_index rules.masks place)
+masked rules row place = bit_and (input_at row place) (slice_index rules.masks place)
 
--- the keys of a frame: the union over the players; the mask of a player who is not in the game is 0
+-- the bits of a frame: the union over the players; the mask of a player who is not in the game is 0
 abbrev pub joined : Rules → Row → ℕ
 joined rules row = bit_or (masked rules row 0) (bit_or (masked rules row 1) (bit_or (masked rules row 2) (masked rules row 3)))
 
--- a set of keys has a key
-abbrev pub HasKey : ℕ → ℕ → Type 0
-HasKey keys key = bit_at keys key ≡ 1
+-- an input has a bit
+abbrev pub HasBit : ℕ → ℕ → Type 0
+HasBit input bit = bit_at input bit ≡ 1
 
--- a player of the game holds a key, and the player's mask has it
-pub record IsHeld (rules : Rules) (row : Row) (key : ℕ) : Type 0 where
+-- a player of the game enters a bit, and the player's mask has it
+pub record IsHeld (rules : Rules) (row : Row) (bit : ℕ) : Type 0 where
   pub place : ℕ
   pub in_game : place < rules.players
-  pub held : HasKey (set_at row place) key
-  pub counts : HasKey (slice_index rules.masks place) key
+  pub held : HasBit (input_at row place) bit
+  pub counts : HasBit (slice_index rules.masks place) bit
 
 -- the greatest length of a player's list of inputs
 abbrev pub limit_of : Rules → ℕ
 limit_of rules = rules.frames + rules.delay
 
--- the numbers of the rules, in 26 bytes, each number with its most significant byte first
+-- the numbers of the rules, in 26 bytes, each number with its most significant byte first: of a mask its last two bytes
 unfoldable pub number_bytes : Rules → List ℕ
 number_bytes rules =
     to_be_bytes w8 rules.players ++ to_be_bytes w8 rules.ipf ++ to_be_bytes w32 rules.frames ++ to_be_bytes w8 rules.delay ++ to_be_bytes w8
@@ -85,7 +90,7 @@ number_bytes rules =
 
 -- the bytes that the id is the digest of: the numbers, the program, and what the wire version adds
 abbrev pub id_bytes : Rules → List ℕ
-id_bytes rules = number_bytes rules ++ rules.program ++ version_bytes rules.wire
+id_bytes rules = number_bytes rules ++ rules.program ++ version_bytes rules.wire rules.width rules.masks
 
 -- the digest by which peers know that they play the same game
 abbrev pub id_of : Rules → List ℕ

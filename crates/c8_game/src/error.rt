@@ -13,8 +13,8 @@ pub enum GameError {
     /// space, or it should be a decimal number and is not.
     #[error("a line that is no name, space and value")]
     Line,
-    /// A number is outside its range, the program has more than 3584 bytes, or a mask is of a player who is not in the
-    /// game.
+    /// A number is outside its range, the program has more than 3584 bytes, a mask is of a player who is not in the
+    /// game, or `input` is in a game whose wire version is not 3.
     #[error("a number out of range")]
     Range,
     /// A name that the game needs is missing. This is judged after the last line.
@@ -23,7 +23,7 @@ pub enum GameError {
     /// A name other than `code` occurs a second time.
     #[error("a name stands twice")]
     Twice,
-    /// A mask is not four hexadecimal digits, or code is not pairs of them.
+    /// A mask is not two hexadecimal digits for each byte of an input, or code is not pairs of them.
     #[error("not the hexadecimal digits that are wanted")]
     Hex,
     /// The memory for the program was refused.

@@ -4,7 +4,7 @@ ghost use Rattle.c8_game.specs.declared.error.GameError.{GameError};
 ghost use Rattle.c8_game.specs.declared.row.Row.{Row};
 ghost use Rattle.c8_game.specs.GameText.{Spells};
 ghost use Rattle.c8_game.specs.GameFaults.{IsRefused};
-ghost use Rattle.c8_game.specs.Rules.{Rules, AreInRange, HasKey, IsHeld, joined};
+ghost use Rattle.c8_game.specs.Rules.{Rules, AreInRange, HasBit, IsHeld, joined};
 
 /// A text spells a game exactly if no fault refuses it.
 pub fn spelled_or_refused()
@@ -25,8 +25,8 @@ pub fn every_game_has_a_text()
     ensures { (rules : Rules) → AreInRange rules → (text : List ℕ) × Spells text rules }
 {}
 
-/// A key is among the joined keys exactly if a player of the game holds it and that player's mask has it.
+/// A bit is among those of a frame exactly if a player of the game enters it and that player's mask has it.
 pub fn joined_is_a_union()
-    ensures { (rules : Rules) (row : Row) (key : ℕ) → AreInRange rules
-        → HasKey (joined rules row) key ↔ IsHeld rules row key }
+    ensures { (rules : Rules) (row : Row) (bit : ℕ) → AreInRange rules
+        → HasBit (joined rules row) bit ↔ IsHeld rules row bit }
 {}

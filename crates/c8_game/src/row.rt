@@ -1,36 +1,10 @@
-//! Key sets, players, and rows: one key set for each player.
-ghost use Rattle.std.specs.Prelude.{◌≡◌, ◌≤◌, ◌<◌, ◌+◌, ◌-◌, ◌==◌, ◌⊎◌, ◌↔◌, true, false, MatchOption, IfOk, IfErr, IfNone, IfSome};
+//! Players, and rows: one input for each player.
+ghost use Rattle.std.specs.Prelude.{◌≡◌, ◌≤◌, ◌<◌, ◌+◌, ◌-◌, ◌==◌, ◌⊎◌, ◌↔◌, true, IfOk, IfErr, IfNone, IfSome};
 
 use crate::bounds::MOST_PLAYERS;
+use crate::input::Input;
 use std::fmt;
 use thiserror::Error;
-
-/// A set of the sixteen keys: it has key `k` exactly if bit `k` is 1.
-#[derive(Clone, Copy, Debug, Default, PartialEq, Eq, Hash)]
-pub struct Keys(pub u16);
-
-impl Keys {
-    ghost use Rattle.c8_game.specs.KeysText.{is_keys_text, keys_number};
-
-    /// Reads a set from four hexadecimal digits of either case, the most significant first. None for any other text.
-    pub fn from_hex(text: &[u8]) -> Option<Self>
-        ensures { MatchOption result (is_keys_text text.now ≡ false)
-            (λ keys. (is_keys_text text.now ≡ true) × (keys.0 ≡ keys_number text.now)) }
-    {
-        let mut bytes = [0; 2];
-        match hex::decode_to_slice(text, &mut bytes) {
-            Ok(()) => Some(Keys(u16::from_be_bytes(bytes))),
-            Err(_) => None,
-        }
-    }
-}
-
-/// Writes four hexadecimal digits in lower case, as in a game text.
-impl fmt::Display for Keys {
-    fn fmt<W: fmt::Write>(&self, f: &mut fmt::Formatter<W>) -> fmt::Result {
-        write!(f, "{:04x}", self.0)
-    }
-}
 
 /// One of the players 1 to 4, ordered by number.
 #[derive(Clone, Copy, Debug, PartialEq, Eq, PartialOrd, Ord, Hash)]
@@ -107,14 +81,14 @@ impl fmt::Display for Player {
     }
 }
 
-/// The key sets of four players for one frame, as entered. Player 1's comes first.
+/// The inputs of four players for one frame, as entered. Player 1's comes first.
 #[derive(Clone, Copy, Debug, Default, PartialEq, Eq, Hash)]
 pub struct Row {
-    pub sets: [Keys; MOST_PLAYERS],
+    pub inputs: [Input; MOST_PLAYERS],
 }
 
 impl Row {
-    /// Returns whether both rows hold the same sets: `==`, with a contract.
+    /// Returns whether both rows hold the same inputs: `==`, with a contract.
     pub fn is_same(&self, other: &Row) -> bool
         ensures { (result ≡ true) ↔ (self.now ≡ other.now) }
     {

@@ -9,3 +9,5 @@ number_of errors.Stale = 2
 number_of errors.Ahead = 3
 number_of errors.NotMine = 4
 number_of errors.Session = 5
+number_of errors.Restarted = 6
+number_of errors.OtherMatch = 7

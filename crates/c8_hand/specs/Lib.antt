@@ -1,4 +1,5 @@
 pub mod Errors
+pub mod Lives
 pub mod Links
 pub mod Held
 pub mod checked

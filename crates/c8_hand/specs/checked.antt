@@ -1,1 +1,4 @@
 pub mod LinkLaws
+pub mod LifeLaws
+pub mod MeetingLaws
+pub mod NamedLaws

@@ -21,9 +21,15 @@ pub enum HandError {
     /// The datagram is not for this player, or its sender is this player or not a player of the game.
     #[error("not for this player, or from none of the others")]
     NotMine,
-    /// The datagram is of another match.
+    /// The datagram is of another game or room.
     #[error("from another match")]
     Session,
+    /// Another life of its sender is recorded, or that of player 1 to which this one is bound is another. It is refused for good.
+    #[error("from a player that came back without its journal")]
+    Restarted,
+    /// The datagram names another match than this peer has, or this peer has none.
+    #[error("from another match of this room")]
+    OtherMatch,
 }
 
 impl HandError {
@@ -37,6 +43,8 @@ impl HandError {
             HandError::Ahead => 3,
             HandError::NotMine => 4,
             HandError::Session => 5,
+            HandError::Restarted => 6,
+            HandError::OtherMatch => 7,
         }
     }
 
@@ -48,6 +56,8 @@ impl HandError {
             HandError::Ahead => "Ahead",
             HandError::NotMine => "NotMine",
             HandError::Session => "Session",
+            HandError::Restarted => "Restarted",
+            HandError::OtherMatch => "OtherMatch",
         }
     }
 }

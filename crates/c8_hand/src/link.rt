@@ -36,7 +36,7 @@ impl Link {
                 known: epoch,
                 is_open: true,
             },
-            Wanted::Nothing | Wanted::Open | Wanted::Never => self,
+            Wanted::Nothing | Wanted::Open | Wanted::Never | Wanted::Life => self,
         }
     }
 

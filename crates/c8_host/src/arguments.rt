@@ -31,6 +31,12 @@ const NO_JOURNAL: Argument = Argument {
     ..Argument::FLAG
 };
 
+const WAIT: Argument = Argument {
+    name: "wait",
+    help: "Ends with a refusal if nobody answers for N seconds [default: never]",
+    ..Argument::NUMBER
+};
+
 /// The command `host`.
 pub static HOST: Outline = Outline {
     name: "host",
@@ -78,6 +84,7 @@ pub static HOST: Outline = Outline {
             help: "Drops a player who was there after N silent turns of a frame [default: never]",
             ..PATIENCE
         },
+        WAIT,
         HOLD,
         MUTE,
         REPORT,
@@ -126,6 +133,7 @@ pub static JOIN: Outline = Outline {
         },
         JOURNAL,
         NO_JOURNAL,
+        WAIT,
         HOLD,
         MUTE,
         REPORT,

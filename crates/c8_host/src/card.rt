@@ -3,9 +3,9 @@
 use crate::friends::Match;
 use c8_command::read_file;
 use c8_files::{
-    CARD_HOST, CARD_RELAY, CARD_ROOM, CARD_SECRET, is_program, secret_in, text_of, write_card,
+    CARD_HOST, CARD_RELAY, CARD_ROOM, CARD_SEAT, CARD_SECRET, card_in, is_program, secret_in,
+    text_of, write_card,
 };
-use c8_net::{CARD_SEAT, card_in};
 use c8_transport::Secret;
 use c8_wire::Watcher;
 use std::alloc::Global;

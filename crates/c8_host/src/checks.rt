@@ -6,7 +6,7 @@ ghost use Rattle.c8_command.specs.declared.status.Status.TheVariants as statuses
 use crate::friends::{Match, NONE};
 use c8_command::{Refusal, Site, Status, is_explained};
 use c8_disk::FileError;
-use c8_files::{JournalDisk, Trouble};
+use c8_files::{JournalDisk, JournalFault, Trouble};
 use c8_net::{Fault, PeerError, refuse, secret_at};
 use c8_udp::{SocketError, SystemSocket, address_at};
 use clap::ArgMatches;
@@ -16,9 +16,8 @@ use std::io::Write;
 use std::net::Net;
 use std::rt::Files;
 
-/// Refuses what the match would refuse later: the secrets, the own port, the journal, in this order; `None` if all can be
-/// opened.
-pub(crate) fn refuse_start<R, E>(
+/// Refuses what the match would refuse later: the secrets and the own port, in this order; `None` if all can be opened.
+pub(crate) fn refuse_way<R, E>(
     rt: &R,
     given: &ArgMatches<'_>,
     wanted: &Match,
@@ -37,10 +36,7 @@ where
     {
         return Ok(Some(status));
     }
-    if let Some(status) = refuse_port(rt, given, wanted.local.as_str(), refused)? {
-        return Ok(Some(status));
-    }
-    refuse_journal(rt, given, wanted.journal.as_str(), refused)
+    refuse_port(rt, given, wanted.local.as_str(), refused)
 }
 
 /// Refuses a file that has no secret; `None` if it has one.
@@ -92,7 +88,7 @@ where
 
 /// Refuses the file of a journal that another program has open, or that cannot be used; `None` for another one, or for no
 /// journal.
-fn refuse_journal<R, E>(
+pub(crate) fn refuse_journal<R, E>(
     rt: &R,
     given: &ArgMatches<'_>,
     path: &str,
@@ -112,6 +108,10 @@ where
         Err(error) => error,
     };
     let site = is_explained(given).then_some(Site::File(path));
+    let error = match error {
+        JournalFault::Disk(error) => error,
+        JournalFault::Foreign => return Ok(Some(Refusal::DISK.tell_at(site, &error, refused)?)),
+    };
     match (error, trouble.last()) {
         (FileError::Locked, _) => Ok(Some(Refusal::DISK.tell_at(
             site,

@@ -7,10 +7,10 @@ ghost use Rattle.c8_host.specs.declared.friends.Found.TheVariants as found;
 ghost use Rattle.c8_net.specs.Answers.{EndsMatch};
 ghost use Rattle.c8_play.specs.Answers.{IsSilent, WantsReport, WantsNoReport};
 
-use c8_command::{Status, System, Terminals, is_explained, word_of};
+use c8_command::{Drawn, Status, System, Terminals, is_explained, word_of};
 use c8_game::{Game, Player};
-use c8_net::{Asked, Fault, PeerError, game_at, perform_given, refuse};
-use c8_play::{Drawn, Ending, Live, Tempo, Terminal, keys_at, tell_ending, wants_report};
+use c8_net::{Asked, Fault, PeerError, game_at, number_of, perform_given, refuse};
+use c8_play::{Cause, Ending, Live, Tempo, Terminal, keys_at, tell_ending, wants_report};
 use c8_udp::{SocketError, address_at};
 use clap::ArgMatches;
 use std::alloc::{AllocError, Global};
@@ -86,6 +86,7 @@ impl Match {
             game: self.game.as_str(),
             player: self.player,
             journal: self.journal.as_str(),
+            without: "--no-journal",
             local: self.local.as_str(),
             remotes: self.relay.is_none().then_some(remotes),
             relay: self.relay.as_deref(),
@@ -96,11 +97,13 @@ impl Match {
             has_room: true,
             turns: u64::MAX,
             patience: self.patience,
+            wait: None,
             stop: None,
             checkpoint: 0,
             progress: false,
             says_end: false,
             is_muted: false,
+            json: false,
             explain: false,
             notices: &[],
         }
@@ -223,6 +226,7 @@ where
     let remotes = [wanted.remote.as_str()];
     let asked = Asked {
         is_muted: given.get_flag("mute"),
+        wait: wait_in(given),
         explain: is_explained(given),
         notices: &wanted.notices,
         ..wanted.asked(&remotes)
@@ -239,13 +243,21 @@ where
         ending: &mut ending,
     };
     let status = perform_given(rt, &asked, live, out, refused)?;
-    if status == Status::Done {
-        if ending.is_unbegun() && wanted.is_typed {
-            forget_digits(rt, wanted.secret.as_str(), refused)?;
-        }
+    let is_done = status == Status::Done;
+    let is_vain = is_done && ending.is_unbegun() || ending.cause == Cause::Unanswered;
+    if is_vain && wanted.is_typed {
+        forget_digits(rt, wanted.secret.as_str(), refused)?;
+    }
+    if is_done {
         tell_end(rt.alloc(), given, &asked, room, ending, refused)?;
     }
     Ok(status)
+}
+
+/// For how many turns a match waits for the others, one a frame; `None` for ever.
+fn wait_in(given: &ArgMatches<'_>) -> Option<u64> {
+    let seconds = number_of(given, "wait")?;
+    Some(seconds.saturating_mul(u64::from(RATE)))
 }
 
 /// Removes the file of digits that a person typed, and that brought nobody.

@@ -9,15 +9,15 @@ ghost use Rattle.c8_play.specs.Answers.{IsSilent, WantsReport, WantsNoReport};
 
 use crate::addresses::{LIST, own_addresses};
 use crate::card::make_card;
-use crate::checks::refuse_start;
+use crate::checks::{refuse_journal, refuse_way};
 use crate::friends::{
     Begun, Found, Match, NONE, game_for, met_at, play, refuse_relay, secret_path, watchers_path,
 };
 use crate::inviting::{Invited, WATCHER, invitation, kept};
 use crate::journals::journal_for;
 use crate::meeting::{Meeting, invitation_over};
-use c8_command::{Refusal, Site, Status, System, Terminals, is_explained, word_of};
-use c8_files::{make_secret, random_bytes};
+use c8_command::{Refusal, Site, Status, System, Terminals, is_explained, read_file, word_of};
+use c8_files::{card_in, make_secret, random_bytes};
 use c8_game::{Game, Player};
 use c8_net::number_of;
 use c8_play::{Console, KEY_BYTES, Terminal};
@@ -73,10 +73,10 @@ where
         Begun::Match(wanted) => wanted,
         Begun::Refused(status) => return Ok(status),
     };
-    if let Some(status) = write_cards(rt, given, &wanted, refused)? {
-        return Ok(status);
+    let (below, key) = invite(rt, given, &game, &wanted, &mut console, refused)?;
+    if let Some(key) = key {
+        console.put_back(key);
     }
-    let below = invite(rt, given, &game, &wanted, &mut console, refused)?;
     play(
         rt,
         given,
@@ -131,7 +131,7 @@ where
     let host = format!(in rt.alloc(); "{first}:{}", port_in(given))?;
     let (host, secret) = (host.as_str(), wanted.secret.as_str());
     let made = make_card(rt, path, wanted, secret, None, host);
-    if let Some(status) = refuse_card(given, path, made, refused)? {
+    if let Some(status) = refuse_card(rt, given, path, made, refused)? {
         return Ok(Some(status));
     }
     let Some(secret) = &wanted.watch else {
@@ -139,30 +139,55 @@ where
     };
     let path = watchers_path(rt.alloc(), path)?;
     let made = make_card(rt, path.as_str(), wanted, secret, Some(WATCHER), host);
-    refuse_card(given, path.as_str(), made, refused)
+    refuse_card(rt, given, path.as_str(), made, refused)
 }
 
 /// Refuses a card that was not made; `None` if it was.
-fn refuse_card<E: Write>(
+fn refuse_card<R, E>(
+    rt: &R,
     given: &ArgMatches<'_>,
     path: &str,
     made: io::Result<()>,
     refused: &mut E,
 ) -> io::Result<Option<Status>>
+where
+    R: Files<File = File> + AllocGlobal,
+    E: Write,
     ensures { IfOk result (λ told. IfSome told (λ status. status ≢ statuses.Done)) }
 {
     let site = is_explained(given).then_some(Site::File(path));
     match made {
         Ok(()) => Ok(None),
         Err(error) if error.kind() == io::ErrorKind::AlreadyExists => {
-            let why = "there is another file of this name: delete it, or name another";
+            let why = other_file(rt, path)?;
             Ok(Some(Refusal::DISK.tell_at(site, &why, refused)?))
         }
         Err(error) => Ok(Some(Refusal::DISK.tell_at(site, &error, refused)?)),
     }
 }
 
-/// Writes the invitation, and returns what stands below the picture. An invitation that does not fit there waits for a key.
+/// What stands in the way of a card.
+fn other_file<R>(rt: &R, path: &str) -> Result<String, AllocError>
+where
+    R: Files<File = File> + AllocGlobal,
+{
+    let card = match read_file(rt, path) {
+        Ok(text) => card_in(rt.alloc(), &text)?,
+        Err(_) => None,
+    };
+    match card {
+        Some(card) => {
+            let room = card.room;
+            format!(in rt.alloc(); "this is a card of room {room}: delete it, or name another file")
+        }
+        None => format!(in rt.alloc();
+            "there is another file of this name: delete it, or name another"
+        ),
+    }
+}
+
+/// Writes the invitation, and returns what stands below the picture. An invitation that does not fit there waits for a key, whose
+/// first byte is returned too.
 fn invite<R, C, E>(
     rt: &R,
     given: &ArgMatches<'_>,
@@ -170,7 +195,7 @@ fn invite<R, C, E>(
     wanted: &Match,
     console: &mut C,
     refused: &mut E,
-) -> io::Result<String>
+) -> io::Result<(String, Option<u8>)>
 where
     R: Files<File = File> + Net + AllocGlobal,
     C: Console,
@@ -179,32 +204,32 @@ where
     let (columns, rows) = (console.columns(), console.rows());
     let lines = invitation_to(rt, given, game, wanted, columns)?;
     refused.write_all(lines.as_bytes())?;
-    if wanted.relay.is_some() {
-        let kept = kept(rt.alloc(), wanted.journal.as_str(), columns)?;
-        refused.write_all(kept.as_bytes())?;
-    }
     let needed = rows_of(lines.as_bytes(), columns);
     if FIRST_ROW.saturating_add(needed) <= rows.saturating_add(1) {
-        return Ok(lines);
+        return Ok((lines, None));
     }
-    writeln!(refused, "Press a key to begin.")?;
-    wait_for_key(console);
-    Ok(String::new(rt.alloc()))
+    writeln!(
+        refused,
+        "Nobody can join before you press a key. Escape ends."
+    )?;
+    Ok((String::new(rt.alloc()), key_of(console)))
 }
 
-/// Waits until a key is pressed, for an hour at most.
-fn wait_for_key<C: Console>(console: &mut C) {
+/// Waits until a key is pressed, for an hour at most, and returns its first byte.
+fn key_of<C: Console>(console: &mut C) -> Option<u8> {
     let mut bytes = [0; KEY_BYTES];
     for _ in 0..MOST_LOOKS {
         match console.keys(&mut bytes) {
             Ok(0) => console.sleep(Duration::from_millis(LOOK)),
-            _ => break,
+            Ok(_) => return Some(bytes[0]),
+            Err(_) => return None,
         }
     }
+    None
 }
 
-/// The match that a host invites to. It is refused if the relay has no address, if a file of the match fails, or if the own
-/// port cannot be opened.
+/// The match that a host invites to, and its cards. It is refused if the relay has no address, if the own port cannot be opened,
+/// or if a file of the match fails; the journal comes last, so that no empty one stays behind.
 fn wanted_by<R, E>(rt: &R, given: &ArgMatches<'_>, refused: &mut E) -> io::Result<Begun>
 where
     R: Files<File = File> + Net + Clock + AllocGlobal,
@@ -243,11 +268,17 @@ where
     wanted.watch = watch;
     wanted.is_drawn = number_of(given, "room").is_none();
     wanted.patience = number_of(given, "patience");
+    if let Some(status) = refuse_way(rt, given, &wanted, refused)? {
+        return Ok(Begun::Refused(status));
+    }
+    if let Some(status) = write_cards(rt, given, &wanted, refused)? {
+        return Ok(Begun::Refused(status));
+    }
     let mut notices = Vec::new(rt.alloc());
     wanted.journal = journal_for(rt, given, &wanted, &mut notices)?;
     refused.write_all(&notices)?;
     wanted.notices = notices;
-    match refuse_start(rt, given, &wanted, refused)? {
+    match refuse_journal(rt, given, wanted.journal.as_str(), refused)? {
         Some(status) => Ok(Begun::Refused(status)),
         None => Ok(Begun::Match(wanted)),
     }
@@ -279,7 +310,18 @@ where
         room: wanted.room,
         columns,
     };
-    Ok(invitation_over(rt, meeting)?)
+    let mut lines = invitation_over(rt, meeting)?;
+    lines.push_str(&kept(rt.alloc(), journal_of(wanted), columns)?)?;
+    Ok(lines)
+}
+
+/// The path of the journal for the invitation; empty if a notice has said that there is none.
+fn journal_of(wanted: &Match) -> &str {
+    if wanted.journal.as_str() == NONE && !wanted.notices.is_empty() {
+        ""
+    } else {
+        wanted.journal.as_str()
+    }
 }
 
 /// The own port of a host without a relay.
@@ -366,7 +408,7 @@ where
     let invited = Invited {
         game: word_of(given, "GAME"),
         secret: wanted.secret.as_str(),
-        journal: wanted.journal.as_str(),
+        journal: journal_of(wanted),
         card: given.get_str("card"),
         watch: file.as_deref(),
         addresses: &addresses,

@@ -1,20 +1,9 @@
 //! The line that a friend types.
 
 use crate::friends::NONE;
-use c8_play::quoted;
+use c8_command::{ShellLines, last_part};
 use c8_wire::Watcher;
 use std::alloc::{AllocError, Global};
-
-/// How the line of a command begins, and each further line of it.
-const FIRST: &str = "  ./c8play";
-
-const FURTHER: &str = "    ";
-
-/// What stands between two lines of a command: a shell reads both as one.
-const BREAK: &str = " \\\n";
-
-/// The columns that the backslash takes at the end of a line.
-const END: usize = 2;
 
 /// Who watches a match of `host`, and the seat as a word.
 pub(crate) const WATCHER: Watcher = Watcher { number: 5 };
@@ -29,7 +18,7 @@ const ANY: &str = "0.0.0.0:0";
 /// What a host without a relay shows to a friend.
 #[derive(Clone, Copy)]
 pub struct Invited<'a> {
-    /// The paths of the game, of the secret, and of the own journal or `-`.
+    /// The paths of the game, of the secret, and of the own journal or `-`; empty if a notice has said that there is none.
     pub game: &'a str,
     pub secret: &'a str,
     pub journal: &'a str,
@@ -120,8 +109,11 @@ pub(crate) fn watching(alloc: Global, file: &str, columns: usize) -> Result<Stri
     filled(alloc, &line, columns)
 }
 
-/// The line about the own journal.
+/// The line about the own journal; none for an empty path.
 pub(crate) fn kept(alloc: Global, journal: &str, columns: usize) -> Result<String, AllocError> {
+    if journal.is_empty() {
+        return Ok(String::new(alloc));
+    }
     if journal == NONE {
         let line = "You keep no journal: if this program ends, you cannot come back.";
         return filled(alloc, line, columns);
@@ -143,34 +135,19 @@ fn shown(alloc: Global, addresses: &[&str]) -> Result<String, AllocError> {
     Ok(shown)
 }
 
-/// Returns a command as lines for a person to copy, none wider than `columns` unless it is one word. Between two lines stands a
-/// backslash, behind which a shell goes on with the next line. Words are in quotes where a shell needs that, and empty ones are
-/// left out.
+/// Returns a command as lines for a person to copy, none wider than `columns` unless it is one word. Empty words are left out.
 pub fn typed(
     alloc: Global,
     command: &str,
     words: &[&str],
     columns: usize,
 ) -> Result<String, AllocError> {
-    let mut lines = format!(in alloc; "{FIRST} {command}")?;
-    let mut width = lines.len();
+    let mut lines = ShellLines::new(alloc, columns)?;
+    lines.add(command)?;
     for word in words {
-        if !word.is_empty() {
-            let word = quoted(alloc, word)?;
-            let more = word.len().saturating_add(1);
-            if width.saturating_add(more).saturating_add(END) > columns {
-                lines.push_str(BREAK)?;
-                lines.push_str(FURTHER)?;
-                width = FURTHER.len().saturating_add(word.len());
-            } else {
-                lines.push_str(" ")?;
-                width = width.saturating_add(more);
-            }
-            lines.push_str(&word)?;
-        }
+        lines.add(word)?;
     }
-    lines.push_str("\n")?;
-    Ok(lines)
+    lines.end()
 }
 
 /// Returns a text as lines, none wider than `columns` unless it is one word.
@@ -200,13 +177,5 @@ pub(crate) fn friends_path(path: &str) -> &str {
         last_part(path)
     } else {
         path
-    }
-}
-
-/// The name of a file, without its folders.
-pub(crate) fn last_part(path: &str) -> &str {
-    match path.rsplit_once('/') {
-        Some((_, name)) => name,
-        None => path,
     }
 }

@@ -7,16 +7,15 @@ ghost use Rattle.c8_host.specs.declared.friends.Begun.TheVariants as begun;
 ghost use Rattle.c8_net.specs.Answers.{EndsMatch};
 ghost use Rattle.c8_play.specs.Answers.{IsSilent, WantsReport, WantsNoReport};
 
-use crate::checks::refuse_start;
+use crate::checks::{refuse_journal, refuse_way};
 use crate::digits::{digits_in, is_secret};
 use crate::friends::{Begun, Found, Match, game_for, met_at, play, refuse_relay, secret_path};
 use crate::journals::journal_for;
 use c8_command::{
     Part, Refusal, Site, Status, System, Terminals, is_explained, read_file, word_of,
 };
-use c8_files::write_secret;
+use c8_files::{Card, card_in, write_secret};
 use c8_game::Player;
-use c8_net::{Card, card_in};
 use c8_play::Terminal;
 use clap::ArgMatches;
 use std::alloc::{AllocError, Global};
@@ -60,8 +59,16 @@ where
     let way = way_of(rt, given)?;
     let has_relay = given.get_str("relay").is_some()
         || way.as_ref().is_some_and(|way| way.is_relay);
-    if let Found::Refused(status) = game_for(rt, given, "join", has_relay, refused)? {
-        return Ok(status);
+    let players = match game_for(rt, given, "join", has_relay, refused)? {
+        Found::Game(game) => game.players(),
+        Found::Refused(status) => return Ok(status),
+    };
+    if given.get_one::<u8>("player").unwrap_or(2) > players {
+        writeln!(
+            refused,
+            "error: this game is for {players} players: --player is one of them"
+        )?;
+        return Ok(Status::CommandLine);
     }
     if let Some(status) = refuse_words(rt, given, &way, refused)? {
         return Ok(status);
@@ -136,11 +143,14 @@ where
     }
     let mut wanted = met(rt.alloc(), given, way, secret)?;
     wanted.is_typed = is_typed;
+    if let Some(status) = refuse_way(rt, given, &wanted, refused)? {
+        return Ok(Begun::Refused(status));
+    }
     let mut notices = Vec::new(rt.alloc());
     wanted.journal = journal_for(rt, given, &wanted, &mut notices)?;
     refused.write_all(&notices)?;
     wanted.notices = notices;
-    match refuse_start(rt, given, &wanted, refused)? {
+    match refuse_journal(rt, given, wanted.journal.as_str(), refused)? {
         Some(status) => Ok(Begun::Refused(status)),
         None => Ok(Begun::Match(wanted)),
     }
@@ -305,7 +315,7 @@ where
     if terminals.input {
         writeln!(
             refused,
-            "the 64 digits of the secret (they are not shown), then Enter:"
+            "there is no file {secret}: type the 64 digits of the secret (they are not shown), then Enter:"
         )?;
     }
     let mut input = input;

@@ -1,7 +1,7 @@
 //! The journal of a match of two friends.
 
 use crate::friends::{Match, NONE};
-use crate::inviting::last_part;
+use c8_command::last_part;
 use c8_files::slow_record;
 use clap::ArgMatches;
 use std::alloc::{AllocError, Global};

@@ -1,6 +1,7 @@
 //! Links that open a match in a browser.
 
 use base64::engine::general_purpose::URL_SAFE_NO_PAD;
+use c8_command::last_part;
 use c8_transport::SECRET_LENGTH;
 use std::alloc::{AllocError, Global};
 
@@ -61,11 +62,7 @@ fn add_line(bytes: &mut Vec<u8>, line: &[u8]) -> Result<(), AllocError> {
 
 /// The name of a game in a link: that of its file without `.game`, if a link can have it.
 pub fn link_name(path: &str) -> Option<&str> {
-    let file = match path.rsplit_once('/') {
-        Some((_, file)) => file,
-        None => path,
-    };
-    let name = file.strip_suffix(".game")?;
+    let name = last_part(path).strip_suffix(".game")?;
     let fits = !name.is_empty() && name.len() <= LONGEST_NAME && name.bytes().all(may_be_named);
     fits.then_some(name)
 }

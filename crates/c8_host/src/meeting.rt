@@ -2,12 +2,10 @@
 
 ghost use Rattle.std.specs.Prelude.{IfErr};
 
-use crate::inviting::{
-    SCREEN, SEAT, WATCHER, filled, friends_path, last_part, sent, typed, watching,
-};
+use crate::inviting::{SCREEN, SEAT, WATCHER, filled, friends_path, sent, typed, watching};
 use crate::link::{Ticket, link_name, long_link, short_link};
 use crate::served::{Served, pages_at};
-use c8_command::read_file;
+use c8_command::{last_part, read_file};
 use c8_files::{is_program, secret_in, text_of};
 use c8_game::Game;
 use c8_transport::Secret;
@@ -116,16 +114,40 @@ fn lines_to_type(
 ) -> Result<String, AllocError> {
     let (players, columns) = (meeting.game.players(), meeting.columns);
     let file = meeting.card.unwrap_or(meeting.secret);
-    let mut lines = if is_alone {
-        sent(alloc, file, columns)?
-    } else {
-        let line = format!(in alloc; "Or send {file} privately; your friend types:")?;
-        filled(alloc, &line, columns)?
+    let mut lines = match (players, is_alone) {
+        (2, true) => sent(alloc, file, columns)?,
+        (2, false) => {
+            let line = format!(in alloc; "Or send {file} privately; your friend types:")?;
+            filled(alloc, &line, columns)?
+        }
+        (_, true) => {
+            let line = format!(in alloc; "Send {file} privately to all.")?;
+            filled(alloc, &line, columns)?
+        }
+        (_, false) => {
+            let line = format!(in alloc; "Or send {file} privately.")?;
+            filled(alloc, &line, columns)?
+        }
     };
     for seat in 2..players + 1 {
+        if players > 2 {
+            lines.push_str(&format!(in alloc; "Player {seat} types:\n")?)?;
+        }
         lines.push_str(&line_for(alloc, meeting, seat)?)?;
     }
+    if is_own(meeting.relay) {
+        let line = format!(in alloc;
+            "{} is this machine alone: friends elsewhere need its address.",
+            meeting.relay
+        )?;
+        lines.push_str(&filled(alloc, &line, columns)?)?;
+    }
     Ok(lines)
+}
+
+/// Whether a relay's address leads to the machine of whoever uses it.
+fn is_own(relay: &str) -> bool {
+    relay.starts_with("127.") || relay.starts_with("localhost:") || relay.starts_with("[::1]:")
 }
 
 /// The line that a player types. Player 2 need not name its seat.

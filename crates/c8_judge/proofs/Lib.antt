@@ -6,5 +6,3 @@ mod JsonLemmas
 mod MatchLemmas
 -- A summary that counts each record in turn has what all records say.
 mod SummaryLemmas
--- The marks of a row, and the object of a report.
-mod ReportLemmas

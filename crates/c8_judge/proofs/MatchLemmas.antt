@@ -1,12 +1,12 @@
 -- The lines of matches, one batch after another, and the worst of their statuses.
 use Rattle.std.proofs.Common.{◌≡◌, ◌+◌, ◌-◌, ◌≤◌, ◌<◌, ℕ, zero, suc, ◌⊎◌, inl, inr, List, [], ◌∷◌, ◌++◌, take}
-use Rattle.std.proofs.Common.{drop, map, length, pred, Some, Option, Result, Ok, Err, refl, sym, ap, subst, ◌∙◌, arith}
+use Rattle.std.proofs.Common.{map, length, pred, Some, Option, Result, Ok, Err, refl, sym, ap, subst, ◌∙◌, arith}
 use Rattle.std.specs.Prelude.{String, string_bytes, slice_range, slice_get, option_map, IfOk}
 use Rattle.std.specs.declared.alloc.Global.{Global}
 use Rattle.std.specs.Io.KnownBytes.{Appends}
 use Rattle.std.specs.List.{AllZip}
 use Rattle.std.proofs.KnownBytes.{Appends-nil, Appends-trans}
-use Rattle.std.proofs.Math.Seq.{take-add, take-suc}
+use Rattle.std.proofs.Math.Seq.{take-add}
 use Rattle.std.proofs.lemmas.List.{append_assoc, append-nil}
 use Rattle.std.proofs.lemmas.Option.{slice_get-map}
 use Rattle.std.specs.Borrow.{Bor}
@@ -19,7 +19,7 @@ use Rattle.c8_command.specs.declared.refusal.Part.{Part}
 use Rattle.c8_command.specs.declared.refusal.Part.TheVariants as parts
 use Rattle.c8_command.specs.declared.status.Status.{Status}
 use Rattle.c8_command.specs.declared.status.Status.TheVariants as statuses
-use Rattle.c8_judge.specs.Lines.{refused_data}
+use Rattle.c8_command.specs.Json.{refused_data}
 use Rattle.c8_judge.specs.Audited.{IsUnjudged}
 use Rattle.c8_judge.specs.PrintedJson.{IsOfVerdicts}
 use Rattle.c8_judge.specs.declared.matches.Found.{Found}
@@ -130,6 +130,7 @@ refused_or_failed parts.Socket = inr refl
 refused_or_failed parts.Secret = inl refl
 refused_or_failed parts.Replay = inl refl
 refused_or_failed parts.Audit = inl refl
+refused_or_failed parts.Hand = inl refl
 
 by_part : (part : Part) (status : Status) → status ≡ status_of part → (status ≡ statuses.Refused) ⊎ (status ≡ statuses.Failed)
 by_part part status same = elim (refused_or_failed part) [ inl is ↦ inl (same ∙ is) | inr is ↦ inr (same ∙ is) ]

@@ -32,10 +32,9 @@ use Rattle.c8_audit.specs.Audit.{first_no, fault_in}
 use Rattle.c8_audit.specs.Errors.{audit_part}
 use Rattle.c8_audit.specs.Printed.{entered_text, checks_text, agree_text, yes_text, concluded, words_of, sentence_of, Tells, TellsYes}
 use Rattle.c8_judge.specs.Audited.{IsJudged, AreJudged, IsWithout, AreRefused, IsUnjudged, HasAudited, IsEvidence, fault_of_game}
-use Rattle.serde_json.specs.Data.{Data}
-use Rattle.std.specs.Prelude.{OnOk, map, option_map, unwrap_or}
-use Rattle.c8_judge.specs.Lines.{refused_data, data_line, TellsRefusal}
-use Rattle.c8_judge.specs.PrintedJson.{audit_data, status_of_fault, IsAudit, TellsVerdicts, TellsAs}
+use Rattle.std.specs.Prelude.{map, option_map, unwrap_or}
+use Rattle.c8_command.specs.Json.{refused_data, TellsRefusal}
+use Rattle.c8_judge.specs.PrintedJson.{audit_data, status_of_fault, TellsVerdicts, TellsAs}
 use Rattle.c8_command.specs.declared.status.Status.TheVariants as statuses
 use Rattle.std.specs.Io.KnownBytes.{Appends}
 use Rattle.c8_audit.specs.declared.error.AuditFault.TheVariants as faults
@@ -98,11 +97,11 @@ are_yes verdicts none = let all = none_first verdicts.entered verdicts.untrue ve
     record { entered = all.0; checks = all.1; agree = all.2 }
 
 module _ (law : (rules : Rules) (files : List Twice) (journals : List (Option Journal)) (verdicts : Verdicts)
-    → AreGathered rules (evidence_of files) journals → AreVerdicts rules (all_seen journals) verdicts → AreYes verdicts
-    → AlwaysTellOneStory rules (evidence_of files)) (rules : Rules) (files : List Twice) (journals : List (Option Journal))
-    (gathered : AreGathered rules (evidence_of files) journals) (one_match : AreOneMatch rules files) where
+    → AreGathered rules (evidence_of rules.width files) journals → AreVerdicts rules (all_seen journals) verdicts → AreYes verdicts
+    → AlwaysTellOneStory rules (evidence_of rules.width files)) (rules : Rules) (files : List Twice) (journals : List (Option Journal))
+    (gathered : AreGathered rules (evidence_of rules.width files) journals) (one_match : AreOneMatch rules files) where
   story_of : (outcome : Result Verdicts AuditFault) → IsJudged rules (all_seen journals) outcome → (verdicts : Verdicts)
-      → outcome ≡ Ok verdicts → AlwaysTellOneStory rules (evidence_of files)
+      → outcome ≡ Ok verdicts → AlwaysTellOneStory rules (evidence_of rules.width files)
   story_of (Ok own) judged verdicts is = law rules files journals own gathered judged.0 (are_yes own judged.1)
   story_of (Err fault) judged verdicts is = absurd cc
 

@@ -61,10 +61,10 @@ IsFaultOf (gathering.Journals why) fault = fault ≡ faults.Journals why
 -- journals they are tell one story.
 pub record AreJudged (rules : Rules) (files : List Twice) (outcome : Result Verdicts AuditFault) : Type 0 where
   pub journals : List (Option Journal)
-  pub gathered : AreGathered rules (evidence_of files) journals
+  pub gathered : AreGathered rules (evidence_of rules.width files) journals
   pub one_match : AreOneMatch rules files
   pub judged : IsJudged rules (all_seen journals) outcome
-  pub story : (verdicts : Verdicts) → outcome ≡ Ok verdicts → AlwaysTellOneStory rules (evidence_of files)
+  pub story : (verdicts : Verdicts) → outcome ≡ Ok verdicts → AlwaysTellOneStory rules (evidence_of rules.width files)
 
 -- these readings cannot be judged, and this is the refusal
 abbrev pub AreRefused : Rules → List Twice → AuditFault → Type 0
@@ -106,7 +106,7 @@ pub record IsEvidence (rules : Rules) (journals : List (Option Journal)) (empty 
   pub text : List ℕ
   pub spells : Spells text rules
   pub files : List Twice
-  pub gathered : AreGathered rules (evidence_of files) journals
+  pub gathered : AreGathered rules (evidence_of rules.width files) journals
   pub one_match : AreOneMatch rules files
   pub none : empty ≡ count_by keeps_nothing files
 

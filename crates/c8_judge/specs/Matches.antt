@@ -10,7 +10,7 @@ use Rattle.serde_json.specs.Data.{Data, number, unsigned, string, object, member
 use Rattle.c8_command.specs.Status.{exit_code_of}
 use Rattle.c8_command.specs.declared.status.Status.{Status}
 use Rattle.c8_command.specs.declared.status.Status.TheVariants as statuses
-use Rattle.c8_judge.specs.Lines.{refused_data, data_line}
+use Rattle.c8_command.specs.Json.{refused_data, data_line}
 use Rattle.c8_judge.specs.PrintedJson.{IsAudit}
 use Rattle.c8_judge.specs.declared.matches.Line.{Line}
 

@@ -1,5 +1,5 @@
 -- The object that `audit --json` prints. Its members are in the order of their names.
-use Rattle.std.specs.Prelude.{◌≡◌, ◌⊎◌, ◌+◌, ℕ, zero, suc, if◌then◌else◌, List, [], ◌∷◌, ◌++◌}
+use Rattle.std.specs.Prelude.{◌≡◌, ◌⊎◌, ◌+◌, ℕ, if◌then◌else◌, List, []}
 use Rattle.std.specs.Prelude.{codes, map, Bool, true, false, Option, Some, None, option_map, unwrap_or}
 use Rattle.std.specs.Borrow.{Bor}
 use Rattle.std.specs.Io.KnownBytes.{Appends}
@@ -8,17 +8,15 @@ use Rattle.clap.specs.Matches.{found_of, one_text, matched_of, raw_values}
 use Rattle.clap.specs.declared.parser.matches.ArgMatches.{ArgMatches}
 use Rattle.hex.specs.Hex.{encode_lower}
 use Rattle.serde_json.specs.Data.{Data, null, number, unsigned, string, array, object, Members, member, no_members}
-use Rattle.serde_json.specs.View.{view, items_of, items_view}
-use Rattle.serde_json.specs.Written.{items_have_float}
-use Rattle.serde_json.specs.declared.value.Value.{Value}
+use Rattle.serde_json.specs.View.{items_of}
 use Rattle.sha2.specs.Sha256.{sha256}
+use Rattle.c8_command.specs.Json.{number_data, refused_data, data_line, listed}
 use Rattle.c8_command.specs.Status.{status_of}
 use Rattle.c8_command.specs.declared.status.Status.{Status}
 use Rattle.c8_command.specs.declared.status.Status.TheVariants as statuses
 use Rattle.c8_digest.specs.StateBytes.{state_bytes}
 use Rattle.c8_game.specs.Rules.{Rules}
 use Rattle.c8_game.specs.declared.row.Player.{Player}
-use Rattle.c8_judge.specs.Lines.{number_data, refused_data, data_line}
 use Rattle.c8_known.specs.Confirmed.{confirmed, rows_below}
 use Rattle.c8_machine.specs.Serial.{serial}
 use Rattle.c8_audit.specs.Audit.{fault_in}
@@ -35,21 +33,6 @@ use Rattle.c8_audit.specs.declared.fault.Answer.TheVariants.{Yes, Short, No}
 use Rattle.c8_audit.specs.declared.journal.Journal.{Journal}
 use Rattle.c8_audit.specs.declared.verdict.Verdicts.{Verdicts}
 use Rattle.c8_judge.specs.Audited.{IsEvidence, IsUnjudged}
-
--- ---- values
-
-abbrev pub with_one : List Data → Option Data → List Data
-with_one values None = values
-with_one values (Some value) = values ++ value ∷ []
-
--- the values at the first places, where there is one
-abbrev pub listed : (ℕ → Option Data) → ℕ → List Data
-listed value zero = []
-listed value (suc place) = with_one (listed value place) (value place)
-
--- a list has the values of the places before this one, and no float
-abbrev pub HasListed : (ℕ → Option Data) → ℕ → List Value → Type 0
-HasListed value place values = (map view values ≡ listed value place) × (items_have_float (items_view values) ≡ false)
 
 -- ---- players; player 1 is at place 0
 

@@ -16,9 +16,9 @@ ghost use Rattle.c8_judge.specs.PrintedJson.{IsJsonAsked, AreGivenNames, TellsAs
 use crate::arguments::{JSON, MATCHES};
 use crate::evidence::{Evidence, Unjudged, evidence_of};
 use crate::json::write_json;
-use crate::lines::tell_refusal;
 use crate::matches::audit_matches;
 use c8_audit::{AuditFault, JournalError, laws, write_audit};
+use c8_command::json::tell_refusal;
 use c8_command::{Site, Status, Text, is_explained, word_of};
 use c8_files::{NO_TEXT, is_binary};
 use c8_game::GameError;

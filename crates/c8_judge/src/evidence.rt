@@ -14,6 +14,7 @@ use c8_audit::{
 use c8_command::{TextError, read_file};
 use c8_files::{ProgramError, is_program, text_of};
 use c8_game::{Game, GameError};
+use c8_log::may_be_log;
 use std::rt::Files;
 
 /// How often the journals are read once more, if some lose records while they are read.
@@ -91,14 +92,15 @@ pub(crate) fn evidence_of<R: Files + AllocGlobal>(
     Ok(Evidence { game, gathered })
 }
 
-/// Reads all files once.
+/// Reads all files once. A file of something else is refused.
 fn read_files<R: Files + AllocGlobal>(rt: &R, files: &[&str]) -> Result<Vec<Twice>, Unjudged>
     ensures { IfErr result (λ why. IsWithout (fault_of_unjudged why)) }
 {
     let mut readings = Vec::new(rt.alloc());
     for place in 0..files.len() {
         let first = match read_image(rt, files[place]) {
-            Ok(first) => first,
+            Ok(first) if may_be_log(&first) => first,
+            Ok(_) => return Err(at(place, AuditFault::Disk(Unreadable::Foreign))),
             Err(error) => return Err(at(place, image_fault(error))),
         };
         if readings.push(Twice { first, later: None }).is_err() {
@@ -134,7 +136,7 @@ fn gather_files<R: Files + AllocGlobal>(
     readings: &mut [Twice],
 ) -> Result<Gathered, Unjudged>
     ensures gathered { IfOk result (λ gathered.
-        AreGathered game.now (evidence_of readings.new) gathered.journals) }
+        AreGathered game.now (evidence_of game.now.width readings.new) gathered.journals) }
     ensures one_match { IfOk result (λ gathered. AreOneMatch game.now readings.new) }
     ensures empty { IfOk result (λ gathered. gathered.empty ≡ count_by keeps_nothing readings.new) }
     ensures refused { IfErr result (λ why. IsWithout (fault_of_unjudged why)
@@ -179,7 +181,7 @@ fn unjudged_by(error: GatherError) -> Unjudged
 fn later_of(why: Mismatch) -> Option<usize> {
     match why {
         Mismatch::SamePlayer(_, later) => Some(later.place),
-        Mismatch::TwoRooms(_, later) => Some(later.place),
+        Mismatch::TwoRooms(_, later) | Mismatch::TwoMatches(_, later) => Some(later.place),
         Mismatch::NoPlayerOne => None,
     }
 }

@@ -45,11 +45,12 @@ Refusals, each one line on standard error, as 'refused: audit 3 Disagree':
   audit 1 Entered   'entered no', the first of these three that applies
   audit 2 Checks    'checks no'
   audit 3 Disagree  'agree no'
-  audit 4 Journals  two journals of one player, none of player 1, or journals of two rooms
+  audit 4 Journals  two journals of one player, none of player 1, or journals of two rooms or matches
   audit 5 Short     'entered short' or 'agree short', and no verdict is no
   audit 6 Folder    FOLDER has no folder in it; in a line: not one game and one to four journals
   disk 1 Failed     a file that cannot be read, a text above 16777216 bytes, a journal above 1073741824
-                    bytes, a journal that lost records while it was read; output that cannot be written
+                    bytes, a journal that lost records while it was read, a file that is no journal; output
+                    that cannot be written
 
 Exit status: 0 all is yes, 1 refused, 2 a mistake in the command line, 3 disk 1 Failed";
 
@@ -61,17 +62,19 @@ whether its records may stand where they do: audit does that.
 What it prints of each file, up to the first that it refuses:
   player P room R entered N epochs E form F dropped LIST game ID file FILE
     P and R       whose journal it is, and the match id
-    N and E       how many key sets the player entered, and how often its peer was opened
-    F             the form of its records: 0 or 2
+    N and E       how many inputs the player entered, and how often its peer was opened
+    F             the form of its records: 0 or 2, in a game of wire 3 two more than the bytes of an input
     LIST          whom player 1 dropped, by this journal: players, as 2,3, or 'none'
     ID            the game's id, 64 hexadecimal digits
+  In a game of wire 3 `life L match M` stands before the game: the number of the journal, and that of player
+  1's journal, 16 hexadecimal digits; M is 'none' before the player met player 1.
   empty file FILE
     the file keeps no record: its player never began
 
 Refusals, each one line on standard error, as 'refused: open 3 BadRecord'; --explain names the file:
   open 3 BadRecord  the first record is no HEAD, or bytes spell no record
   open 5 Memory     out of memory
-  disk 1 Failed     a file that cannot be read, or has more than 1073741824 bytes; output that cannot
-                    be written
+  disk 1 Failed     a file that cannot be read, has more than 1073741824 bytes, or is no journal;
+                    output that cannot be written
 
 Exit status: 0 done, 1 refused, 2 a mistake in the command line, 3 disk 1 Failed";

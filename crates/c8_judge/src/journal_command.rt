@@ -1,16 +1,13 @@
 //! `c8play journal`: a line for each journal.
 
 use crate::summary::{Summary, summary_of};
-use c8_audit::{JournalError, read_image};
+use c8_audit::{JournalError, Unreadable, read_image};
 use c8_command::{Part, Refusal, Site, Status, TextError, is_explained};
-use c8_log::kept_len;
+use c8_log::{kept_len, may_be_log};
 use clap::ArgMatches;
 use std::io;
 use std::io::Write;
 use std::rt::Files;
-
-/// The sentence for a file that is not read.
-const UNREADABLE: &str = "a file that cannot be read, or has more than 1073741824 bytes";
 
 /// Reads the files of the command line in turn, and prints a line of each. It ends with the first that is refused. The
 /// error is a writer's.
@@ -25,9 +22,16 @@ pub fn journal_given<R: Files + AllocGlobal, W: Write, E: Write>(
         let site = explain.then_some(Site::File(file));
         let image = match read_image(rt, file) {
             Ok(image) => image,
-            Err(TextError::Failed) => return Refusal::DISK.tell_at(site, &UNREADABLE, refused),
+            Err(TextError::Failed) => return Refusal::DISK.tell_at(
+                site,
+                &Unreadable::Journal,
+                refused,
+            ),
             Err(TextError::Memory) => return refuse(JournalError::Memory, site, refused),
         };
+        if !may_be_log(&image) {
+            return Refusal::DISK.tell_at(site, &Unreadable::Foreign, refused);
+        }
         if kept_len(&image) == 0 {
             writeln!(out, "empty file {file}")?;
             continue;
@@ -55,22 +59,35 @@ fn write_summary<W: Write>(summary: &Summary, file: &str, out: &mut W) -> io::Re
     let Summary {
         player,
         room,
-        id: _,
         form,
         entered,
         epochs,
-        dropped: _,
+        ..
     } = summary;
     write!(
         out,
         "player {player} room {room} entered {entered} epochs {epochs} form {form} dropped "
     )?;
     write_dropped(summary, out)?;
+    write_lives(summary, out)?;
     out.write_all(b" game ")?;
     for byte in &summary.id {
         write!(out, "{byte:02x}")?;
     }
     writeln!(out, " file {file}")
+}
+
+/// Writes the life and the match of a journal of version 3, in hexadecimal digits; the match is `none` until one is known.
+fn write_lives<W: Write>(summary: &Summary, out: &mut W) -> io::Result<()> {
+    let (life, in_match) = (summary.life, summary.match_number);
+    if life == 0 {
+        return Ok(());
+    }
+    write!(out, " life {life:016x} match ")?;
+    if in_match == 0 {
+        return out.write_all(b"none");
+    }
+    write!(out, "{in_match:016x}")
 }
 
 /// Writes the players who were dropped, or that there are none.

@@ -1,10 +1,11 @@
 //! What an audit prints as JSON: one object on one line, with the lines of the report as its fields.
 
-ghost use Rattle.std.specs.Prelude.{◌≡◌, ◌<◌, ◌+◌, ℕ, Option, codes, option_map, slice_get, string_bytes, false, None, IfOk, IfSome, OnOk};
+ghost use Rattle.std.specs.Prelude.{◌≡◌, ◌<◌, codes, option_map, slice_get, false, None, IfOk, IfSome};
 ghost use Rattle.std.specs.Io.KnownBytes.{Appends};
-ghost use Rattle.serde_json.specs.Data.{Data, no_members, null, string, array};
+ghost use Rattle.serde_json.specs.Data.{no_members, null, string, array};
 ghost use Rattle.serde_json.specs.View.{view, items_of};
 ghost use Rattle.serde_json.specs.Written.{has_float};
+ghost use Rattle.c8_command.specs.Json.{data_line, listed};
 ghost use Rattle.c8_game.specs.Rules.{Rules};
 ghost use Rattle.c8_audit.specs.Audit.{fault_in};
 ghost use Rattle.c8_audit.specs.Journals.{Seen, AreOfGame, Stays};
@@ -14,15 +15,14 @@ ghost use Rattle.c8_audit.specs.Read.{all_seen};
 ghost use Rattle.c8_audit.specs.Verdicts.{IsLeastCount};
 ghost use Rattle.c8_audit.specs.declared.verdict.Verdicts.{Verdicts};
 ghost use Rattle.c8_judge.specs.Audited.{IsEvidence};
-ghost use Rattle.c8_judge.specs.PrintedJson.{listed, HasListed, journal_at, given_player, missing_player, dropped_player, player_data, drop_data, answer, short_data, no_data, answer_data, frames_member, checks_data, digest_by, result_data, object_data, audit_data};
-ghost use Rattle.c8_judge.specs.Lines.{data_line};
+ghost use Rattle.c8_judge.specs.PrintedJson.{journal_at, given_player, missing_player, dropped_player, player_data, drop_data, answer, short_data, no_data, answer_data, frames_member, checks_data, digest_by, result_data, object_data, audit_data};
 
 use crate::evidence::Evidence;
-use crate::lines::{number_of, write_line};
 use c8_audit::{
     Answer, AuditFault, Fault, Journal, Short, Verdicts, check_of, conclusion_of, cut_of,
     digest_of, fault_of, is_dropped, judge, name_of,
 };
+use c8_command::json::{add, number_of, write_line};
 use c8_game::{Game, Player};
 use serde_json::{Value, json};
 use std::alloc::{AllocError, Global};
@@ -157,18 +157,6 @@ fn players_of(
         add(&mut list, value)?;
     }
     Ok(Value::Array(list))
-}
-
-/// Adds a value, if there is one.
-pub(crate) fn add(list: &mut Vec<Value>, value: Option<Value>) -> Result<(), AllocError>
-    ensures { OnOk result ((values : ℕ → Option Data) (place : ℕ) → HasListed values place list.old.items
-        → option_map view value ≡ values place → IfSome value (λ v. has_float (view v) ≡ false)
-        → HasListed values (place + 1) list.new.items) }
-{
-    match value {
-        Some(value) => serde_json::push(list, value),
-        None => Ok(()),
-    }
 }
 
 /// Returns the journal at a place, if it is given.

@@ -3,6 +3,8 @@ use Rattle.std.proofs.Common.{◌≡◌, ◌≢◌, ℕ, ◌+◌, ◌-◌, ◌<�
 use Rattle.std.proofs.Common.{ap, subst, ◌∙◌, arith, slice_set, slice_index_or, vec_capacity, All}
 use Rattle.std.proofs.lemmas.List.{map-set, get_or-map, get_or_past, append-nil, length-map}
 use Rattle.std.proofs.lemmas.List.Elements.{All-set}
+use Rattle.c8_game.specs.Inputs.{Fits}
+use Rattle.c8_wire.specs.Packet.{AreInputs}
 use Rattle.c8_known.specs.declared.table.Table.{Table}
 use Rattle.c8_known.specs.Journal.{Record, Own, Got, Freeze, Leave, Cut}
 use Rattle.c8_known.specs.Known.{PlayerValue, KnownValue, nobody, player_in, count_in, is_frozen_in, with_words, cut_at, with_cut}
@@ -11,7 +13,7 @@ use Rattle.c8_known.specs.Growth.{IsStillKnown}
 use Rattle.c8_known.specs.declared.known.Known.TheInside.{Inside}
 use Rattle.c8_known.specs.Tables.{table_value, seen, HasRoom}
 use Rattle.c8_known.specs.checked.KnownLaws.{changed, own_known, own_still, got_known, got_still, freeze_known, freeze_still, leave_known}
-use Rattle.c8_known.specs.checked.KnownLaws.{leave_still, cut_known, cut_still}
+use Rattle.c8_known.specs.checked.KnownLaws.{leave_still, cut_known, cut_still, fits_none}
 
 -- a table of the code, and its player
 pub record IsTableOf (k : KnownValue) (tables : List Table) (place q : ℕ) (table : Table) : Type 0 where
@@ -33,7 +35,7 @@ table_player k tables place q table t =
 
 table_changed : (k : KnownValue) (tables : List Table) (place q : ℕ) (old : Table) → IsTableOf k tables place q old
     → (table : Table) (ticks : ℕ) (p : PlayerValue) → table_value table ≡ p
-    → seen k.me k.delay k.limit ticks (slice_set tables place table) ≡ changed k ticks q p
+    → seen k.me k.delay k.limit k.width ticks (slice_set tables place table) ≡ changed k ticks q p
 table_changed k tables place q old t table ticks p is =
     ap (λ (players : List PlayerValue). record k { ticks = ticks; players = players })
     (map-set table_value tables place table ∙ rw (t.players, ← t.at, ← is) refl)
@@ -57,38 +59,38 @@ changes old new r is known still = record {
 }
 
 pub owned : (k : KnownValue) (tables : List Table) (place start word : ℕ) (table new : Table) → IsKnown k → IsTableOf k tables place k.me table
-    → table_value new ≡ with_words (table_value table) (word ∷ []) → count_in k k.me < k.limit
-    → Changes k (seen k.me k.delay k.limit (k.ticks + 1) (slice_set tables place new)) (Own k.me start word)
-owned k tables place start word table new known t is room =
-    changes k (seen k.me k.delay k.limit (k.ticks + 1) (slice_set tables place new)) (Own k.me start word)
+    → table_value new ≡ with_words (table_value table) (word ∷ []) → count_in k k.me < k.limit → Fits k.width word
+    → Changes k (seen k.me k.delay k.limit k.width (k.ticks + 1) (slice_set tables place new)) (Own k.me start word)
+owned k tables place start word table new known t is room fits =
+    changes k (seen k.me k.delay k.limit k.width (k.ticks + 1) (slice_set tables place new)) (Own k.me start word)
     (table_changed k tables place k.me table t new (k.ticks + 1) (with_words (player_in k k.me) (word ∷ []))
     (is ∙ ap (λ (p : PlayerValue). with_words p (word ∷ [])) (table_player k tables place k.me table t)))
-    (own_known k start word known room) (own_still k start word known)
+    (own_known k start word known room fits) (own_still k start word known)
 
 pub took : (k : KnownValue) (tables : List Table) (place q start : ℕ) (words : List ℕ) (table new : Table) → IsKnown k
     → IsTableOf k tables place q table
     → table_value new ≡ with_words (table_value table) words → q ≢ k.me → (player_in k q).cut ≡ None → count_in k q + length words ≤ k.limit
-    → Changes k (seen k.me k.delay k.limit k.ticks (slice_set tables place new)) (Got q start words)
-took k tables place q start words table new known t is other uncut room =
-    changes k (seen k.me k.delay k.limit k.ticks (slice_set tables place new)) (Got q start words)
+    → AreInputs k.width words → Changes k (seen k.me k.delay k.limit k.width k.ticks (slice_set tables place new)) (Got q start words)
+took k tables place q start words table new known t is other uncut room fits =
+    changes k (seen k.me k.delay k.limit k.width k.ticks (slice_set tables place new)) (Got q start words)
     (table_changed k tables place q table t new k.ticks (with_words (player_in k q) words)
     (is ∙ ap (λ (p : PlayerValue). with_words p words) (table_player k tables place q table t)))
-    (got_known k q start words known t.plays other uncut room) (got_still k q start words t.plays uncut)
+    (got_known k q start words known t.plays other uncut room fits) (got_still k q start words t.plays uncut)
 
 pub froze : (k : KnownValue) (tables : List Table) (place q : ℕ) (table new : Table) → IsKnown k → IsTableOf k tables place q table
     → table_value new ≡ record (table_value table) { frozen = true }
-    → Changes k (seen k.me k.delay k.limit k.ticks (slice_set tables place new)) (Freeze q)
+    → Changes k (seen k.me k.delay k.limit k.width k.ticks (slice_set tables place new)) (Freeze q)
 froze k tables place q table new known t is =
-    changes k (seen k.me k.delay k.limit k.ticks (slice_set tables place new)) (Freeze q)
+    changes k (seen k.me k.delay k.limit k.width k.ticks (slice_set tables place new)) (Freeze q)
     (table_changed k tables place q table t new k.ticks (record (player_in k q) { frozen = true })
     (is ∙ ap (λ (p : PlayerValue). record p { frozen = true }) (table_player k tables place q table t)))
     (freeze_known k q known t.plays) (freeze_still k q t.plays)
 
 pub left : (k : KnownValue) (tables : List Table) (place q : ℕ) (table new : Table) → IsKnown k → IsTableOf k tables place q table
     → table_value new ≡ record (table_value table) { leaving = true }
-    → Changes k (seen k.me k.delay k.limit k.ticks (slice_set tables place new)) (Leave q)
+    → Changes k (seen k.me k.delay k.limit k.width k.ticks (slice_set tables place new)) (Leave q)
 left k tables place q table new known t is =
-    changes k (seen k.me k.delay k.limit k.ticks (slice_set tables place new)) (Leave q)
+    changes k (seen k.me k.delay k.limit k.width k.ticks (slice_set tables place new)) (Leave q)
     (table_changed k tables place q table t new k.ticks (record (player_in k q) { leaving = true })
     (is ∙ ap (λ (p : PlayerValue). record p { leaving = true }) (table_player k tables place q table t)))
     (leave_known k q known t.plays) (leave_still k q t.plays)
@@ -99,18 +101,18 @@ first_cut p K uncut = λ i. record p { held = sym (append-nil p.held) i; cut = a
 pub was_cut : (k : KnownValue) (tables : List Table) (place q K start : ℕ) (table new : Table) → IsKnown k → IsTableOf k tables place q table
     → table_value new ≡ record (table_value table) { cut = Some K } → q ≢ k.me → is_frozen_in k q ≡ true → (player_in k q).cut ≡ None
     → count_in k q ≡ K
-    → Changes k (seen k.me k.delay k.limit k.ticks (slice_set tables place new)) (Cut q K start [])
+    → Changes k (seen k.me k.delay k.limit k.width k.ticks (slice_set tables place new)) (Cut q K start [])
 was_cut k tables place q K start table new known t is other leaves uncut all =
-    changes k (seen k.me k.delay k.limit k.ticks (slice_set tables place new)) (Cut q K start [])
+    changes k (seen k.me k.delay k.limit k.width k.ticks (slice_set tables place new)) (Cut q K start [])
     (table_changed k tables place q table t new k.ticks (with_cut (with_words (player_in k q) []) K)
     (is ∙ ap (λ (p : PlayerValue). record p { cut = Some K }) (table_player k tables place q table t) ∙ first_cut (player_in k q) K uncut))
-    (cut_known k q K start [] known t.plays other leaves uncut (omega (arith, all)) (omega (arith, all, known.within q)))
+    (cut_known k q K start [] known t.plays other leaves uncut (omega (arith, all)) (omega (arith, all, known.within q)) (fits_none k.width))
     (cut_still k q K start [] t.plays uncut)
 
 -- ---- the calls that change one table
 
 abbrev seen_of : Inside → KnownValue
-seen_of i = seen i.me.number i.delay i.limit i.ticks i.tables.items
+seen_of i = seen i.me.number i.delay i.limit i.width.bytes i.ticks i.tables.items
 
 -- before the call
 pub record IsCall (i : Inside) (self : KnownValue) (place q : ℕ) (old : Table) : Type 0 where
@@ -123,9 +125,9 @@ pub record IsCall (i : Inside) (self : KnownValue) (place q : ℕ) (old : Table)
 
 -- after the call
 pub record IsDone (i : Inside) (self : KnownValue) (ticks : ℕ) (tables : List Table) (r : Record) : Type 0 where
-  pub value : seen i.me.number i.delay i.limit ticks tables ≡ with_record self r
-  pub known : IsKnown (seen i.me.number i.delay i.limit ticks tables)
-  pub still : IsStillKnown self (seen i.me.number i.delay i.limit ticks tables)
+  pub value : seen i.me.number i.delay i.limit i.width.bytes ticks tables ≡ with_record self r
+  pub known : IsKnown (seen i.me.number i.delay i.limit i.width.bytes ticks tables)
+  pub still : IsStillKnown self (seen i.me.number i.delay i.limit i.width.bytes ticks tables)
   pub room : HasRoom i.limit tables
 
 call_table : (i : Inside) (self : KnownValue) (place q : ℕ) (old : Table) → IsCall i self place q old
@@ -139,10 +141,10 @@ call_table i self place q old call = record {
 
 done : (i : Inside) (self : KnownValue) (place q : ℕ) (old new : Table) (ticks : ℕ) (r : Record) → IsCall i self place q old
     → vec_capacity old.inputs ≤ vec_capacity new.inputs
-    → Changes (seen_of i) (seen i.me.number i.delay i.limit ticks (slice_set i.tables.items place new)) r
+    → Changes (seen_of i) (seen i.me.number i.delay i.limit i.width.bytes ticks (slice_set i.tables.items place new)) r
     → IsDone i self ticks (slice_set i.tables.items place new) r
 done i self place q old new ticks r call grows made =
-    let after : KnownValue = seen i.me.number i.delay i.limit ticks (slice_set i.tables.items place new) in
+    let after : KnownValue = seen i.me.number i.delay i.limit i.width.bytes ticks (slice_set i.tables.items place new) in
     let within = table_within (seen_of i) i.tables.items place q old (call_table i self place q old call) in
     let had = room_at i.limit i.tables.items place old call.room within call.is in
     record {
@@ -186,26 +188,28 @@ holds_value old new words h = λ i. record { held = h.items i; frozen = h.frozen
 
 pub take_call : (i : Inside) (self : KnownValue) (place q : ℕ) (words : List ℕ) (old new : Table) → IsCall i self place q old
     → HoldsMore old new words
-    → q ≢ self.me → (player_in self q).cut ≡ None → count_in self q + length words ≤ self.limit
+    → q ≢ self.me → (player_in self q).cut ≡ None → count_in self q + length words ≤ self.limit → AreInputs self.width words
     → IsDone i self i.ticks (slice_set i.tables.items place new) (Got q (count_in self q) words)
-take_call i self place q words old new call more other uncut room =
+take_call i self place q words old new call more other uncut room fits =
     done i self place q old new i.ticks (Got q (count_in self q) words) call more.capacity
     (took (seen_of i) i.tables.items place q (count_in self q) words old new call.known (call_table i self place q old call)
     (holds_value old new words more)
     (subst (λ (k : KnownValue). q ≢ k.me) (sym call.view) other) (subst (λ (k : KnownValue). (player_in k q).cut ≡ None) (sym call.view) uncut)
-    (subst (λ (k : KnownValue). count_in k q + length words ≤ k.limit) (sym call.view) room))
+    (subst (λ (k : KnownValue). count_in k q + length words ≤ k.limit) (sym call.view) room)
+    (subst (λ (k : KnownValue). AreInputs k.width words) (sym call.view) fits))
 
 pub own_call : (i : Inside) (self : KnownValue) (place word : ℕ) (old new : Table) → IsCall i self place self.me old
-    → HoldsMore old new (word ∷ []) → count_in self self.me < self.limit
+    → HoldsMore old new (word ∷ []) → count_in self self.me < self.limit → Fits self.width word
     → IsDone i self (i.ticks + 1) (slice_set i.tables.items place new) (Own self.me (count_in self self.me) word)
-own_call i self place word old new call more room =
+own_call i self place word old new call more room fits =
     let me : i.me.number ≡ self.me = ap (λ (k : KnownValue). k.me) call.view in
     let table = call_table i self place self.me old call in
     subst (λ (q : ℕ). IsDone i self (i.ticks + 1) (slice_set i.tables.items place new) (Own q (count_in self self.me) word)) me
     (done i self place self.me old new (i.ticks + 1) (Own i.me.number (count_in self self.me) word) call more.capacity
     (owned (seen_of i) i.tables.items place (count_in self self.me) word old new call.known
     (subst (λ (q : ℕ). IsTableOf (seen_of i) i.tables.items place q old) (sym me) table)
-    (holds_value old new (word ∷ []) more) (subst (λ (k : KnownValue). count_in k k.me < k.limit) (sym call.view) room)))
+    (holds_value old new (word ∷ []) more) (subst (λ (k : KnownValue). count_in k k.me < k.limit) (sym call.view) room)
+    (subst (λ (k : KnownValue). Fits k.width word) (sym call.view) fits)))
 
 -- ---- a place beyond all tables
 

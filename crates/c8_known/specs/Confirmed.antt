@@ -1,5 +1,5 @@
 -- Which inputs are settled, which frames are confirmed, and which inputs stand in for those that are not known yet.
-use Rattle.std.specs.Prelude.{ℕ, zero, suc, ◌-◌, ◌≡◌, ◌<◌, ◌≤◌, List, [], ◌∷◌, length, map, slice_index, Bool, true, false, nat_le, Option}
+use Rattle.std.specs.Prelude.{ℕ, ◌-◌, ◌≡◌, ◌<◌, ◌≤◌, List, [], ◌∷◌, length, map, slice_index, Bool, true, false, nat_le, Option}
 use Rattle.std.specs.Prelude.{Some, None, if◌then◌else◌}
 use Rattle.std.specs.List.{slice_get, range_with_len, list_all}
 use Rattle.c8_game.specs.declared.row.Row.{Row}
@@ -8,7 +8,7 @@ use Rattle.c8_known.specs.Known.{PlayerValue, KnownValue, player_in, Plays}
 
 -- ---- settled inputs
 
--- the empty key set in each frame from a cut on
+-- 0 in each frame from a cut on
 abbrev pub past_cut : Option ℕ → ℕ → Option ℕ
 past_cut None frame = None
 past_cut (Some K) frame = if nat_le K frame then Some 0 else None
@@ -17,7 +17,7 @@ abbrev pub unless_held : Option ℕ → Option ℕ → Option ℕ
 unless_held (Some input) past = Some input
 unless_held None past = past
 
--- A player's settled input in a frame: the held one, or the empty set from its cut on.
+-- A player's settled input in a frame: the held one, or 0 from its cut on.
 unfoldable pub input_of : PlayerValue → ℕ → Option ℕ
 input_of p frame = unless_held (slice_get p.held frame) (past_cut p.cut frame)
 
@@ -61,9 +61,9 @@ or_empty None = 0
 -- A row: an input for each of four players. A player that is not in the game counts as one without
 -- inputs.
 abbrev pub row_of : (PlayerValue → ℕ) → KnownValue → Row
-row_of input k = record { sets = map (λ q. record { 0 = input (player_in k q) }) (1 ∷ 2 ∷ 3 ∷ 4 ∷ []) }
+row_of input k = record { inputs = map (λ q. input (player_in k q)) (1 ∷ 2 ∷ 3 ∷ 4 ∷ []) }
 
--- the settled inputs of a frame, and the empty set for a player without one
+-- the settled inputs of a frame, and 0 for a player without one
 abbrev pub row : KnownValue → ℕ → Row
 row k frame = row_of (λ p. or_empty (input_of p frame)) k
 
@@ -74,7 +74,7 @@ rows_below k n = map (row k) (range_with_len 0 n)
 abbrev pub confirmed_rows : KnownValue → List Row
 confirmed_rows k = rows_below k (confirmed k)
 
--- the player's last held input, the empty set if there is none
+-- the player's last held input, 0 if there is none
 abbrev pub last_held : PlayerValue → ℕ
 last_held p = slice_index p.held (length p.held - 1)
 

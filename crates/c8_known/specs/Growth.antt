@@ -24,6 +24,7 @@ pub record IsStillKnown (old new : KnownValue) : Type 0 where
   pub me : new.me ≡ old.me
   pub delay : new.delay ≡ old.delay
   pub limit : new.limit ≡ old.limit
+  pub width : new.width ≡ old.width
   pub ticks : old.ticks ≤ new.ticks
   pub players : length new.players ≡ length old.players
   pub each : (q : ℕ) → IsStillKnownOf (player_in old q) (player_in new q)

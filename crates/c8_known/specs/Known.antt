@@ -1,10 +1,12 @@
 -- What a peer knows of the players' inputs: what its journal says, laid out by player.
-use Rattle.std.specs.Prelude.{ℕ, ◌+◌, ◌-◌, ◌≡◌, ◌≤◌, List, [], ◌∷◌, ◌++◌, length, map, slice_index_or, slice_set, Bool, true, false, ◌||◌}
+use Rattle.std.specs.Prelude.{ℕ, ◌+◌, ◌-◌, ◌≡◌, ◌≤◌, List, [], ◌∷◌, ◌++◌, length, map, slice_index, slice_index_or, slice_set, Bool, true}
+use Rattle.std.specs.Prelude.{false, ◌||◌}
 use Rattle.std.specs.Prelude.{◌&&◌, nat_le, Option, Some, None}
 use Rattle.std.specs.List.{range_with_len}
+use Rattle.c8_game.specs.Inputs.{Fits}
 use Rattle.c8_game.specs.Rules.{Rules, limit_of, most_inputs}
 use Rattle.c8_known.specs.Journal as journals
-use Rattle.c8_known.specs.Journal.{Record, Head, Epoch, Own, Got, Freeze, Leave, Cut, State, Check, player_of}
+use Rattle.c8_known.specs.Journal.{Record, Head, Epoch, Own, Got, Freeze, Leave, Cut, State, Check, Met, player_of}
 
 -- what is known of one player: its held inputs, whether there is a FREEZE and whether a LEAVE of it, and the length at
 -- which its list is cut, if it is
@@ -14,12 +16,13 @@ pub record PlayerValue : Type 0 where
   pub leaving : Bool
   pub cut : Option ℕ
 
--- what a player knows: the delay and the greatest length of a list in its game, how many ticks it has made, and what it
+-- what a player knows: the delay, the greatest length of a list and the width of inputs in its game, how many ticks it has made, and what it
 -- knows of each player, player 1 first
 pub record KnownValue : Type 0 where
   pub me : ℕ
   pub delay : ℕ
   pub limit : ℕ
+  pub width : ℕ
   pub ticks : ℕ
   pub players : List PlayerValue
 
@@ -57,6 +60,7 @@ known_of rules me journal = record {
   me = me;
   delay = rules.delay;
   limit = limit_of rules;
+  width = rules.width;
   ticks = journals.ticks journal;
   players = map (λ place. said_of rules (place + 1) journal) (range_with_len 0 rules.players);
 }
@@ -79,7 +83,7 @@ abbrev pub with_cut : PlayerValue → ℕ → PlayerValue
 with_cut p length = record p { cut = cut_at p.cut length }
 
 abbrev pub with_record : KnownValue → Record → KnownValue
-with_record k (Head player form id room) = k
+with_record k (Head player form id room life) = k
 with_record k (Epoch player number form) = k
 with_record k (Own player start word) = record (with_player k player (with_words (player_in k player) (word ∷ []))) { ticks = k.ticks + 1 }
 with_record k (Got player start words) = with_player k player (with_words (player_in k player) words)
@@ -88,6 +92,7 @@ with_record k (Leave player) = with_player k player (record (player_in k player)
 with_record k (Cut player length start words) = with_player k player (with_cut (with_words (player_in k player) words) length)
 with_record k (State player frames piece bytes) = k
 with_record k (Check player frames digest) = k
+with_record k (Met player life) = k
 
 -- ---- the invariant of all that a peer can know
 
@@ -110,15 +115,17 @@ pub record IsKnown (k : KnownValue) : Type 0 where
   pub me : Plays k k.me
   pub limit : k.limit ≤ most_inputs
   pub within : (q : ℕ) → count_in k q ≤ k.limit
+  pub fits : (q place : ℕ) → Fits k.width (slice_index (player_in k q).held place)
   pub own : count_in k k.me ≡ k.delay + k.ticks
   pub own_uncut : (player_in k k.me).cut ≡ None
   pub cuts : (q K : ℕ) → (player_in k q).cut ≡ Some K → EndsAtCut (player_in k q) K
 
--- the players, the delay and the limit are those of the game, and the own player is the given one
+-- the players, the delay, the limit and the width are those of the game, and the own player is the given one
 pub record IsOfGame (rules : Rules) (me : ℕ) (k : KnownValue) : Type 0 where
   pub players : length k.players ≡ rules.players
   pub delay : k.delay ≡ rules.delay
   pub limit : k.limit ≡ limit_of rules
+  pub width : k.width ≡ rules.width
   pub player : k.me ≡ me
 
 -- the player that the record names is in the game

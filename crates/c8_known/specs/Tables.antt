@@ -6,11 +6,12 @@ use Rattle.c8_known.specs.Known.{PlayerValue, KnownValue}
 abbrev pub table_value : Table → PlayerValue
 table_value table = record { held = table.inputs.items; frozen = table.frozen; leaving = table.leaving; cut = table.cut }
 
-abbrev pub seen : ℕ → ℕ → ℕ → ℕ → List Table → KnownValue
-seen me delay limit ticks tables = record {
+abbrev pub seen : ℕ → ℕ → ℕ → ℕ → ℕ → List Table → KnownValue
+seen me delay limit width ticks tables = record {
   me = me;
   delay = delay;
   limit = limit;
+  width = width;
   ticks = ticks;
   players = map table_value tables;
 }

@@ -1,7 +1,9 @@
 //! What one player knows of the inputs of all players.
 ghost use Rattle.std.specs.Prelude.{◌≡◌, ◌≢◌, ℕ, ◌≤◌, ◌<◌, ◌+◌, ◌-◌, [], ◌∷◌, true, false, None, Some, length, drop, take, ◌==◌, min, IfOk, MatchResult, OnOk};
 ghost use Rattle.c8_game.specs.Rules.{limit_of};
-ghost use Rattle.c8_wire.specs.Lent.{words, IsSliceFrom};
+ghost use Rattle.c8_game.specs.Inputs.{Fits};
+ghost use Rattle.c8_wire.specs.Packet.{AreInputs};
+ghost use Rattle.c8_wire.specs.Lent.{words, width_of, IsSliceFrom};
 ghost use Rattle.c8_known.specs.Journal.{Own, Got, Freeze, Leave, Cut};
 ghost use Rattle.c8_known.specs.Known.{player_in, count_in, is_frozen_in, known_of, with_record, Plays, IsKnown, IsOfGame};
 ghost use Rattle.c8_known.specs.Confirmed.{confirmed, IsConfirmed, input_of, or_empty, best_input, row, best_row};
@@ -10,7 +12,7 @@ ghost use Rattle.c8_known.specs.Fresh.{refusal, fresh_words};
 
 use crate::error::KnownError;
 use crate::table::{Table, differ, hold, hold_run, least_reach, tables_of};
-use c8_game::{Game, Keys, Player, Row};
+use c8_game::{Game, Input, Player, Row, Width};
 use c8_wire::Run;
 use std::alloc::{AllocError, Global};
 use std::fmt;
@@ -22,6 +24,7 @@ pub struct Known {
     me: Player,
     delay: u8,
     limit: u32,
+    width: Width,
     ticks: u32,
     tables: Vec<Table>,
 }
@@ -32,9 +35,9 @@ impl Model for Known {
 
     ghost Value = { KnownValue };
 
-    ghost view = { λ k. seen k.me.number k.delay k.limit k.ticks k.tables.items };
+    ghost view = { λ k. seen k.me.number k.delay k.limit k.width.bytes k.ticks k.tables.items };
 
-    ghost invariant = { λ k. IsKnown (seen k.me.number k.delay k.limit k.ticks k.tables.items)
+    ghost invariant = { λ k. IsKnown (seen k.me.number k.delay k.limit k.width.bytes k.ticks k.tables.items)
         × HasRoom k.limit k.tables.items };
 }
 
@@ -50,18 +53,22 @@ impl fmt::Debug for Known {
 }
 
 impl Known {
-    /// Creates what player `me` knows before its journal has a record: the empty sets of the delay.
+    /// Creates what player `me` knows before its journal has a record: the inputs of 0 of the delay.
     /// Fails only if memory is refused.
     pub fn new(alloc: Global, game: &Game, me: Player) -> Result<Known, AllocError>
         requires { me.number ≤ game.now.players }
         ensures value { IfOk result (λ known. known ≡ known_of game.now me.number []) }
         ensures of_game { IfOk result (λ known. IsOfGame game.now me.number known) }
     {
+        // For the proof: what holds for every game.
+        game.in_range();
         let (delay, limit) = (game.delay(), game.limit());
+        let width = game.width();
         Ok(Known {
             me,
             delay,
             limit,
+            width,
             ticks: 0,
             tables: tables_of(alloc, game.players(), delay, limit)?,
         })
@@ -90,14 +97,21 @@ impl Known {
         self.limit
     }
 
-    /// Returns how many empty sets begin each player's list.
+    /// Returns how many inputs of 0 begin each player's list.
     pub fn delay(&self) -> u8
         ensures { result ≡ self.now.delay }
     {
         self.delay
     }
 
-    /// Returns how many ticks the own player has made. Each tick enters one key set.
+    /// Returns how many bytes an input has.
+    pub fn width(&self) -> Width
+        ensures { result.bytes ≡ self.now.width }
+    {
+        self.width
+    }
+
+    /// Returns how many ticks the own player has made. Each tick enters one input.
     pub fn ticks(&self) -> u32
         ensures { result ≡ self.now.ticks }
     {
@@ -114,12 +128,13 @@ impl Known {
     }
 
     /// Returns a player's inputs from place `from` up to, but not including, place `to` of its list.
-    pub fn inputs(&self, player: Player, from: u32, to: u32) -> &[u16]
+    pub fn inputs(&self, player: Player, from: u32, to: u32) -> &[Input]
         requires plays { Plays self.now player.number }
         requires order { from ≤ to }
         requires within { to ≤ count_in self.now player.number }
-        ensures { result.now
+        ensures value { result.now
             ≡ take (to - from) (drop from (player_in self.now player.number).held) }
+        ensures fits { AreInputs self.now.width result.now }
     {
         &self.tables[player.place()].inputs[from as usize..to as usize]
     }
@@ -173,7 +188,7 @@ impl Known {
         ensures { result ≡ row self.now frame }
     {
         Row {
-            sets: [
+            inputs: [
                 self.settled(0, frame),
                 self.settled(1, frame),
                 self.settled(2, frame),
@@ -182,12 +197,12 @@ impl Known {
         }
     }
 
-    fn settled(&self, place: usize, frame: u32) -> Keys
-        ensures { result.0 ≡ or_empty (input_of (player_in self.now (place + 1)) frame) }
+    fn settled(&self, place: usize, frame: u32) -> Input
+        ensures { result ≡ or_empty (input_of (player_in self.now (place + 1)) frame) }
     {
         match self.tables.get(place) {
-            Some(table) => Keys(table.input(frame).unwrap_or(0)),
-            None => Keys(0),
+            Some(table) => table.input(frame).unwrap_or(Input(0)),
+            None => Input(0),
         }
     }
 
@@ -196,7 +211,7 @@ impl Known {
         ensures value { result ≡ best_row self.now frame }
     {
         Row {
-            sets: [
+            inputs: [
                 self.guess(0, frame),
                 self.guess(1, frame),
                 self.guess(2, frame),
@@ -205,12 +220,12 @@ impl Known {
         }
     }
 
-    fn guess(&self, place: usize, frame: u32) -> Keys
-        ensures { result.0 ≡ best_input (player_in self.now (place + 1)) frame }
+    fn guess(&self, place: usize, frame: u32) -> Input
+        ensures { result ≡ best_input (player_in self.now (place + 1)) frame }
     {
         match self.tables.get(place) {
-            Some(table) => Keys(table.best(frame)),
-            None => Keys(0),
+            Some(table) => table.best(frame),
+            None => Input(0),
         }
     }
 
@@ -235,6 +250,7 @@ impl Known {
         ensures slice { IfOk result (λ part.
             IsSliceFrom run.entry (min (length (words run.entry))
             (count_in self.now player.number - start)) part) }
+        ensures width { IfOk result (λ part. width_of part ≡ width_of run.entry) }
         ensures room { IfOk result (λ part.
             count_in self.now player.number + length (words part) ≤ self.now.limit) }
     {
@@ -256,15 +272,16 @@ impl Known {
         Ok(run.from_place(run.len().min(count - start)))
     }
 
-    /// Adds a key set that the own player entered, and counts the tick.
-    pub fn own(&mut self, keys: Keys)
-        requires { count_in self.old self.old.me < self.old.limit }
+    /// Adds an input that the own player entered, and counts the tick.
+    pub fn own(&mut self, input: Input)
+        requires room { count_in self.old self.old.me < self.old.limit }
+        requires fits { Fits self.old.width input }
         ensures value { self.new
-            ≡ with_record self.old (Own self.old.me (count_in self.old self.old.me) keys.0) }
+            ≡ with_record self.old (Own self.old.me (count_in self.old self.old.me) input) }
         ensures known { IsKnown self.new }
         ensures still { IsStillKnown self.old self.new }
     {
-        hold(&mut self.tables[self.me.place()].inputs, keys.0);
+        hold(&mut self.tables[self.me.place()].inputs, input);
         self.ticks += 1;
     }
 
@@ -274,6 +291,7 @@ impl Known {
         requires other { player.number ≢ self.old.me }
         requires uncut { (player_in self.old player.number).cut ≡ None }
         requires room { count_in self.old player.number + length (words run) ≤ self.old.limit }
+        requires fits { AreInputs self.old.width (words run) }
         ensures value { self.new ≡ with_record self.old
             (Got player.number (count_in self.old player.number) (words run.entry)) }
         ensures known { IsKnown self.new }

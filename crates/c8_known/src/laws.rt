@@ -1,8 +1,10 @@
 //! Facts for callers that belong to no single call: laws of journals, and of what a player knows by its journal. Each
 //! is the contract of a function that does nothing.
 ghost use Rattle.std.specs.Prelude.{◌≡◌, ◌≢◌, ℕ, ◌+◌, ◌<◌, ◌≤◌, ◌++◌, ◌∷◌, [], List, length, take, drop, Some, None, true};
+ghost use Rattle.c8_game.specs.Inputs.{Fits};
 ghost use Rattle.c8_game.specs.Rules.{Rules, AreInRange};
-ghost use Rattle.c8_known.specs.Journal.{Record, Own, Got, Freeze, Leave, Cut};
+ghost use Rattle.c8_wire.specs.Packet.{AreInputs, IsRow};
+ghost use Rattle.c8_known.specs.Journal.{Record, Own, Got, Freeze, Leave, Cut, Met};
 ghost use Rattle.c8_known.specs.Known.{KnownValue, known_of, player_in, count_in, is_frozen_in, said_of, with_record, NamesPlayer, Plays, IsKnown};
 ghost use Rattle.c8_known.specs.Confirmed.{input_of, confirmed, IsConfirmed, row, confirmed_rows, best_row};
 ghost use Rattle.c8_known.specs.Growth.{Begins, IsStillKnown};
@@ -38,6 +40,7 @@ pub fn a_record_takes_nothing_back()
         → IsStillKnown k (with_record k (Leave q)) }
     ensures cut { (k : KnownValue) (q K start : ℕ) (words : List ℕ) → Plays k q
         → (player_in k q).cut ≡ None → IsStillKnown k (with_record k (Cut q K start words)) }
+    ensures met { (k : KnownValue) (q life : ℕ) → IsStillKnown k (with_record k (Met q life)) }
 {}
 
 /// The invariant of all that a peer can know holds before its journal has a record, and each record that a call of
@@ -46,17 +49,17 @@ pub fn what_is_known_stays_sound()
     ensures start { (rules : Rules) (me : ℕ) → AreInRange rules → 1 ≤ me → me ≤ rules.players
         → IsKnown (known_of rules me []) }
     ensures own { (k : KnownValue) (start word : ℕ) → IsKnown k → count_in k k.me < k.limit
-        → IsKnown (with_record k (Own k.me start word)) }
+        → Fits k.width word → IsKnown (with_record k (Own k.me start word)) }
     ensures got { (k : KnownValue) (q start : ℕ) (words : List ℕ) → IsKnown k → Plays k q
         → q ≢ k.me → (player_in k q).cut ≡ None → count_in k q + length words ≤ k.limit
-        → IsKnown (with_record k (Got q start words)) }
+        → AreInputs k.width words → IsKnown (with_record k (Got q start words)) }
     ensures freeze { (k : KnownValue) (q : ℕ) → IsKnown k → Plays k q
         → IsKnown (with_record k (Freeze q)) }
     ensures leave { (k : KnownValue) (q : ℕ) → IsKnown k → Plays k q
         → IsKnown (with_record k (Leave q)) }
     ensures cut { (k : KnownValue) (q K start : ℕ) (words : List ℕ) → IsKnown k → Plays k q
         → q ≢ k.me → is_frozen_in k q ≡ true → (player_in k q).cut ≡ None
-        → count_in k q + length words ≡ K → K ≤ k.limit
+        → count_in k q + length words ≡ K → K ≤ k.limit → AreInputs k.width words
         → IsKnown (with_record k (Cut q K start words)) }
 {}
 
@@ -89,6 +92,12 @@ pub fn confirmed_rows_stay()
 pub fn what_is_confirmed_is_not_guessed()
     ensures { (k : KnownValue) (frame : ℕ) → frame < confirmed k
         → best_row k frame ≡ row k frame }
+{}
+
+/// The inputs of a row fit the width of the game, the settled ones and the guessed ones.
+pub fn rows_fit()
+    ensures row { (k : KnownValue) (frame : ℕ) → IsKnown k → IsRow k.width (row k frame) }
+    ensures best { (k : KnownValue) (frame : ℕ) → IsKnown k → IsRow k.width (best_row k frame) }
 {}
 
 /// A run that is not refused is in the player's list after its fresh part is added.

@@ -6,20 +6,21 @@ ghost use Rattle.c8_known.specs.Fresh.{differ};
 ghost use Rattle.c8_known.specs.declared.table.Table.{Table};
 ghost use Rattle.c8_known.specs.Tables.{table_value, HasRoom, reach_of, least_of};
 
+use c8_game::Input;
 use c8_wire::{Inputs, Run};
 use std::alloc::{AllocError, Global};
 
 /// The held inputs of a player, whether it is frozen or dropped, and where its list is cut.
 #[derive(Drop)]
 pub(crate) struct Table {
-    pub(crate) inputs: Vec<u16>,
+    pub(crate) inputs: Vec<Input>,
     pub(crate) frozen: bool,
     pub(crate) leaving: bool,
     pub(crate) cut: Option<u32>,
 }
 
 impl Table {
-    /// Makes a table with the empty sets of the delay and room for `limit` inputs.
+    /// Makes a table with the inputs of 0 of the delay and room for `limit` inputs.
     pub(crate) fn new(alloc: Global, delay: u8, limit: u32) -> Result<Table, AllocError>
         requires { delay ≤ limit }
         ensures value { IfOk result (λ table. table_value table
@@ -28,7 +29,7 @@ impl Table {
     {
         let mut inputs = Vec::with_capacity(alloc, limit as usize)?;
         for _ in 0..delay {
-            hold(&mut inputs, 0);
+            hold(&mut inputs, Input(0));
         }
         Ok(Table {
             inputs,
@@ -40,12 +41,12 @@ impl Table {
 
     /// Returns the settled input of a frame, if there is one.
     #[tactic(auto, unfolding(crate::specs::Confirmed::input_of))]
-    pub(crate) fn input(&self, frame: u32) -> Option<u16>
+    pub(crate) fn input(&self, frame: u32) -> Option<Input>
         ensures { result ≡ input_of (table_value self.now) frame }
     {
         match (self.inputs.get(frame as usize), self.cut) {
             (Some(input), _) => Some(*input),
-            (None, Some(length)) if length <= frame => Some(0),
+            (None, Some(length)) if length <= frame => Some(Input(0)),
             (None, _) => None,
         }
     }
@@ -64,13 +65,13 @@ impl Table {
 
     /// Returns the settled input of a frame, else the last held one.
     #[tactic(auto, unfolding(crate::specs::Confirmed::best_input))]
-    pub(crate) fn best(&self, frame: u32) -> u16
+    pub(crate) fn best(&self, frame: u32) -> Input
         ensures { result ≡ best_input (table_value self.now) frame }
     {
         match (self.input(frame), self.inputs.last()) {
             (Some(input), _) => input,
             (None, Some(last)) => *last,
-            (None, None) => 0,
+            (None, None) => Input(0),
         }
     }
 }
@@ -108,7 +109,7 @@ pub(crate) fn least_reach(tables: &[Table], ticks: u32) -> u32
 }
 
 /// Adds an input, in reserved room.
-pub(crate) fn hold(inputs: &mut Vec<u16>, input: u16)
+pub(crate) fn hold(inputs: &mut Vec<Input>, input: Input)
     requires { vec_len inputs.old < vec_capacity inputs.old }
     ensures items { inputs.new.items ≡ inputs.old.items ++ input ∷ [] }
     ensures capacity { vec_capacity inputs.old ≤ vec_capacity inputs.new }
@@ -117,27 +118,37 @@ pub(crate) fn hold(inputs: &mut Vec<u16>, input: u16)
 }
 
 /// Adds the inputs of a run, in reserved room.
-pub(crate) fn hold_run(inputs: &mut Vec<u16>, run: Run<'_>)
+pub(crate) fn hold_run(inputs: &mut Vec<Input>, run: Run<'_>)
     requires { vec_len inputs.old + length (words run) ≤ vec_capacity inputs.old }
     ensures items { inputs.new.items ≡ inputs.old.items ++ words run.entry }
     ensures capacity { vec_capacity inputs.old ≤ vec_capacity inputs.new }
 {
-    for input in run.iter() {
+    hold_rest(inputs, &mut run.iter());
+}
+
+/// Adds the remaining inputs of a run, in reserved room.
+fn hold_rest(inputs: &mut Vec<Input>, rest: &mut Inputs<'_>)
+    requires { vec_len inputs.old + length (words_left rest.old) ≤ vec_capacity inputs.old }
+    ensures items { inputs.new.items ≡ inputs.old.items ++ words_left rest.old }
+    ensures capacity { vec_capacity inputs.old ≤ vec_capacity inputs.new }
+{
+    if let Some(input) = rest.next() {
         hold(inputs, input);
+        hold_rest(inputs, rest);
     }
 }
 
 /// Returns whether some input of a run differs from the held one at its place.
-pub(crate) fn differ(held: &[u16], run: Run<'_>) -> bool
+pub(crate) fn differ(held: &[Input], run: Run<'_>) -> bool
     ensures { result ≡ differ held.now (words run.entry) }
 {
-    differ_from(held, run.iter())
+    differ_from(held, &mut run.iter())
 }
 
 /// Returns whether some remaining input differs from the held one at its place.
 #[tactic(auto, unfolding(crate::specs::Fresh::differ))]
-fn differ_from(held: &[u16], mut inputs: Inputs<'_>) -> bool
-    ensures { result ≡ differ held.now (words_left inputs.entry) }
+fn differ_from(held: &[Input], inputs: &mut Inputs<'_>) -> bool
+    ensures { result ≡ differ held.now (words_left inputs.old) }
 {
     let Some(input) = inputs.next() else {
         return false;

@@ -1,4 +1,4 @@
--- How lists of entered key sets join.
+-- How lists of entered inputs join.
 use Rattle.std.proofs.Common.{◌≡◌, ℕ, List, [], ◌∷◌, ◌++◌, Option, Some, refl, sym, ap, subst, ◌∙◌, map, append-nil, append_assoc}
 use Rattle.std.proofs.lemmas.List.Elements.{All-head, All-tail}
 use Rattle.std.specs.List.{All}
@@ -15,7 +15,7 @@ use Rattle.c8_session.specs.checked.Joins.{RunsJoin, still, joined, once}
 
 -- a call that is no tick enters nothing
 none_by : (call : Call) (answer : Option Reply) → (doing call ≡ Ticks → ⊥) → entered_by call answer ≡ []
-none_by (Tick keys) answer other = absurd (other refl)
+none_by (Tick input) answer other = absurd (other refl)
 none_by (Deliver told) answer other = refl
 none_by (Say to what) answer other = refl
 none_by (Show watcher) answer other = refl

@@ -1,5 +1,5 @@
 -- How what a session notes of its deliveries joins, and how what it says does.
-use Rattle.std.proofs.Common.{◌≡◌, ℕ, suc, ◌+◌, ◌≤◌, List, [], ◌∷◌, ◌++◌, length, Bool, true, Option, Some, None, Ok, refl, sym, ap, subst, inl, inr}
+use Rattle.std.proofs.Common.{◌≡◌, ℕ, suc, ◌+◌, ◌≤◌, List, [], ◌∷◌, ◌++◌, length, true, Option, Some, None, Ok, refl, sym, ap, subst, inl, inr}
 use Rattle.std.proofs.Common.{◌∙◌, map, arith}
 use Rattle.std.proofs.lemmas.List.{map-append}
 use Rattle.c8_game.specs.Rules.{Rules}
@@ -12,12 +12,13 @@ use Rattle.c8_peer.specs.Peer.{PeerValue, IsAnswered, IsSaid, disk_outcome_of}
 use Rattle.c8_peer.specs.Runs.{Does, IsDone, IsRun}
 use Rattle.c8_transport.specs.Wire.{MayTake, most_packets}
 use Rattle.c8_transport.specs.declared.wire.Wire.{Ghosts as WireGhosts}
-use Rattle.c8_session.specs.Notes.{Notes, greeted_by, noted, after_turn}
+use Rattle.c8_session.specs.Ending.{after_turn}
+use Rattle.c8_session.specs.Notes.{Notes, begun, noted}
 use Rattle.c8_session.specs.Due.{said_in_turn}
 use Rattle.c8_session.specs.Runs.{does}
 use Rattle.c8_session.specs.Turns.{Hears, Ticks, Speaks, doing, HasCalledOnce, HasTurned}
 use Rattle.c8_session.specs.checked.Joins.{RunsJoin, done_still, done_once}
-use Rattle.c8_live.specs.Owed.{greeters_after, notes_after, HasNotedOf, HasNoted, call_of, HasSaid, HasSaidAll}
+use Rattle.c8_live.specs.Owed.{noted_all, notes_after, HasNotedOf, HasNoted, call_of, HasSaid, HasSaidAll}
 use Rattle.c8_live.proofs.TurnLemmas.{heard_none, heard_given, heard_up_to, heard_joined, spoken_still, spoken_once, spoken_joined, turn_of}
 
 none_longer : (n : ℕ) → suc n ≤ 0 → ⊥
@@ -31,16 +32,16 @@ nothing_left (call ∷ calls) none = absurd (none_longer (length calls) none)
 -- ---- what is noted
 
 -- calls after others, each with its answer
-pub greeters_both : (rules : Rules) (room me : ℕ) (s t : State) (greeters : List Bool) (calls others : List (Call × DiskOutcome))
+pub noted_both : (rules : Rules) (room me : ℕ) (s t : State) (notes : Notes) (calls others : List (Call × DiskOutcome))
     (answers more : List (Option Reply)) → IsRun rules room me s (map does calls) answers t
-    → greeters_after greeters (calls ++ others) (answers ++ more) ≡ greeters_after (greeters_after greeters calls answers) others more
-greeters_both rules room me s t greeters [] others [] more run = refl
-greeters_both rules room me s t greeters [] others (answer ∷ answers) more run = absurd run
-greeters_both rules room me s t greeters (call ∷ calls) others [] more run = absurd run
-greeters_both rules room me s t greeters (call ∷ calls) others (None ∷ answers) more run =
-    greeters_both rules room me run.0 t greeters calls others answers more run.2
-greeters_both rules room me s t greeters (call ∷ calls) others (Some reply ∷ answers) more run =
-    greeters_both rules room me run.0 t (greeted_by greeters call.0 reply) calls others answers more run.2
+    → noted_all notes (calls ++ others) (answers ++ more) ≡ noted_all (noted_all notes calls answers) others more
+noted_both rules room me s t notes [] others [] more run = refl
+noted_both rules room me s t notes [] others (answer ∷ answers) more run = absurd run
+noted_both rules room me s t notes (call ∷ calls) others [] more run = absurd run
+noted_both rules room me s t notes (call ∷ calls) others (None ∷ answers) more run =
+    noted_both rules room me run.0 t notes calls others answers more run.2
+noted_both rules room me s t notes (call ∷ calls) others (Some reply ∷ answers) more run =
+    noted_both rules room me run.0 t (noted notes call.0 reply) calls others answers more run.2
 
 module _ {D : Type 0} (disk : DiskGhosts D) where
   abbrev pub unnoted : (p : PeerValue D) (notes : Notes) (bytes : List ℕ) → HasNotedOf disk (bytes ∷ []) p p notes notes
@@ -79,9 +80,8 @@ module _ {D W : Type 0} (disk : DiskGhosts D) (wire : WireGhosts W) where
         heard = heard_joined disk wire join most more first middle last before between after one.heard two.heard;
         noted =
             two.noted ∙ ap (λ (n : Notes). notes_after n late) one.noted
-            ∙ ap (λ (greeters : List Bool). record notes { greeters = greeters })
-            (sym (greeters_both first.rules first.room first.me first.state middle.state notes.greeters early.calls late.calls early.answers
-            late.answers early.run));
+            ∙ sym (noted_both first.rules first.room first.me first.state middle.state notes early.calls late.calls early.answers
+            late.answers early.run);
       }
 
   abbrev Joins : Type 0
@@ -125,17 +125,19 @@ module _ {D W : Type 0} (disk : DiskGhosts D) (wire : WireGhosts W) where
 
   -- ---- a whole turn
 
-  pub said_all : (old begun heard ticked turned new : PeerValue D) (notes first later now : Notes) (before between after : W) → begun ≡ old
-      → first ≡ notes → HasNoted disk wire most_packets begun heard first later before between → HasCalledOnce disk Ticks heard ticked
-      → HasTurned disk ticked turned → HasSaid disk wire turned (said_in_turn turned later.greeters later.shown) between after → new ≡ turned
+  pub said_all : (old begun_peer heard ticked turned new : PeerValue D) (notes first later now : Notes) (before between after : W)
+      → begun_peer ≡ old → first ≡ begun notes → HasNoted disk wire most_packets begun_peer heard first later before between
+      → HasCalledOnce disk Ticks heard ticked → HasTurned disk ticked turned
+      → HasSaid disk wire turned (said_in_turn later turned) between after → new ≡ turned
       → now ≡ after_turn true turned later → HasSaidAll disk wire old new notes now before after
-  said_all old begun heard ticked turned new notes first later now before between after same same_notes hears ticks turns said still noted =
+  said_all old begun_peer heard ticked turned new notes first later now before between after same same_notes hears ticks turns said still
+      noted =
       let ran = hears.heard.heard.0.ran in
-      let whole : HasSaidAll disk wire begun turned first now before after = record {
-        turn = turn_of disk wire begun heard ticked turned before between after hears.heard ticks turns said.0;
-        said = said.1 ∙ ap (λ (n : Notes). said_in_turn turned n.greeters n.shown) hears.noted;
-        noted = noted ∙ ap (λ (n : Notes). after_turn true turned n) hears.noted;
+      let noted_is : later ≡ notes_after (begun notes) ran = hears.noted ∙ ap (λ (n : Notes). notes_after n ran) same_notes in
+      let whole : HasSaidAll disk wire begun_peer turned notes now before after = record {
+        turn = turn_of disk wire begun_peer heard ticked turned before between after hears.heard ticks turns said.0;
+        said = said.1 ∙ ap (λ (n : Notes). said_in_turn n turned) noted_is;
+        noted = noted ∙ ap (λ (n : Notes). after_turn true turned n) noted_is;
       } in
       subst (λ (p : PeerValue D). HasSaidAll disk wire p new notes now before after) same
-      (subst (λ (n : Notes). HasSaidAll disk wire begun new n now before after) same_notes
-      (subst (λ (p : PeerValue D). HasSaidAll disk wire begun p first now before after) (sym still) whole))
+      (subst (λ (p : PeerValue D). HasSaidAll disk wire begun_peer p notes now before after) (sym still) whole)

@@ -63,12 +63,14 @@ tells_alone rules me s none are true = subst (HasTrueChecks rules me)
 tells_alone rules me s none are false = are
 
 -- the journal of an opened peer is what was found and the record of the opening
-pub opened_tells : {D : Type 0} (g : Ghosts D) (disk : D) (rules : Rules) (room me : ℕ) (p : PeerValue D) → IsOpened g disk rules room me p
-    → HasTrueChecks rules me (records_of (bodies_found g disk) ++ opening_record rules room me (records_of (bodies_found g disk)) ∷ [])
+pub opened_tells : {D : Type 0} (g : Ghosts D) (disk : D) (rules : Rules) (room me drawn : ℕ) (p : PeerValue D)
+    → IsOpened g disk rules room me drawn p
+    → HasTrueChecks rules me (records_of rules.width (bodies_found g disk) ++ opening_record rules room me drawn
+    (records_of rules.width (bodies_found g disk)) ∷ [])
     → TellsTruly p.rules p.me p.state
-opened_tells g disk rules room me p is are =
-    let found : List Record = records_of (bodies_found g disk) in
-    let same : p.state ≡ (opened rules room me p.state found Stands).state = ap (λ (s : Stepped). s.state) (is.opening p.state) in
+opened_tells g disk rules room me drawn p is are =
+    let found : List Record = records_of rules.width (bodies_found g disk) in
+    let same : p.state ≡ (opened rules room me drawn p.state found Stands).state = ap (λ (s : Stepped). s.state) (is.opening p.state) in
     subst (λ (r : Rules). TellsTruly r p.me p.state) (sym is.rules_are)
     (subst (λ (n : ℕ). TellsTruly rules n p.state) (sym is.me_is)
     (tells_alone rules me p.state (ap (λ (s : State). s.pending) same)

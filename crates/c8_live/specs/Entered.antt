@@ -1,6 +1,5 @@
--- Which key sets a player enters: those of the ticks that its peer takes.
+-- Which inputs a player enters: those of the ticks that its peer takes.
 use Rattle.std.specs.Prelude.{◌≡◌, ℕ, List, [], ◌∷◌, ◌++◌, Bool, true, false, Option, None, Some, Ok, Err, if◌then◌else◌}
-use Rattle.c8_game.specs.declared.row.Keys.{Keys}
 use Rattle.c8_disk.specs.declared.disk.Disk.{Ghosts as DiskGhosts}
 use Rattle.c8_refusals.specs.declared.error.TickError.{TickError}
 use Rattle.c8_peer.specs.State.{Call, Tick, Deliver, Say, Show, Leave, Decide, Checkpoint, Reply, Ticked}
@@ -15,9 +14,9 @@ abbrev pub was_taken : Option Reply → Bool
 was_taken (Some (Ticked (Ok done))) = true
 was_taken _ = false
 
--- the key set that a call entered, by its answer
+-- the input that a call entered, by its answer
 abbrev pub entered_by : Call → Option Reply → List ℕ
-entered_by (Tick keys) answer = if was_taken answer then keys ∷ [] else []
+entered_by (Tick input) answer = if was_taken answer then input ∷ [] else []
 entered_by (Deliver told) answer = []
 entered_by (Say to what) answer = []
 entered_by (Show watcher) answer = []
@@ -30,26 +29,26 @@ entered_in [] answers = []
 entered_in (call ∷ calls) [] = []
 entered_in (call ∷ calls) (answer ∷ answers) = entered_by call.0 answer ++ entered_in calls answers
 
--- The peer ran on, and its player entered these key sets meanwhile, in this order.
+-- The peer ran on, and its player entered these inputs meanwhile, in this order.
 pub record HasEntered {D : Type 0} (disk : DiskGhosts D) (words : List ℕ) (old new : PeerValue D) : Type 0 where
   pub ran : HasRunOn disk old new
   pub entered : entered_in ran.calls ran.answers ≡ words
 
--- the key set, if there is one and it was taken
-abbrev pub entered_of : Option Keys → Bool → List ℕ
-entered_of (Some keys) true = keys.0 ∷ []
-entered_of (Some keys) false = []
+-- the input, if there is one and it was taken
+abbrev pub entered_of : Option ℕ → Bool → List ℕ
+entered_of (Some input) true = input ∷ []
+entered_of (Some input) false = []
 entered_of None taken = []
 
--- The peer ticks with this key set, and the answer says whether it was taken. Without a key set it does not tick.
-abbrev pub HasTicked : {D : Type 0} → DiskGhosts D → Option Keys → Bool → PeerValue D → PeerValue D → Type 0
-HasTicked disk (Some keys) true old new = IsAnswered disk old (Tick keys.0) (Ticked (Ok tt)) new
-HasTicked disk (Some keys) false old new = (why : TickError) × IsAnswered disk old (Tick keys.0) (Ticked (Err why)) new
+-- The peer ticks with this input, and the answer says whether it was taken. Without an input it does not tick.
+abbrev pub HasTicked : {D : Type 0} → DiskGhosts D → Option ℕ → Bool → PeerValue D → PeerValue D → Type 0
+HasTicked disk (Some input) true old new = IsAnswered disk old (Tick input) (Ticked (Ok tt)) new
+HasTicked disk (Some input) false old new = (why : TickError) × IsAnswered disk old (Tick input) (Ticked (Err why)) new
 HasTicked disk None true old new = ⊥
 HasTicked disk None false old new = new ≡ old
 
--- A turn that enters this key set, or without one does not tick.
-pub record HasHandedIn {D W : Type 0} (disk : DiskGhosts D) (wire : WireGhosts W) (keys : Option Keys) (taken : Bool)
+-- A turn that enters this input, or without one does not tick.
+pub record HasHandedIn {D W : Type 0} (disk : DiskGhosts D) (wire : WireGhosts W) (input : Option ℕ) (taken : Bool)
     (old new : PeerValue D) (before after : W) : Type 0 where
   pub turn : IsTurn disk wire old new before after
-  pub ticked : HasTicked disk keys taken turn.heard turn.ticked
+  pub ticked : HasTicked disk input taken turn.heard turn.ticked

@@ -23,7 +23,7 @@ use crate::laws::{
 };
 use crate::turn::make_turn;
 use c8_disk::Disk;
-use c8_game::{Game, Keys};
+use c8_game::{Game, Input};
 use c8_machine::Machine;
 use c8_peer::Peer;
 use c8_record::laws::checkpoints_are_in_order;
@@ -32,26 +32,26 @@ use c8_session::laws::peers_run_on;
 use c8_transport::{Gate, Wire, Worker};
 use std::alloc::{AllocError, Global};
 
-/// A source of a player's key sets, one a turn.
-pub trait KeySource {
-    /// Returns the key set to enter in the next turn, or `None` to leave out the tick.
-    fn next_keys(&mut self) -> Option<Keys>;
+/// A source of a player's inputs, one a turn. Each has to fit the game's width: no peer takes a wider one.
+pub trait InputSource {
+    /// Returns the input to enter in the next turn, or `None` to leave out the tick.
+    fn next_input(&mut self) -> Option<Input>;
 
-    /// Notes that the peer took the last key set of `next_keys`. Without this call the peer refused it, and the source
+    /// Notes that the peer took the last input of `next_input`. Without this call the peer refused it, and the source
     /// should return it again.
     fn taken(&mut self);
 }
 
-/// Makes at most `turns` turns of a session, each with the next key set of a source. It ends earlier if the session is
+/// Makes at most `turns` turns of a session, each with the next input of a source. It ends earlier if the session is
 /// over, a viewer of the board asks for the end, or the gate ends it. Returns how many turns it made.
 ///
 /// The pen publishes the confirmed machine before the first turn, and after each turn that confirmed more. The counters
 /// note every turn. The board's run begins where the peer's machine began, so if the checkpoints of the peer's journal
 /// are true, the board shows the serial run (`true_checks_show_the_serial_run`). The error is the disk's or the wire's;
 /// the pen then still shows what was confirmed before that turn.
-pub fn game_worker<D: Disk, K: KeySource, W: Wire, G: Gate>(
+pub fn game_worker<D: Disk, K: InputSource, W: Wire, G: Gate>(
     session: &mut Session<'_, D>,
-    keys: &mut K,
+    inputs: &mut K,
     wire: &mut W,
     board: &Board,
     pen: &mut Pen,
@@ -84,7 +84,7 @@ pub fn game_worker<D: Disk, K: KeySource, W: Wire, G: Gate>(
         if session.is_over() || board.stop_asked(pen) || !gate.before(Worker::Game, turn) {
             break;
         }
-        turn_with(session, keys, wire)?;
+        turn_with(session, inputs, wire)?;
         published = publish_more(session.peer(), published, board, pen);
         counters.note(session, wire.losses().lost);
         gate.after(Worker::Game, turn);
@@ -93,18 +93,18 @@ pub fn game_worker<D: Disk, K: KeySource, W: Wire, G: Gate>(
     Ok(made)
 }
 
-/// Makes a turn with the next key set of a source.
-fn turn_with<D: Disk, K: KeySource, W: Wire>(
+/// Makes a turn with the next input of a source.
+fn turn_with<D: Disk, K: InputSource, W: Wire>(
     session: &mut Session<'_, D>,
-    keys: &mut K,
+    inputs: &mut K,
     wire: &mut W,
 ) -> Result<(), SessionError>
     ensures turn { IsTurn D.Disk W.Wire session.old.peer session.new.peer wire.old wire.new }
     ensures ran { HasRunOn D.Disk session.old.peer session.new.peer }
     ensures end { IfErr result (IsEnd D.Disk session.old.peer session.new.peer) }
 {
-    if make_turn(session, keys.next_keys(), wire)? {
-        keys.taken();
+    if make_turn(session, inputs.next_input(), wire)? {
+        inputs.taken();
     }
     Ok(())
 }

@@ -4,7 +4,6 @@ ghost use Rattle.std.specs.Prelude.{◌≡◌, ◌≢◌, ℕ, ◌+◌, List, []
 ghost use Rattle.c8_peer.specs.Lawful.{IsCall};
 ghost use Rattle.c8_peer.specs.Peer.{PeerValue, IsAnswered, IsSaid, IsSound, known_by, begun_by};
 ghost use Rattle.c8_game.specs.Rules.{Rules, AreInRange};
-ghost use Rattle.c8_game.specs.declared.row.Keys.{Keys};
 ghost use Rattle.c8_record.specs.Body.{records_of};
 ghost use Rattle.c8_peer.specs.Opened.{bodies_found, IsOpened};
 ghost use Rattle.c8_peer.specs.Runs.{TellsTruly};
@@ -52,8 +51,8 @@ pub fn sessions_end<D: Disk>()
     peers_run_on::<D>();
 }
 
-/// What a player enters: nothing without a call (`still`), nothing by calls that are no ticks (`none`), a tick's key
-/// set if it was taken (`once`), one list after another (`joined`), and a list between calls that enter nothing
+/// What a player enters: nothing without a call (`still`), nothing by calls that are no ticks (`none`), a tick's
+/// input if it was taken (`once`), one list after another (`joined`), and a list between calls that enter nothing
 /// (`through`).
 pub fn entries_join<D: Disk>()
     ensures still { (p : PeerValue D) → HasEntered D.Disk [] p p }
@@ -179,9 +178,9 @@ pub fn machines_begin_where_they_did<D: Disk>()
 /// stay true however it runs on (`stays`). If they are true, the run of the confirmed rows from where the machine began
 /// is the serial run (`serial`).
 pub fn true_checks_show_the_serial_run<D: Disk>()
-    ensures opened { (disk : D) (rules : Rules) (room me : ℕ) (p : PeerValue D)
-        → IsOpened D.Disk disk rules room me p
-        → HasTrueLast rules me (records_of (bodies_found D.Disk disk))
+    ensures opened { (disk : D) (rules : Rules) (room me drawn : ℕ) (p : PeerValue D)
+        → IsOpened D.Disk disk rules room me drawn p
+        → HasTrueLast rules me (records_of rules.width (bodies_found D.Disk disk))
         → TellsTruly p.rules p.me p.state }
     ensures stays { (old new : PeerValue D) → IsSound D.Disk old
         → TellsTruly old.rules old.me old.state → HasRunOn D.Disk old new

@@ -1,12 +1,12 @@
 //! A session over a wire: one peer plays a game with others, turn by turn, over a network that may lose, delay or repeat
 //! datagrams; and what the threads of such a peer share.
 //!
-//! [`make_turn`] runs a `Session` of c8_session over a `Wire` of c8_transport: it hears, enters a key set, makes the turn
+//! [`make_turn`] runs a `Session` of c8_session over a `Wire` of c8_transport: it hears, enters an input, makes the turn
 //! and speaks. [`listen`] hears between two turns. By their contracts the peer changes by a turn's calls alone, in their
 //! order, and the wire takes only what the peer said. [`Progress`] and [`tell_end`] print how far the peer is and how it
 //! ended, by a [`Gauge`].
 //!
-//! A peer may play in two threads: [`game_worker`] makes the turns with the key sets of a [`KeySource`], and [`net_worker`]
+//! A peer may play in two threads: [`game_worker`] makes the turns with the inputs of a [`InputSource`], and [`net_worker`]
 //! moves packets. They share:
 //!
 //! - Inlets. An inlet is a bounded lock-free queue of packets from one thread to another; each packet arrives once, and in
@@ -41,7 +41,7 @@ pub use board::{Board, Pen, Viewer};
 pub use counters::{Counters, Standing};
 pub use ends::{Ended, Putter, Taker, after, beside, inlet};
 pub use error::{SessionError, TooLong};
-pub use game::{KeySource, game_worker, open_board};
+pub use game::{InputSource, game_worker, open_board};
 pub use gauge::{Gauge, Reading};
 pub use look::Look;
 pub use net::{PLACES, net_worker};

@@ -4,7 +4,7 @@ use crate::counters::Standing;
 use crate::gauge::{Gauge, Reading};
 use c8_disk::Disk;
 use c8_game::{MOST_PLAYERS, Player};
-use c8_session::Session;
+use c8_session::{Session, SessionEnd};
 use c8_transport::Relaying;
 use std::io;
 use std::io::Write;
@@ -134,19 +134,25 @@ pub fn write_relaying<E: Write>(
     }
 }
 
-/// Writes the last line of a session that made `turns` turns: `dropped by player 1`, `all 200 frames are confirmed`, or
-/// `665 of 10000 frames after 100000 turns`.
+/// Writes the last line of a session that made `turns` turns: `dropped by player 1`, `all 200 frames are confirmed`, `player 1 left
+/// after 665 of 10000 frames`, `player 1 came back without its journal, so the match is over`, or `665 of 10000 frames after 100000
+/// turns`.
 pub fn tell_end<D: Disk, E: Write>(
     out: &mut E,
     turns: u64,
     session: &Session<'_, D>,
 ) -> io::Result<()> {
     let (confirmed, frames) = (session.peer().confirmed(), session.frames());
-    if session.peer().dropped() {
-        writeln!(out, "dropped by player 1")
-    } else if confirmed >= frames {
-        writeln!(out, "all {frames} frames are confirmed")
-    } else {
-        writeln!(out, "{confirmed} of {frames} frames after {turns} turns")
+    match session.why_over() {
+        Some(SessionEnd::Dropped) => writeln!(out, "dropped by player 1"),
+        Some(SessionEnd::ChairLost) => writeln!(
+            out,
+            "player 1 came back without its journal, so the match is over"
+        ),
+        _ if confirmed >= frames => writeln!(out, "all {frames} frames are confirmed"),
+        Some(SessionEnd::ChairLeft) => {
+            writeln!(out, "player 1 left after {confirmed} of {frames} frames")
+        }
+        _ => writeln!(out, "{confirmed} of {frames} frames after {turns} turns"),
     }
 }

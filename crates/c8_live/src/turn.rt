@@ -1,4 +1,4 @@
-//! The turns of a session over a wire: it hears, enters a key set, makes the turn and speaks.
+//! The turns of a session over a wire: it hears, enters an input, makes the turn and speaks.
 
 ghost use Rattle.std.specs.Prelude.{◌≡◌, [], ◌∷◌, IfOk, OnOk, IfErr};
 ghost use Rattle.c8_live.specs.Ends.{IsEnd};
@@ -16,29 +16,29 @@ use crate::laws::{
     a_packet_is_heard, entries_join, hearings_join, sayings_join, sessions_end, turns_run_on,
 };
 use c8_disk::Disk;
-use c8_game::Keys;
+use c8_game::Input;
 use c8_peer::{Refused, TickError};
 use c8_session::laws::{doings_join, peers_run_on, turns_say_few};
 use c8_session::{MOST_DATAGRAMS, Session};
 use c8_transport::{LONGEST_PACKET, MOST_PACKETS, Wire, WireFailed};
 use c8_wire::{LONGEST_DATAGRAM, view};
 
-/// Makes one turn. The peer hears at most 256 packets of the wire, enters `keys` (with `None` it does not tick), drops
+/// Makes one turn. The peer hears at most 256 packets of the wire, enters `input` (with `None` it does not tick), drops
 /// silent players and cuts if it is player 1, records at most one part of a checkpoint, and speaks. Returns whether the
-/// key set was taken: the peer refuses it at the window's limit, after the last frame, and when it is down or dropped;
+/// input was taken: the peer refuses it at the window's limit, after the last frame, and when it is down or dropped;
 /// enter it again in the next turn. It sends each datagram that is due to a player or a watcher (c8_session `specs/Due`),
 /// unless there is an error. An error of the disk or of the wire ends the session.
 pub fn make_turn<D: Disk, W: Wire>(
     session: &mut Session<'_, D>,
-    keys: Option<Keys>,
+    input: Option<Input>,
     wire: &mut W,
 ) -> Result<bool, SessionError>
     ensures turn { IsTurn D.Disk W.Wire session.old.peer session.new.peer wire.old wire.new }
     ensures said { OnOk result (HasSaidAll D.Disk W.Wire session.old.peer session.new.peer
         (notes_of session.old) (notes_of session.new) wire.old wire.new) }
-    ensures handed_in { IfOk result (λ taken. HasHandedIn D.Disk W.Wire keys taken
+    ensures handed_in { IfOk result (λ taken. HasHandedIn D.Disk W.Wire input taken
         session.old.peer session.new.peer wire.old wire.new) }
-    ensures entered { IfOk result (λ taken. HasEntered D.Disk (entered_of keys taken)
+    ensures entered { IfOk result (λ taken. HasEntered D.Disk (entered_of input taken)
         session.old.peer session.new.peer) }
     ensures ran { HasRunOn D.Disk session.old.peer session.new.peer }
     ensures end { IfErr result (IsEnd D.Disk session.old.peer session.new.peer) }
@@ -51,7 +51,7 @@ pub fn make_turn<D: Disk, W: Wire>(
     session.begin();
     session.forget_rollbacks();
     hear(session, wire)?;
-    let is_taken = enter(session, keys)?;
+    let is_taken = enter(session, input)?;
     session.turn()?;
     speak(session, wire)?;
     let _ended = session.end();
@@ -111,12 +111,12 @@ fn deliver<D: Disk>(session: &mut Session<'_, D>, packet: &[u8]) -> Result<(), S
     }
 }
 
-/// Enters a key set, if there is one, and returns whether it was taken.
-fn enter<D: Disk>(session: &mut Session<'_, D>, keys: Option<Keys>) -> Result<bool, SessionError>
+/// Enters an input, if there is one, and returns whether it was taken.
+fn enter<D: Disk>(session: &mut Session<'_, D>, input: Option<Input>) -> Result<bool, SessionError>
     ensures ran { HasCalledOnce D.Disk Ticks session.old.peer session.new.peer }
     ensures notes { notes_of session.new ≡ notes_of session.old }
-    ensures ticked { IfOk result (λ taken. HasTicked D.Disk keys taken session.old.peer session.new.peer) }
-    ensures entered { IfOk result (λ taken. HasEntered D.Disk (entered_of keys taken)
+    ensures ticked { IfOk result (λ taken. HasTicked D.Disk input taken session.old.peer session.new.peer) }
+    ensures entered { IfOk result (λ taken. HasEntered D.Disk (entered_of input taken)
         session.old.peer session.new.peer) }
     ensures end { IfErr result (IsEnd D.Disk session.old.peer session.new.peer) }
 {
@@ -124,10 +124,10 @@ fn enter<D: Disk>(session: &mut Session<'_, D>, keys: Option<Keys>) -> Result<bo
     peers_run_on::<D>();
     doings_join::<D>();
     entries_join::<D>();
-    let Some(keys) = keys else {
+    let Some(input) = input else {
         return Ok(false);
     };
-    match session.tick(keys) {
+    match session.tick(input) {
         Ok(()) => Ok(true),
         Err(TickError::Disk(error)) => Err(SessionError::Disk(error)),
         Err(_) => Ok(false),

@@ -2,7 +2,7 @@
 
 use c8_disk::MemDisk;
 use c8_embed::Engine;
-use c8_game::{Game, Keys, Player, Row};
+use c8_game::{Game, Input, Player, Row};
 use c8_peer::Check;
 use std::alloc::Global;
 
@@ -22,12 +22,12 @@ struct Side<'g> {
 
 /// The machine: its state after a frame with these inputs.
 fn after(state: u64, row: &Row) -> u64 {
-    let [one, two, _, _] = row.sets;
+    let [one, two, _, _] = row.inputs;
     state
         .wrapping_mul(1_000_003)
-        .wrapping_add(u64::from(one.0))
+        .wrapping_add(one.0)
         .wrapping_mul(1_000_003)
-        .wrapping_add(u64::from(two.0))
+        .wrapping_add(two.0)
 }
 
 /// The states of a machine that has not run.
@@ -109,8 +109,8 @@ fn is_lost(number: u32) -> bool {
 }
 
 /// Plays a turn of one side: it ticks, makes its turn, and sends; a third of the datagrams is lost.
-fn turn(side: &mut Side<'_>, other: &mut Side<'_>, keys: u16, sent: &mut u32) -> Option<()> {
-    let _refused = side.engine.tick(Keys(keys));
+fn turn(side: &mut Side<'_>, other: &mut Side<'_>, keys: u64, sent: &mut u32) -> Option<()> {
+    let _refused = side.engine.tick(Input(keys));
     side.engine.turn().ok()?;
     let mut out = [0; 174];
     for _ in 0..20 {
@@ -130,7 +130,7 @@ fn play(one: &mut Side<'_>, two: &mut Side<'_>, depth: u32) -> bool {
     one.engine.check(depth);
     two.engine.check(depth);
     let mut sent = 0;
-    for number in 0..2000_u16 {
+    for number in 0..2000_u64 {
         if one.engine.is_over() && two.engine.is_over() {
             return true;
         }
@@ -223,14 +223,14 @@ fn a_test_goes_back_by_its_depth(rt: HostRuntime) {
 
 fn goes_back(side: &mut Side<'_>) -> bool {
     side.engine.check(2);
-    let _first = side.engine.tick(Keys(9));
+    let _first = side.engine.tick(Input(9));
     let mut well = side.engine.step(100).count == 1;
-    for number in 1..5 {
-        let _refused = side.engine.tick(Keys(number));
+    for number in 1..5_u32 {
+        let _refused = side.engine.tick(Input(u64::from(number)));
         let stepped = side.engine.step(100);
         let end = stepped.from.saturating_add(stepped.count);
-        let start = u32::from(number).saturating_sub(2).max(1);
-        well &= stepped.from == start && end == u32::from(number) + 1;
+        let start = number.saturating_sub(2).max(1);
+        well &= stepped.from == start && end == number + 1;
     }
     side.engine.check(0);
     well && side.engine.step(100).count == 0
@@ -283,7 +283,7 @@ fn play_unheard(one: &mut Side<'_>, two: &mut Side<'_>) -> bool {
         if one.engine.peer().now() < 58 {
             let _sent = turn(one, two, number, &mut sent);
         } else {
-            let _refused = one.engine.tick(Keys(number));
+            let _refused = one.engine.tick(Input(number));
             well &= turn_alone(one);
         }
         let _sent = turn(two, one, number, &mut sent);

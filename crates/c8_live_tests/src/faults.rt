@@ -3,7 +3,7 @@ use crate::players::{TWO, opened};
 use crate::table::none_is;
 use crate::way::Way;
 use c8_disk::{Arm, DiskError, MemDisk};
-use c8_game::{Game, Keys, Player};
+use c8_game::{Game, Input, Player};
 use c8_live::{SessionError, make_turn};
 use c8_session::Session;
 use c8_transport::WireFailed;
@@ -54,7 +54,7 @@ fn ends(alloc: Global, fault: &Fault) -> bool {
     let mut way = Way::new(alloc);
     way.fails_to_send = fault.fails_to_send;
     way.fails_to_receive = fault.fails_to_receive;
-    make_turn(&mut session, Some(Keys::default()), &mut way) == Err(fault.error)
+    make_turn(&mut session, Some(Input::default()), &mut way) == Err(fault.error)
 }
 
 fn first_wrong(alloc: Global) -> Option<usize> {

@@ -4,9 +4,9 @@ use crate::players::{FOUR, Hand, THREE, TWO, session_of};
 use crate::table::{none_is, place_of};
 use crate::way::Way;
 use c8_disk::MemDisk;
-use c8_game::{Game, Keys, Player, Row};
+use c8_game::{Game, Input, Player, Row};
 use c8_live::tell_end;
-use c8_machine::Machine;
+use c8_machine::{Keys, Machine};
 use c8_session::Session;
 use c8_wire::Seat;
 use std::alloc::Global;
@@ -24,20 +24,20 @@ const LEAVER_PLACE: usize = 2;
 const NOBODY: usize = 4;
 
 /// What each player enters, frame by frame. Player 2's list ends before the game does.
-const FIRST: &[u16] = &[
+const FIRST: &[u64] = &[
     0x20, 0, 0x20, 0x20, 0, 0, 0, 0, 0x20, 0x20, 0x20, 0x20, 0x20, 0, 0, 0, 0, 0, 0, 0x20,
 ];
 
-const SECOND: &[u16] = &[0, 0x20, 0];
+const SECOND: &[u64] = &[0, 0x20, 0];
 
-const THIRD: &[u16] = &[
+const THIRD: &[u64] = &[
     0, 0, 0, 0, 0x20, 0, 0, 0, 0, 0, 0, 0, 0, 0x20, 0, 0, 0, 0, 0, 0, 0x20,
 ];
 
-const FOURTH: &[u16] = &[0x20, 0x20];
+const FOURTH: &[u64] = &[0x20, 0x20];
 
 /// What a player enters.
-fn entered(number: u8) -> &'static [u16] {
+fn entered(number: u8) -> &'static [u64] {
     match number {
         1 => FIRST,
         2 => SECOND,
@@ -47,8 +47,8 @@ fn entered(number: u8) -> &'static [u16] {
 }
 
 /// What a player enters for a frame, an empty set after the last one.
-fn set_of(number: u8, frame: usize) -> Keys {
-    Keys(entered(number).get(frame).copied().unwrap_or(0))
+fn set_of(number: u8, frame: usize) -> Input {
+    Input(entered(number).get(frame).copied().unwrap_or(0))
 }
 
 /// The machine of a game that one person plays with the keys of all players.
@@ -56,19 +56,19 @@ fn played_alone(game: &Game) -> Machine {
     let mut machine = Machine::start(game);
     for frame in 0..20 {
         let row = Row {
-            sets: [
+            inputs: [
                 set_of(1, frame),
                 set_of(2, frame),
                 set_of(3, frame),
                 set_of(4, frame),
             ],
         };
-        machine.frame(game, game.joined(&row));
+        machine.frame(game, Keys::from(game.joined(&row)));
     }
     machine
 }
 
-/// A session, the key sets of its player, and its wire.
+/// A session, the inputs of its player, and its wire.
 #[derive(Drop)]
 struct Side<'g> {
     session: Session<'g, MemDisk>,

@@ -2,7 +2,7 @@
 
 use c8_disk::FileDisk;
 use c8_embed::{Engine, Medium};
-use c8_game::{Game, Keys, Player};
+use c8_game::{Game, Input, Player};
 use std::alloc::Global;
 use std::test::Fail;
 
@@ -22,7 +22,7 @@ fn serves(alloc: Global, game: &Game) -> Option<bool> {
 }
 
 fn plays(engine: &mut Engine<'_, FileDisk<Medium>>) -> bool {
-    let is_entered = engine.tick(Keys(5)).is_ok();
+    let is_entered = engine.tick(Input(5)).is_ok();
     is_entered && engine.peer().now() == 1 && engine.peer().epoch() == 1
 }
 

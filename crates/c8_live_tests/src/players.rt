@@ -1,7 +1,7 @@
 //! Games, and the peers and sessions of their players, on new disks.
 use crate::way::Way;
 use c8_disk::MemDisk;
-use c8_game::{Game, Keys, Player};
+use c8_game::{Game, Input, Player};
 use c8_live::make_turn;
 use c8_peer::Peer;
 use c8_session::Session;
@@ -51,22 +51,22 @@ pub(crate) fn session_of<'g>(
     Some(Session::new(peer, game, patience, 0))
 }
 
-/// The key sets that a player enters, one a tick. After the last one no key is held.
+/// The inputs that a player enters, one a tick. After the last one no key is held.
 #[derive(Drop)]
 pub(crate) struct Hand {
-    sets: Vec<Keys>,
+    sets: Vec<Input>,
     taken: usize,
 }
 
 impl Hand {
-    pub(crate) fn new(alloc: Global, keys: &[u16]) -> Hand {
+    pub(crate) fn new(alloc: Global, keys: &[u64]) -> Hand {
         Hand {
             sets: sets_of(alloc, keys),
             taken: 0,
         }
     }
 
-    /// Makes a turn with the next key set, and returns whether it succeeded. A set that is refused is entered again.
+    /// Makes a turn with the next input, and returns whether it succeeded. One that is refused is entered again.
     pub(crate) fn makes_turn(&mut self, session: &mut Session<'_, MemDisk>, way: &mut Way) -> bool {
         let next = self.sets.get(self.taken).copied().unwrap_or_default();
         match make_turn(session, Some(next), way) {
@@ -81,10 +81,10 @@ impl Hand {
     }
 }
 
-fn sets_of(alloc: Global, keys: &[u16]) -> Vec<Keys> {
+fn sets_of(alloc: Global, keys: &[u64]) -> Vec<Input> {
     let mut sets = Vec::new(alloc);
     for set in keys {
-        let _kept = sets.push(Keys(*set));
+        let _kept = sets.push(Input(*set));
     }
     sets
 }

@@ -28,8 +28,8 @@ pub(crate) enum Step {
     Repeats(usize),
     /// This many packets that are no datagrams wait for the next turn.
     Noise(u16),
-    /// A player enters a key set.
-    Enters(u8, u16),
+    /// A player enters an input.
+    Enters(u8, u64),
     /// A player's peer restarts over its journal.
     Restarts(u8),
     /// The session gives a player up.
@@ -40,12 +40,12 @@ pub(crate) enum Step {
     Turn(&'static str),
     /// The session listens between two turns, and sends exactly this.
     Listens(&'static str),
-    /// The session plays a turn with this key set, or none; whether it takes the set, and all that it sends.
-    Plays(Option<u16>, bool, &'static str),
+    /// The session plays a turn with this input, or none; whether it takes the input, and all that it sends.
+    Plays(Option<u64>, bool, &'static str),
     /// A player has been silent for this many turns.
     Silent(u8, u64),
     /// This many frames are ticked, this many confirmed, and the last one shown has these keys.
-    Stands(u32, u32, u16),
+    Stands(u32, u32, u64),
     /// 400 milliseconds later this line is printed, or nothing.
     Prints(&'static str),
 }

@@ -4,8 +4,9 @@ use crate::players::{Hand, new_peer, opened, session_of};
 use crate::step::{DATA, FREEZE, FROZEN, HELLO, Step, WELCOME};
 use crate::way::Way;
 use c8_disk::MemDisk;
-use c8_game::{Game, Keys, Player};
+use c8_game::{Game, Input, Player};
 use c8_live::{Counters, Progress, listen, make_turn};
+use c8_machine::Keys;
 use c8_peer::{Kind, Peer};
 use c8_session::Session;
 use c8_wire::{Datagram, LONGEST_DATAGRAM, Seat, Watcher, view};
@@ -134,13 +135,13 @@ struct Table<'g> {
 }
 
 impl<'g> Table<'g> {
-    /// The session of a player who enters these key sets. It has no links yet.
+    /// The session of a player who enters these inputs. It has no links yet.
     fn new(
         alloc: Global,
         game: &'g Game,
         number: u8,
         patience: Option<u64>,
-        keys: &[u16],
+        keys: &[u64],
     ) -> Option<Table<'g>> {
         let session = session_of(alloc, game, number, patience)?;
         let me = session.peer().me();
@@ -231,9 +232,9 @@ impl<'g> Table<'g> {
         are_posted
     }
 
-    fn enters(&mut self, number: u8, keys: u16) -> bool {
+    fn enters(&mut self, number: u8, keys: u64) -> bool {
         match self.other(number) {
-            Some(peer) => peer.tick(Keys(keys)).is_ok(),
+            Some(peer) => peer.tick(Input(keys)).is_ok(),
             None => false,
         }
     }
@@ -279,8 +280,8 @@ impl<'g> Table<'g> {
         listen(&mut self.session, &mut self.way).is_ok() && self.has_sent(alloc, wanted)
     }
 
-    fn plays(&mut self, alloc: Global, keys: Option<u16>, is_taken: bool, wanted: &str) -> bool {
-        match make_turn(&mut self.session, keys.map(Keys), &mut self.way) {
+    fn plays(&mut self, alloc: Global, keys: Option<u64>, is_taken: bool, wanted: &str) -> bool {
+        match make_turn(&mut self.session, keys.map(Input), &mut self.way) {
             Ok(taken) => taken == is_taken && self.has_sent(alloc, wanted),
             Err(_) => false,
         }
@@ -303,9 +304,11 @@ impl<'g> Table<'g> {
         }
     }
 
-    fn stands(&self, ticked: u32, confirmed: u32, keys: u16) -> bool {
+    fn stands(&self, ticked: u32, confirmed: u32, keys: u64) -> bool {
         let peer = self.session.peer();
-        peer.now() == ticked && peer.confirmed() == confirmed && peer.shown().keys() == Keys(keys)
+        peer.now() == ticked
+            && peer.confirmed() == confirmed
+            && peer.shown().keys() == Keys::from(Input(keys))
     }
 
     fn prints(&mut self, alloc: Global, line: &str) -> bool {
@@ -334,13 +337,13 @@ pub(crate) fn none_is(wrong: Option<usize>) -> Result<(), Fail> {
     }
 }
 
-/// Checks that each step of a script has its result, at the session of a player who enters these key sets.
+/// Checks that each step of a script has its result, at the session of a player who enters these inputs.
 pub(crate) fn follows(
     alloc: Global,
     text: &str,
     number: u8,
     patience: Option<u64>,
-    keys: &[u16],
+    keys: &[u64],
     steps: &[Step],
 ) -> Result<(), Fail> {
     let Ok(game) = Game::read(alloc, text.as_bytes()) else {

@@ -194,7 +194,7 @@ fn what_is_admitted_ends_a_silence(rt: HostRuntime) -> Result<(), Fail> {
     follows(rt.alloc(), THREE, 1, Some(3), &[], &SILENCES)
 }
 
-/// What is heard between two turns is answered in the next one. A turn enters the key set that it is given, not one of
+/// What is heard between two turns is answered in the next one. A turn enters the input that it is given, not one of
 /// the list. While two frames are not confirmed it takes no more.
 #[rattlefmt::skip]
 static GIVEN: [Step; 16] = [
@@ -212,7 +212,7 @@ fn hears_between_turns_and_enters_what_is_given(rt: HostRuntime) -> Result<(), F
     follows(rt.alloc(), NARROW, 1, None, &[9], &GIVEN)
 }
 
-/// A key set that is refused, because two frames are not confirmed, is entered in a later turn. Player 2 is dropped
+/// An input that is refused, because two frames are not confirmed, is entered in a later turn. Player 2 is dropped
 /// after the tick of the fourth turn, which is refused too.
 #[rattlefmt::skip]
 static AGAIN: [Step; 14] = [

@@ -2,7 +2,7 @@
 
 use c8_disk::MemDisk;
 use c8_embed::Engine;
-use c8_game::{Game, Keys, Player};
+use c8_game::{Game, Input, Player};
 use c8_spectator::Spectator;
 use c8_wire::Watcher;
 use std::alloc::Global;
@@ -50,7 +50,7 @@ impl<'g> Watched<'g> {
     }
 
     /// Makes a turn of player 1, which shows the watcher rows, and takes the watcher's answer.
-    fn first(&mut self, keys: Keys) -> Option<()> {
+    fn first(&mut self, keys: Input) -> Option<()> {
         let _refused = self.one.tick(keys);
         self.one.turn().ok()?;
         let mut out = [0; 174];
@@ -75,7 +75,7 @@ impl<'g> Watched<'g> {
     }
 
     /// Makes a turn of player 2.
-    fn second(&mut self, keys: Keys) -> Option<()> {
+    fn second(&mut self, keys: Input) -> Option<()> {
         let _refused = self.two.tick(keys);
         self.two.turn().ok()?;
         let mut out = [0; 174];
@@ -110,9 +110,9 @@ impl<'g> Watched<'g> {
 fn is_watched(alloc: Global) -> Option<bool> {
     let game = Game::read(alloc, GAME).ok()?;
     let mut all = Watched::open(alloc, &game)?;
-    for number in 0..1000_u16 {
-        all.first(Keys(number.wrapping_mul(7)))?;
-        all.second(Keys(number.wrapping_mul(13)))?;
+    for number in 0..1000_u64 {
+        all.first(Input(number.wrapping_mul(7)))?;
+        all.second(Input(number.wrapping_mul(13)))?;
     }
     Some(all.has_all() && all.wrong == 0)
 }

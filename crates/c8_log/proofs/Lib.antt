@@ -1,5 +1,6 @@
 -- No acknowledged body is lost: a crash inside an append leaves the others, with the new one or without.
 mod Asked
+mod Begun
 mod Blocks
 mod Crash
 mod Disks

@@ -4,4 +4,5 @@ pub mod Journal
 pub mod Log
 pub mod Read
 pub mod Slots
+pub mod Begun
 pub mod checked

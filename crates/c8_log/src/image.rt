@@ -1,8 +1,9 @@
 //! Reads bodies from the bytes of an image, without a disk.
-ghost use Rattle.std.specs.Prelude.{◌≡◌, ◌<◌, ◌≤◌, ◌+◌, ◌*◌, length, slice_get, Some};
+ghost use Rattle.std.specs.Prelude.{◌≡◌, ◌<◌, ◌≤◌, ◌+◌, ◌*◌, ◌↔◌, IsTrue, length, slice_get, Some};
 ghost use Rattle.c8_log.specs.Slots.{is_open, body_of, kept, slot_length};
+ghost use Rattle.c8_log.specs.Begun.{MayBeLog};
 
-use crate::slot::{BODY_LENGTH, OPEN_GATE, SLOT_LENGTH};
+use crate::slot::{BODY_LENGTH, CLOSED_GATE, OPEN_GATE, SLOT_LENGTH};
 
 /// Returns how many bodies an image keeps: those of the slots before the first that is not whole or not
 /// open.
@@ -16,6 +17,19 @@ pub fn kept_len(image: &[u8]) -> usize
         }
     }
     whole
+}
+
+/// Returns whether an image may be that of a log. An empty one may, and so may each that a crash leaves of a log, if the byte of a
+/// gate is then as it was or as it was to be. Any other image is something else, which no log may overwrite.
+pub fn may_be_log(image: &[u8]) -> bool
+    ensures { IsTrue result ↔ MayBeLog image.now }
+{
+    match image {
+        [] => true,
+        [gate, rest @ ..] => {
+            *gate == OPEN_GATE || *gate == CLOSED_GATE && rest.len() <= SLOT_LENGTH
+        }
+    }
 }
 
 /// Returns whether the gate of a whole slot is open.

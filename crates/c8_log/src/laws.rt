@@ -1,8 +1,10 @@
 //! Laws of logs. Each is the contract of a function that does nothing.
-ghost use Rattle.std.specs.Prelude.{◌≡◌, ◌≤◌, ℕ, List, [], ◌∷◌, ◌++◌};
+ghost use Rattle.std.specs.Prelude.{◌≡◌, ◌≤◌, ◌⊎◌, ◌*◌, ℕ, true, false, List, [], ◌∷◌, ◌++◌, length, slice_index};
+ghost use Rattle.c8_disk.specs.Disk.{Torn};
 ghost use Rattle.c8_disk.specs.Runs.{LeavesOnly};
-ghost use Rattle.c8_log.specs.Slots.{kept, IsKept};
-ghost use Rattle.c8_log.specs.Log.{KeepsOneOf, KeepsWithOrWithout, SinceKeeps};
+ghost use Rattle.c8_log.specs.Begun.{MayBeLog};
+ghost use Rattle.c8_log.specs.Slots.{kept, kept_count, slot_length, open_gate, closed_gate, IsKept};
+ghost use Rattle.c8_log.specs.Log.{has_closed_gate, IsLeftByAppend, KeepsOneOf, KeepsWithOrWithout, SinceKeeps};
 ghost use Rattle.c8_log.specs.Journal.{KeepsBodies, AllKeepBodies};
 
 use c8_disk::Disk;
@@ -14,6 +16,22 @@ pub fn kept_is_least()
     ensures only { (image : List ℕ) (bodies : List (List ℕ))
         → IsKept image bodies → bodies ≡ kept image }
 {}
+
+/// An image that keeps a body may be a log's. So may what an opening or an append left that did not end, if the first byte is then as it was
+/// or as it was to be.
+pub fn logs_may_be_logs()
+    ensures keeps { (image : List ℕ) → 1 ≤ length (kept image) → MayBeLog image }
+    ensures opening { (old new : List ℕ) → MayBeLog old → has_closed_gate old ≡ false
+        → Torn (slot_length * kept_count old) 1 old new
+        → (slice_index new 0 ≡ slice_index old 0) ⊎ (slice_index new 0 ≡ closed_gate)
+        → MayBeLog new }
+    ensures append { (n : ℕ) (body old new : List ℕ) → MayBeLog old → n ≡ kept_count old
+        → has_closed_gate old ≡ true → length body ≡ 143 → IsLeftByAppend n body old new
+        → (slice_index new 0 ≡ slice_index old 0) ⊎ (slice_index new 0 ≡ open_gate)
+        → MayBeLog new }
+{
+    c8_disk::laws::writes_keep_the_rest();
+}
 
 /// If each image since a moment keeps one of some lists of bodies, the same holds after an `append`,
 /// with its list added.

@@ -11,7 +11,8 @@ use Rattle.std.specs.List.{list_all, range_with_len}
 use Rattle.std.specs.Prelude.{IfSome}
 use Rattle.std.specs.Option.{ForSome}
 use Rattle.c8_screen.specs.Points.{Points, no_points, row_has, clipped, exclusive_or, AreOnScreen}
-use Rattle.c8_game.specs.Rules.{Rules, AreInRange, masked, joined}
+use Rattle.c8_game.specs.Rules.{Rules, AreInRange, joined}
+use Rattle.c8_machine.specs.Keys.{keys_of}
 use Rattle.c8_game.specs.declared.row.Row.{Row}
 use Rattle.c8_machine.specs.declared.machine.Machine.{Machine}
 use Rattle.c8_machine.specs.declared.machine.Step.{Step}
@@ -538,26 +539,17 @@ first_in rules range = record {
   draws = omega arith;
 }
 
-masked_in : (rules : Rules) (row : Row) (place : ℕ) → AreInRange rules → masked rules row place < 2 ^ 16
-masked_in rules row place range = omega (
-  arith,
-  and_le_r (get_or row.sets place (record { 0 = 0 })).0 (get_or rules.masks place 0),
-  range.key_sets place,
-)
+low_keys : (input : ℕ) → keys_of input < 2 ^ 16
+low_keys input = omega arith
 
-joined_in : (rules : Rules) (row : Row) → AreInRange rules → joined rules row < 2 ^ 16
-joined_in rules row range =
-    or_lt 16 _ _ (masked_in rules row 0 range)
-    (or_lt 16 _ _ (masked_in rules row 1 range) (or_lt 16 _ _ (masked_in rules row 2 range) (masked_in rules row 3 range)))
-
-pub run_in : (rules : Rules) (s : State) (rows : List Row) → AreInRange rules → IsState s
-    → IsState (fold (λ s row. frame_of rules (joined rules row) s) s rows)
-run_in rules s [] range is = is
-run_in rules s (row ∷ rows) range is = run_in rules (frame_of rules (joined rules row) s) rows range
-    (frame_of_in rules (joined rules row) s (joined_in rules row range) is)
+pub run_in : (rules : Rules) (s : State) (rows : List Row) → IsState s
+    → IsState (fold (λ s row. frame_of rules (keys_of (joined rules row)) s) s rows)
+run_in rules s [] is = is
+run_in rules s (row ∷ rows) is = run_in rules (frame_of rules (keys_of (joined rules row)) s) rows
+    (frame_of_in rules (keys_of (joined rules row)) s (low_keys (joined rules row)) is)
 
 pub serial_in : (rules : Rules) (rows : List Row) → AreInRange rules → IsState (serial rules rows)
-serial_in rules rows range = run_in rules (first_state rules) rows range (first_in rules range)
+serial_in rules rows range = run_in rules (first_state rules) rows (first_in rules range)
 
 -- ---- a machine of the code
 

@@ -2,6 +2,7 @@
 use Rattle.std.specs.Prelude.{◌≡◌, ℕ, List, fold}
 use Rattle.c8_game.specs.Rules.{Rules, joined}
 use Rattle.c8_game.specs.declared.row.Row.{Row}
+use Rattle.c8_machine.specs.Keys.{keys_of}
 use Rattle.c8_machine.specs.State.{State, first_state}
 use Rattle.c8_machine.specs.Frames.{IsFrame}
 use Rattle.c8_machine.specs.checked.FrameExists.{framed}
@@ -11,9 +12,9 @@ use Rattle.c8_machine.specs.checked.FrameExists.{framed}
 abbrev pub frame_of : Rules → ℕ → State → State
 frame_of rules keys s = (framed rules keys s).0
 
--- the machine after one frame for each row's joined keys, from the first machine on
+-- the machine after one frame for the keys of each row's joined inputs, from the first machine on
 abbrev pub serial : Rules → List Row → State
-serial rules rows = fold (λ s row. frame_of rules (joined rules row) s) (first_state rules) rows
+serial rules rows = fold (λ s row. frame_of rules (keys_of (joined rules row)) s) (first_state rules) rows
 
 -- a machine has exactly one frame for the keys that are down
 pub record FrameIsDetermined (rules : Rules) (keys : ℕ) (s : State) : Type 0 where

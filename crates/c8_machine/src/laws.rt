@@ -3,6 +3,7 @@ ghost use Rattle.std.specs.Prelude.{◌≡◌, ℕ, ◌^◌, ◌<◌, List, [], 
 ghost use Rattle.c8_game.specs.Rules.{Rules, AreInRange, joined};
 ghost use Rattle.c8_game.specs.declared.row.Row.{Row};
 ghost use Rattle.c8_machine.specs.checked.Decoding.{HasOneInstruction};
+ghost use Rattle.c8_machine.specs.Keys.{keys_of};
 ghost use Rattle.c8_machine.specs.State.{State, IsState, first_state};
 ghost use Rattle.c8_machine.specs.Serial.{FrameIsDetermined, frame_of, serial};
 
@@ -16,10 +17,10 @@ pub fn frame_is_determined()
     ensures { (rules : Rules) (keys : ℕ) (s : State) → FrameIsDetermined rules keys s }
 {}
 
-/// The serial run of one more row is one more frame, with the row's joined keys.
+/// The serial run of one more row is one more frame, with the keys of the row's joined inputs.
 pub fn serial_of_one_row_more()
     ensures { (rules : Rules) (rows : List Row) (row : Row)
-        → serial rules (rows ++ row ∷ []) ≡ frame_of rules (joined rules row) (serial rules rows) }
+        → serial rules (rows ++ row ∷ []) ≡ frame_of rules (keys_of (joined rules row)) (serial rules rows) }
 {}
 
 /// Each part of a state stays in its range: at the start, over a frame, over a run.

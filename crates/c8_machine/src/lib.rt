@@ -7,9 +7,11 @@
 //! state of a machine is in range (`IsState`). Nothing here takes memory.
 #![tactic(auto)]
 
+mod keys;
 pub mod laws;
 mod machine;
 mod operation;
 mod start;
 
+pub use keys::Keys;
 pub use machine::{MEMORY_SIZE, Machine, Parts, Step, Stop};

@@ -2,8 +2,9 @@
 ghost use Rattle.std.specs.Prelude.{◌≡◌, ℕ, ◌<◌, ◌≤◌, IfSome, length, slice_index};
 ghost use Rattle.std.specs.Option.{ForSome};
 
+use crate::keys::Keys;
 use crate::start::{PROGRAM_AT, first_memory};
-use c8_game::{Game, Keys};
+use c8_game::Game;
 use c8_screen::Screen;
 
 mod arithmetic;

@@ -10,7 +10,7 @@ use Rattle.c8_refusals.specs.declared.error.OpenError.TheVariants as openings
 use Rattle.c8_live.specs.declared.error.SessionError.{SessionError}
 use Rattle.c8_live.specs.declared.error.SessionError.TheVariants as sessions
 use Rattle.c8_net.specs.declared.error.PeerError.{PeerError}
-use Rattle.c8_net.specs.declared.error.PeerError.TheVariants.{Game, Secret, Keys, Open, Disk, Socket, Lost}
+use Rattle.c8_net.specs.declared.error.PeerError.TheVariants.{Game, Secret, Keys, Open, Disk, Socket, Lost, Restarted, Nobody}
 use Rattle.c8_transport.specs.Errors.{secret_error_number}
 use Rattle.c8_udp.specs.Errors.{socket_error_number, fault_of_wire}
 use Rattle.c8_udp.specs.declared.error.SocketError.TheVariants as sockets
@@ -43,6 +43,8 @@ peer_part (Open error) = opening_part error
 peer_part (Disk error) = parts.Disk
 peer_part (Socket error) = parts.Socket
 peer_part Lost = parts.Open
+peer_part Restarted = parts.Hand
+peer_part Nobody = parts.Open
 
 abbrev pub peer_error_number : PeerError → ℕ
 peer_error_number (Game error) = games.number_of error
@@ -52,6 +54,8 @@ peer_error_number (Open error) = opening_number error
 peer_error_number (Disk error) = disks.disk_number_of error
 peer_error_number (Socket error) = socket_error_number error
 peer_error_number Lost = 7
+peer_error_number Restarted = 6
+peer_error_number Nobody = 8
 
 -- the error of a session that the disk or the wire ended
 abbrev pub error_of_session : SessionError → PeerError

@@ -5,7 +5,7 @@ use c8_command::options::{
     CHECKPOINT, GAME, LOCAL, PATIENCE, RELAY, REMOTES, ROOM, SECRET, STOP, WATCH_SECRET, WATCH5,
     WATCH6,
 };
-use c8_command::{Argument, Outline, is_explained, word_of};
+use c8_command::{Argument, Form, Outline, is_explained, word_of};
 use c8_game::Player;
 use c8_udp::{MOST_WATCHERS, Named};
 use clap::ArgMatches;
@@ -19,6 +19,8 @@ pub struct Asked<'m, 'a> {
     pub player: Player,
     /// The path of the journal, or `-` for one in memory.
     pub journal: &'a str,
+    /// The word or the option that plays without a journal, as a person types it.
+    pub without: &'static str,
     /// The own address; with a relay it may be empty.
     pub local: &'a str,
     /// The other players' addresses or names, in order of number, if any.
@@ -38,6 +40,8 @@ pub struct Asked<'m, 'a> {
     pub turns: u64,
     /// How many silent turns make player 1 drop a player; `None` for never.
     pub patience: Option<u64>,
+    /// After how many turns without a word of any other player the session ends; `None` for never.
+    pub wait: Option<u64>,
     /// How many confirmed frames end the session; `None` for no such limit.
     pub stop: Option<u64>,
     /// After how many confirmed frames the peer makes the next checkpoint; 0 for never.
@@ -48,6 +52,8 @@ pub struct Asked<'m, 'a> {
     pub says_end: bool,
     /// Whether the terminal's bell stays silent when a tone begins.
     pub is_muted: bool,
+    /// Whether the report is one object of JSON.
+    pub json: bool,
     /// Whether to print a second line that says where a refusal's fault is.
     pub explain: bool,
     /// The lines that were written before the match, for a performance that hides them.
@@ -55,7 +61,7 @@ pub struct Asked<'m, 'a> {
 }
 
 /// The word for no journal file: the journal is kept in memory.
-const NO_JOURNAL: &str = "-";
+pub(crate) const NO_JOURNAL: &str = "-";
 
 impl<'m, 'a> Asked<'m, 'a> {
     /// Returns whether the journal is kept in memory, and lost at the end.
@@ -84,6 +90,11 @@ impl<'m, 'a> Asked<'m, 'a> {
         }
     }
 }
+
+/// The forms of a report.
+const LINES: &str = "lines";
+
+const JSON: &str = "json";
 
 /// The command `peer`.
 pub static PEER: Outline = Outline {
@@ -121,6 +132,14 @@ pub static PEER: Outline = Outline {
         SECRET,
         WATCH_SECRET,
         Argument {
+            name: "report",
+            help: "Prints the report as lines, or as one object of JSON",
+            form: Form::Option("FORM"),
+            value: Some(ValueParser::Names(&[LINES, JSON])),
+            default: Some(LINES),
+            ..Argument::NEEDED
+        },
+        Argument {
             name: "progress",
             help: "Says each second, on standard error, how far the game is, and then how it ended",
             ..Argument::FLAG
@@ -132,7 +151,10 @@ pub static PEER: Outline = Outline {
 /// Returns what a parsed command line asks for. The parser has checked that each argument is present and in range.
 pub(crate) fn asked_of<'m, 'a>(given: &'m ArgMatches<'a>) -> Option<Asked<'m, 'a>> {
     let player = Player::new(given.get_one::<u8>("PLAYER")?)?;
-    Some(asked_for(given, player))
+    Some(Asked {
+        json: given.get_str("report") == Some(JSON),
+        ..asked_for(given, player)
+    })
 }
 
 /// Returns what a parsed command line asks for, for this player.
@@ -141,6 +163,7 @@ pub fn asked_for<'m, 'a>(given: &'m ArgMatches<'a>, player: Player) -> Asked<'m,
         game: word_of(given, "GAME"),
         player,
         journal: word_of(given, "JOURNAL"),
+        without: "'-'",
         local: word_of(given, "LOCAL"),
         remotes: given.get_strs("REMOTE"),
         relay: given.get_str("relay"),
@@ -151,11 +174,13 @@ pub fn asked_for<'m, 'a>(given: &'m ArgMatches<'a>, player: Player) -> Asked<'m,
         has_room: given.contains_id("room"),
         turns: number_of(given, "turns").unwrap_or(u64::MAX),
         patience: number_of(given, "patience"),
+        wait: None,
         stop: number_of(given, "stop"),
         checkpoint: interval_of(number_of(given, "checkpoint").unwrap_or(0)),
         progress: given.get_flag("progress"),
         says_end: given.get_flag("progress"),
         is_muted: true,
+        json: false,
         explain: is_explained(given),
         notices: &[],
     }

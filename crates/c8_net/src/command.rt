@@ -6,8 +6,8 @@ ghost use Rattle.std.specs.Prelude.{◌≡◌, ◌≢◌, IfOk, IfErr};
 ghost use Rattle.c8_command.specs.Status.{status_of};
 ghost use Rattle.c8_command.specs.declared.status.Status.TheVariants as statuses;
 ghost use Rattle.c8_game.specs.Rules.{Rules};
-ghost use Rattle.c8_texts.specs.Report.{IsTold};
-ghost use Rattle.c8_net.specs.Answers.{IsUnbegun, IsMatchOn, HasAnswered, EndsMatch};
+ghost use Rattle.c8_texts.specs.Told.{IsTold};
+ghost use Rattle.c8_net.specs.Answers.{IsUnbegun, IsMatchOn, HasAnswered, EndsMatch, EndsPeer};
 ghost use Rattle.c8_net.specs.Errors.{peer_part};
 
 use crate::arguments::{Asked, asked_of};
@@ -17,13 +17,15 @@ use crate::mistake::{Mistake, mistake_in};
 use crate::performance::Performance;
 use crate::play::{Prepared, Unprepared, perform_on, play_on, prepare};
 use crate::seals::{sealing_at, warn_of_secrets};
+use c8_command::json::tell_refusal;
 use c8_command::{Refusal, Status, System, Terminals, TextError, Threaded};
-use c8_disk::FileError;
-use c8_files::{JournalDisk, Trouble, warn_of_a_slow_disk};
+use c8_disk::{DiskError, FileError};
+use c8_files::{JournalDisk, JournalFault, RANDOM, Trouble, drawn_life, warn_of_a_slow_disk};
 use c8_game::Game;
 use c8_peer::OpenError;
-use c8_texts::{Played, write_report};
+use c8_texts::{Played, write_played};
 use c8_udp::{Named, Reached, SocketError};
+use c8_wire::has_lives;
 use clap::ArgMatches;
 use std::alloc::Global;
 use std::fs::File;
@@ -50,7 +52,7 @@ where
     I: Read + Drop,
     W: Write,
     E: Write + Send,
-    ensures { IfOk result (EndsMatch (W.contents out.old) (W.contents out.new)) }
+    ensures { IfOk result (EndsPeer (W.contents out.old) (W.contents out.new)) }
 {
     match asked_of(given) {
         Some(asked) => match mistake_in(&asked) {
@@ -99,9 +101,9 @@ fn refuse_line<E: Write>(mistake: Mistake<'_>, refused: &mut E) -> io::Result<St
     Ok(Status::CommandLine)
 }
 
-/// Plays a game with others, in threads. It reads the key sets from `input` and writes the report of the confirmed
-/// machine to `out`. The line of a refusal, its explanation if asked for, and the progress lines go to `refused`. The
-/// error is a writer's.
+/// Plays a game with others, in threads. It reads the inputs from `input` and writes the report of the confirmed
+/// machine to `out`, or with JSON the object of a refusal. The line of a refusal, its explanation if asked for, and the
+/// progress lines go to `refused`. The error is a writer's, or that memory ran out.
 pub fn peer<R, I, W, E>(
     rt: &R,
     asked: &Asked<'_, '_>,
@@ -114,20 +116,21 @@ where
     I: Read + Drop,
     W: Write,
     E: Write + Send,
-    ensures { IfOk result (HasAnswered asked.now.room asked.now.player.number
+    ensures { IfOk result (HasAnswered asked.now.json asked.now.room asked.now.player.number
         (W.contents out.old) (W.contents out.new)) }
 {
     warn_of_secrets(rt, asked, refused)?;
     let trouble = Trouble::none();
     let (it, journal) = match begun(rt, asked, input, &trouble) {
         Ok(it) => it,
-        Err(fault) => return tell_fault(rt, asked, fault, refused),
+        Err(fault) => return tell_fault(rt, asked, fault, out, refused),
     };
     let played = play_in(rt, asked, it, journal, refused);
     tell_outcome(rt, asked, played, &trouble, out, refused)
 }
 
-/// Plays a game with others by a performance, in the caller's thread; the performance has its own key sets.
+/// Plays a game with others by a performance, in the caller's thread; the performance has its own inputs, and the report is
+/// lines.
 pub fn perform<R, P, W, E>(
     rt: &R,
     asked: &Asked<'_, '_>,
@@ -140,7 +143,7 @@ where
     P: Performance + Drop,
     W: Write,
     E: Write,
-    ensures { IfOk result (HasAnswered asked.now.room asked.now.player.number
+    ensures { IfOk result (HasAnswered false asked.now.room asked.now.player.number
         (W.contents out.old) (W.contents out.new)) }
 {
     let mut open = Vec::new(rt.alloc());
@@ -149,16 +152,17 @@ where
     let trouble = Trouble::none();
     let (it, journal) = match begun(rt, asked, io::empty(), &trouble) {
         Ok(it) => it,
-        Err(fault) => return tell_fault(rt, asked, fault, refused),
+        Err(fault) => return tell_fault(rt, asked, fault, out, refused),
     };
     let mut slow = Vec::new(rt.alloc());
     if !asked.has_no_journal() {
-        warn_of_a_slow_disk(rt, asked.journal, &mut slow)?;
+        warn_of_a_slow_disk(rt, asked.journal, asked.without, &mut slow)?;
         refused.write_all(&slow)?;
     }
     let notices = joined(rt.alloc(), &[asked.notices, &open, &slow])?;
     let asked = &Asked {
         notices: &notices,
+        json: false,
         ..*asked
     };
     let played = perform_in(rt, asked, it, journal, performance, refused);
@@ -214,7 +218,7 @@ where
     }
 }
 
-/// Writes the report of what was played, or the line of a refusal.
+/// Writes the report of what was played, or why nothing was.
 fn tell_outcome<R: Net + AllocGlobal, W: Write, E: Write>(
     rt: &R,
     asked: &Asked<'_, '_>,
@@ -224,11 +228,11 @@ fn tell_outcome<R: Net + AllocGlobal, W: Write, E: Write>(
     refused: &mut E,
 ) -> io::Result<Status>
     ensures { IfOk result
-        (IsTold peer_part (W.contents out.old) (W.contents out.new) played) }
+        (IsTold asked.now.json peer_part (W.contents out.old) (W.contents out.new) played) }
 {
     match played {
         Ok(played) => {
-            write_report(out, &played)?;
+            write_played(rt.alloc(), &played, asked.json, out)?;
             Ok(Status::Done)
         }
         Err(error) => {
@@ -236,20 +240,22 @@ fn tell_outcome<R: Net + AllocGlobal, W: Write, E: Write>(
                 PeerError::Socket(_) => Fault::new(rt.alloc(), error, asked.local),
                 _ => Fault::of_journal(rt.alloc(), error, asked.journal, trouble),
             };
-            tell_fault(rt, asked, fault, refused)
+            tell_fault(rt, asked, fault, out, refused)
         }
     }
 }
 
-/// Writes the line of a refusal.
-fn tell_fault<R: Net + AllocGlobal, E: Write>(
+/// Writes the line of a refusal, and its object if JSON is asked for.
+fn tell_fault<R: Net + AllocGlobal, W: Write, E: Write>(
     rt: &R,
     asked: &Asked<'_, '_>,
     fault: Fault<'_>,
+    out: &mut W,
     refused: &mut E,
 ) -> io::Result<Status>
     ensures { IfOk result (λ status. status ≡ status_of (peer_part fault.entry.error)) }
 {
+    tell_refusal(rt.alloc(), Refusal::from(fault.error), asked.json, out)?;
     refuse_among(rt, asked.explain, &asked.named(), fault, refused)
 }
 
@@ -307,7 +313,7 @@ fn begun<'a, 't, R, I>(
     trouble: &'t Trouble,
 ) -> Result<(Prepared, JournalDisk<'t>), Fault<'a>>
 where
-    R: Files<File = File> + Net + AllocGlobal,
+    R: Files<File = File> + Net + Clock + AllocGlobal,
     I: Read + Drop,
     ensures { IfErr result (λ fault. IsUnbegun fault.error) }
 {
@@ -318,6 +324,7 @@ where
         return Err(out_of_memory(rt.alloc(), asked.game));
     };
     let sealing = sealing_at(rt, asked, &game, reached.relay())?;
+    let drawn = life_for(rt, &game)?;
     let it = match prepare(
         rt.alloc(),
         game,
@@ -326,6 +333,7 @@ where
         &remotes,
         asked.watchers,
         sealing,
+        drawn,
         input,
     ) {
         Ok(it) => it,
@@ -338,6 +346,24 @@ where
     }
     let journal = journal_at(rt, asked, &it.game, trouble)?;
     Ok((it, journal))
+}
+
+/// Draws the number of a new life, for a game whose journals have one; otherwise 0.
+fn life_for<'a, R>(rt: &R, game: &Game) -> Result<u64, Fault<'a>>
+where
+    R: Files<File = File> + Clock + AllocGlobal,
+    ensures { IfErr result (λ fault. IsUnbegun fault.error) }
+{
+    if !has_lives(game.wire()) {
+        return Ok(0);
+    }
+    match drawn_life(rt) {
+        Ok(life) => Ok(life),
+        Err(_) => {
+            let error = PeerError::Disk(DiskError::Failed);
+            Err(Fault::new(rt.alloc(), error, RANDOM))
+        }
+    }
 }
 
 /// Finds the hosts of a match with so many other players. Two players at one address are refused.
@@ -378,7 +404,10 @@ where
     ensures { IfErr result (λ fault. IsUnbegun fault.error) }
 {
     let opened = if asked.has_no_journal() {
-        JournalDisk::in_memory(rt.alloc(), game).map_err(FileError::from)
+        match JournalDisk::in_memory(rt.alloc(), game) {
+            Ok(journal) => Ok(journal),
+            Err(_) => Err(JournalFault::Disk(FileError::Memory)),
+        }
     } else {
         JournalDisk::in_file(rt, asked.journal, trouble)
     };

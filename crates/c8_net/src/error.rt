@@ -22,7 +22,7 @@ pub enum PeerError {
     /// The text of a secret has a fault.
     #[error("{0}")]
     Secret(SecretError),
-    /// The key sets of standard input have a fault.
+    /// The inputs of standard input have a fault.
     #[error("{0}")]
     Keys(KeysError),
     /// The peer's opening was refused, or memory ran out at the start. If the disk refused the opening, the refusal is
@@ -38,10 +38,21 @@ pub enum PeerError {
     /// The others know more of this player than its journal does: the journal that this came from is gone.
     #[error("the others hold inputs that this journal does not have")]
     Lost,
+    /// The others know another life of this player: it began the match with another journal.
+    #[error("this player began the match with a journal that is not here")]
+    Restarted,
+    /// Nobody was heard for as long as the match was to wait.
+    #[error("no peer answers: has your friend started, with the same game, room and secret?")]
+    Nobody,
 }
 
-/// The number and the name of `Lost`, among the refusals of an opening.
+/// The number and the name of `Restarted`, among the refusals of links.
+const RESTARTED: (u8, &str) = (6, "Restarted");
+
+/// The numbers and the names of `Lost` and `Nobody`, among the refusals of an opening.
 const LOST: (u8, &str) = (7, "Lost");
+
+const NOBODY: (u8, &str) = (8, "Nobody");
 
 /// Why a match cannot be played once its journal is open.
 #[derive(Clone, Copy, Debug, PartialEq, Eq)]
@@ -95,6 +106,8 @@ impl From<PeerError> for Refusal {
             PeerError::Open(error) => (Part::Open, error.number(), error.name()),
             PeerError::Socket(error) => (Part::Socket, error.number(), error.name()),
             PeerError::Lost => (Part::Open, LOST.0, LOST.1),
+            PeerError::Restarted => (Part::Hand, RESTARTED.0, RESTARTED.1),
+            PeerError::Nobody => (Part::Open, NOBODY.0, NOBODY.1),
         };
         Refusal { part, number, name }
     }

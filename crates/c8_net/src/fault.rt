@@ -3,13 +3,14 @@
 ghost use Rattle.std.specs.Prelude.{◌≡◌, IfErr};
 ghost use Rattle.c8_net.specs.Answers.{IsUnbegun};
 
+use crate::arguments::NO_JOURNAL;
 use crate::error::PeerError;
 use c8_command::{Site, Text, TextError, read_file};
 use c8_disk::{DiskError, FileError};
-use c8_files::{NO_TEXT, ProgramError, Trouble, is_binary, is_program, usual_game};
-use c8_game::{Game, GameError};
+use c8_files::{JournalFault, NO_TEXT, ProgramError, Trouble, is_binary, is_program, usual_game};
+use c8_game::{Game, GameError, Width};
 use c8_peer::OpenError;
-use c8_texts::{KeysError, game_site, key_sets_site};
+use c8_texts::{KeysError, game_site, inputs_site};
 use c8_udp::{NoAddress, SocketError, SocketFault, Unreached, Wanted};
 use std::alloc::Global;
 use std::fmt::Display;
@@ -43,6 +44,8 @@ pub(crate) enum Why {
     NoGame,
     #[error("a folder; give a game in it, as games/rally.game")]
     Folder,
+    #[error("there is no such file")]
+    NoFile,
     /// The bytes of a program make no game.
     #[error("{0}")]
     Program(ProgramError),
@@ -64,8 +67,17 @@ pub(crate) enum Why {
     /// The journal is in use.
     #[error("another program has this journal open")]
     Locked,
+    /// The file in the place of the journal has something else.
+    #[error("{0}")]
+    Foreign(JournalFault),
     #[error("a journal of another game or room; delete it if that match is over or was a mistake, or name another file")]
     OtherGame,
+    /// The others hold inputs of this player that the journal does not have.
+    #[error("the others hold inputs of yours that are not in it: start with the journal of that time; without it ask player 1 to drop you, or begin a new match")]
+    Lost,
+    /// There was no journal, and the others hold inputs of this player.
+    #[error("you played in this match before, and kept no journal: ask player 1 to drop you, or begin a new match")]
+    Unkept,
     /// The system refused a call at the file of the journal.
     #[error("the journal's file: {0}")]
     System(io::Error),
@@ -121,6 +133,8 @@ impl<'a> Fault<'a> {
                 .last()
                 .map(Why::System),
             PeerError::Open(OpenError::WrongGame) => Some(Why::OtherGame),
+            PeerError::Lost if journal == NO_JOURNAL => Some(Why::Unkept),
+            PeerError::Lost => Some(Why::Lost),
             _ => None,
         };
         Fault::new(alloc, error, journal).because(why)
@@ -129,12 +143,19 @@ impl<'a> Fault<'a> {
     /// A fault of a journal that was not opened.
     pub(crate) fn of_opening(
         alloc: Global,
-        error: FileError,
+        error: JournalFault,
         journal: &'a str,
         trouble: &Trouble,
     ) -> Self
         ensures { IsUnbegun result.error }
     {
+        let error = match error {
+            JournalFault::Disk(error) => error,
+            JournalFault::Foreign => {
+                let failed = PeerError::Disk(DiskError::Failed);
+                return Fault::new(alloc, failed, journal).because(Some(Why::Foreign(error)));
+            }
+        };
         let error = match error {
             FileError::Memory => PeerError::Open(OpenError::Memory),
             FileError::Full => PeerError::Disk(DiskError::Full),
@@ -155,6 +176,14 @@ impl<'a> Fault<'a> {
         ensures { result.error ≡ self.entry.error }
     {
         Fault { why, ..self }
+    }
+
+    /// The same fault, with what says more if there is something.
+    pub(crate) fn or_because(self, why: Option<Why>) -> Self
+        ensures { result.error ≡ self.entry.error }
+    {
+        let why = why.or(self.why);
+        self.because(why)
     }
 
     /// The same fault, with why a word is no address, if it is one.
@@ -214,17 +243,24 @@ impl<'a> Fault<'a> {
         let text = Text { file, bytes };
         match self.error {
             PeerError::Game(error) => game_site(alloc, text, error),
-            PeerError::Keys(KeysError::Line) => key_sets_site(text),
+            PeerError::Keys(KeysError::Line(digits)) => match Width::new(digits / 2) {
+                Some(width) => inputs_site(text, width),
+                None => Site::File(file),
+            },
             PeerError::Socket(SocketError::Address) => address_site(no_address),
             PeerError::Socket(SocketError::Failed(fault)) if is_of_address(fault) => {
                 address_site(Some(file))
             }
-            PeerError::Socket(_) | PeerError::Open(OpenError::Memory) => Site::Nowhere,
+            PeerError::Socket(_) | PeerError::Open(OpenError::Memory) | PeerError::Nobody => {
+                Site::Nowhere
+            }
+            PeerError::Lost | PeerError::Restarted if file == NO_JOURNAL => Site::Nowhere,
             PeerError::Keys(_)
             | PeerError::Secret(_)
             | PeerError::Open(_)
             | PeerError::Disk(_)
-            | PeerError::Lost => Site::File(file),
+            | PeerError::Lost
+            | PeerError::Restarted => Site::File(file),
         }
     }
 }
@@ -242,6 +278,14 @@ fn absence<R: Files<File = File>>(rt: &R, path: &str) -> Option<Why> {
     match fs::metadata(rt, path) {
         Ok(about) if about.is_dir() => Some(Why::Folder),
         Err(error) if error.kind() == io::ErrorKind::NotFound => Some(Why::NoGame),
+        _ => None,
+    }
+}
+
+/// That there is no file at a path, if the system knows none there.
+pub(crate) fn no_file<R: Files<File = File>>(rt: &R, path: &str) -> Option<Why> {
+    match fs::metadata(rt, path) {
+        Err(error) if error.kind() == io::ErrorKind::NotFound => Some(Why::NoFile),
         _ => None,
     }
 }

@@ -40,6 +40,7 @@ Refusals, each one line on standard error, as 'refused: game 5 Hex':
   open 3 BadRecord    the journal has a record that may not stand there
   open 4 EpochsSpent  the journal was opened too often
   open 5 Memory       out of memory at the start
+  hand 6 Restarted    wire 3: this player began the match with a journal that is not here
   disk 1 Failed       a file that cannot be read or written, or a text above 16777216 bytes
   disk 2 Full         the journal is at its greatest length, 1073741824 bytes
   socket 1 Failed     the socket cannot be opened, or was closed, or 4294967295 packets were sealed

@@ -2,19 +2,18 @@
 //!
 //! Shared are the [`options`], the refusals ([`PeerError`], [`Fault`]), and the socket with its seal ([`Line`], `seals`;
 //! c8_udp is the transport, and in a match with a secret `Sealed` lies over it). `mistake` finds words that do not fit
-//! together before any file is touched. [`card_in`] reads match cards. `command` opens the files, and `play` the journal.
+//! together before any file is touched. `command` opens the files, and `play` the journal.
 //! `peer` plays in threads ([`play_on`]): `stage` has the workers of c8_live, paced by `pace`, and a viewer; `quiet` says who
 //! was never heard.
 //! `play`, `host` and `join` play in the caller's thread: [`perform_on`] hands the session to a [`Performance`].
 #![tactic(auto)]
 
 mod arguments;
-mod card;
 mod command;
 mod error;
 mod fault;
 mod help;
-mod key_list;
+mod input_list;
 mod line;
 mod mistake;
 mod pace;
@@ -26,7 +25,6 @@ mod stage;
 
 pub use arguments::{Asked, PEER, asked_for, number_of};
 pub use c8_command::options;
-pub use card::{CARD_SEAT, Card, card_in};
 pub use command::{peer, peer_given, perform, perform_given, refuse, refuse_among};
 pub use error::{PeerError, Unopened};
 pub use fault::{Fault, game_at};

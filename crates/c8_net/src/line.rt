@@ -54,7 +54,10 @@ impl Line {
     }
 }
 
-/// Returns the sealer of a player's packets, with the counters of the epoch that its session is in.
+/// Returns the sealer of a player's packets, with the counters of the life and the epoch that its session is in.
 pub fn sealer_of<D: Disk>(seal: Seal, session: &Session<'_, D>) -> Sealer {
-    Sealer::new(seal, Counters::of_epoch(session.peer().epoch()))
+    Sealer::new(
+        seal,
+        Counters::of_epoch(session.peer().life(), session.peer().epoch()),
+    )
 }

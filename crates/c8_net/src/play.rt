@@ -2,27 +2,27 @@
 
 ghost use Rattle.std.specs.Prelude.{◌≡◌, ◌+◌, ℕ, length, IfOk, IfErr, IfSome};
 ghost use Rattle.c8_game.specs.Rules.{Rules};
-ghost use Rattle.c8_texts.specs.KeySets.{AreSetsOf};
+ghost use Rattle.c8_texts.specs.InputLines.{AreInputsOf};
 ghost use Rattle.c8_live.specs.Published.{MayShow};
 ghost use Rattle.c8_peer.specs.Opened.{IsOpened};
 ghost use Rattle.c8_peer.specs.Peer.{PeerValue};
-ghost use Rattle.c8_net.specs.Match.{IsNoKeys, IsNoMatch, HasEnded, HasPlayed, HasFailed};
+ghost use Rattle.c8_net.specs.Match.{IsNoInput, IsNoMatch, IsEarly, HasEnded, HasPlayed, HasFailed};
 
 use crate::arguments::Asked;
 use crate::error::{PeerError, Unopened};
-use crate::key_list::KeyList;
+use crate::input_list::InputList;
 use crate::line::{Line, Sealing, sealer_of};
 use crate::performance::{Ended, Performance};
 use crate::stage::Stage;
 use c8_command::{TextError, text_of};
 use c8_disk::{Disk, DiskError};
-use c8_game::{Game, Keys, Player};
+use c8_game::{Game, Input, Player, Width};
 use c8_live::laws::{machines_begin_where_they_did, true_checks_show_the_serial_run};
 use c8_live::tell_end;
 use c8_peer::Peer;
 use c8_session::laws::peers_run_on;
 use c8_session::{Life, Session};
-use c8_texts::{KeysError, Played, key_sets};
+use c8_texts::{KeysError, Played, read_inputs};
 use c8_transport::Sealed;
 use c8_udp::{Addresses, Bell, MOST_WATCHERS, PolledUdp};
 use c8_wire::Watcher;
@@ -38,8 +38,10 @@ use std::time::Clock;
 pub struct Prepared {
     pub game: Game,
     pub line: Line,
-    /// The own player's key sets, one a tick.
-    pub keys: Vec<Keys>,
+    /// The own player's inputs, one a tick.
+    pub inputs: Vec<Input>,
+    /// The number that the own journal takes for its life if it is empty.
+    pub drawn: u64,
 }
 
 /// Why a match cannot begin, and the content of standard input if one of its lines is at fault.
@@ -61,8 +63,8 @@ impl Unprepared {
     }
 }
 
-/// Reads the addresses of players and watchers, and the key sets of `input`. With a seal addresses may be learnt.
-/// Faults are found in this order: the number of remotes, the addresses, the reader, its key sets.
+/// Reads the addresses of players and watchers, and the inputs in the text of `input`. With a seal addresses may be learnt.
+/// Faults are found in this order: the number of remotes, the addresses, the reader, its inputs.
 pub fn prepare<I: Read + Drop>(
     alloc: Global,
     game: Game,
@@ -71,39 +73,45 @@ pub fn prepare<I: Read + Drop>(
     remotes: &[&str],
     watchers: [Option<&str>; MOST_WATCHERS],
     sealing: Option<Sealing>,
+    drawn: u64,
     input: I,
 ) -> Result<Prepared, Unprepared>
     ensures game { IfOk result (λ it. it.game ≡ game) }
     ensures remotes { IfOk result (λ it. length remotes.now + 1 ≡ it.game.players) }
-    ensures keys { IfOk result (λ it. IfSome (I.remaining input)
-        (λ bytes. AreSetsOf bytes it.keys.items)) }
+    ensures inputs { IfOk result (λ it. IfSome (I.remaining input)
+        (λ bytes. AreInputsOf game.width bytes it.inputs.items)) }
     ensures refused { IfErr result (λ it.
-        IsNoMatch game.players (I.remaining input) (length remotes.now) it.error) }
+        IsNoMatch game (I.remaining input) (length remotes.now) it.error) }
 {
     let may_learn = sealing.is_some();
     let addresses = match Addresses::read(game.players(), me, local, remotes, watchers, may_learn) {
         Ok(addresses) => addresses,
         Err(error) => return Err(Unprepared::new(alloc, PeerError::Socket(error))),
     };
-    match keys_in(alloc, input) {
-        Ok(keys) => Ok(Prepared {
+    match inputs_in(alloc, input, game.width()) {
+        Ok(inputs) => Ok(Prepared {
             game,
             line: Line { addresses, sealing },
-            keys,
+            inputs,
+            drawn,
         }),
         Err(error) => Err(error),
     }
 }
 
-/// Returns the key sets of a reader's whole text.
-fn keys_in<I: Read + Drop>(alloc: Global, input: I) -> Result<Vec<Keys>, Unprepared>
-    ensures sets { IfOk result (λ sets. IfSome (I.remaining input)
-        (λ bytes. AreSetsOf bytes sets.items)) }
-    ensures refused { IfErr result (λ it. IsNoKeys (I.remaining input) it.error) }
+/// Returns the inputs of a reader's whole text, of this width.
+fn inputs_in<I: Read + Drop>(
+    alloc: Global,
+    input: I,
+    width: Width,
+) -> Result<Vec<Input>, Unprepared>
+    ensures read { IfOk result (λ inputs. IfSome (I.remaining input)
+        (λ bytes. AreInputsOf width.bytes bytes inputs.items)) }
+    ensures refused { IfErr result (λ it. IsNoInput width.bytes (I.remaining input) it.error) }
 {
     match text_of(alloc, input) {
-        Ok(text) => match key_sets(alloc, &text) {
-            Ok(sets) => Ok(sets),
+        Ok(text) => match read_inputs(alloc, &text, width) {
+            Ok(inputs) => Ok(inputs),
             Err(error) => Err(Unprepared {
                 error: PeerError::Keys(error),
                 input: text,
@@ -135,8 +143,20 @@ where
         (HasFailed D.Disk disk it.game asked.now.room asked.now.player.number) }
 {
     peers_run_on::<D>();
-    let Prepared { game, line, keys } = it;
-    let peer = match Peer::open(rt.alloc(), disk, &game, asked.player, asked.room) {
+    let Prepared {
+        game,
+        line,
+        inputs,
+        drawn,
+    } = it;
+    let peer = match Peer::open(
+        rt.alloc(),
+        disk,
+        &game,
+        asked.player,
+        asked.room,
+        drawn.max(1),
+    ) {
         Ok(peer) => peer,
         Err((error, _disk)) => return Err(PeerError::Open(error)),
     };
@@ -150,18 +170,18 @@ where
     let mut session = session_of(peer, &game, asked, asked.patience);
     session.counts(Life::Admitted);
     session.rests_briefly();
-    let keys = KeyList::new(keys);
+    let inputs = InputList::new(inputs);
     match play_over(
         rt,
         asked,
         stage,
         session,
-        keys,
+        inputs,
         wire,
         line.sealing,
         progress,
     ) {
-        Ok(ended) => outcome_of(asked, ended, progress),
+        Ok(ended) => outcome_of(asked, ended, None, progress),
         Err(error) => Err(PeerError::from(error)),
     }
 }
@@ -172,7 +192,7 @@ fn play_over<'g, R, D, E>(
     asked: &Asked<'_, '_>,
     stage: Stage,
     session: Session<'g, D>,
-    keys: KeyList,
+    inputs: InputList,
     wire: (PolledUdp<'_, R>, Bell),
     sealing: Option<Sealing>,
     progress: &mut E,
@@ -187,10 +207,10 @@ where
 {
     let (udp, bell) = wire;
     match sealing {
-        None => stage.play(rt, asked, session, keys, (udp, bell), progress),
+        None => stage.play(rt, asked, session, inputs, (udp, bell), progress),
         Some(sealing) => {
             let sealed = Sealed::over(udp, sealer_of(sealing.seal, &session));
-            stage.play(rt, asked, session, keys, (sealed, bell), progress)
+            stage.play(rt, asked, session, inputs, (sealed, bell), progress)
         }
     }
 }
@@ -216,35 +236,52 @@ where
         (HasFailed D.Disk disk it.game asked.now.room asked.now.player.number) }
 {
     peers_run_on::<D>();
-    let Prepared { game, line, .. } = it;
-    let peer = match Peer::open(rt.alloc(), disk, &game, asked.player, asked.room) {
+    let Prepared {
+        game,
+        line,
+        drawn,
+        ..
+    } = it;
+    let peer = match Peer::open(
+        rt.alloc(),
+        disk,
+        &game,
+        asked.player,
+        asked.room,
+        drawn.max(1),
+    ) {
         Ok(peer) => peer,
         Err((error, _disk)) => return Err(PeerError::Open(error)),
     };
     let session = session_of(peer, &game, asked, None);
     match performance.perform(rt, asked, line, &game, session, progress) {
-        Ok(ended) if ended.is_lost() => Err(PeerError::Lost),
-        Ok(ended) => outcome_of(asked, ended, progress),
+        Ok(ended) => outcome_of(asked, ended, Some(PeerError::Lost), progress),
         Err(error) => Err(PeerError::from(error)),
     }
 }
 
-/// Returns the outcome of a session after its last turn, in terms of the journal that was found.
+/// Returns the outcome of a session after its last turn, in terms of the journal that was found. `lost` is the error if the others
+/// know more of this player than its journal does; without one that is none.
 fn outcome_of<D: Disk + Drop, E: Write>(
     asked: &Asked<'_, '_>,
     ended: Ended<'_, D>,
+    lost: Option<PeerError>,
     progress: &mut E,
 ) -> Result<Played, PeerError>
-    ensures played { (disk : D) (rules : Rules) (room me : ℕ) (first : PeerValue D)
-        → IsOpened D.Disk disk rules room me first
+    requires { IfSome lost IsEarly }
+    ensures played { (disk : D) (rules : Rules) (room me drawn : ℕ) (first : PeerValue D)
+        → IsOpened D.Disk disk rules room me drawn first
         → HasEnded D.Disk first ended.entry.session.peer ended.entry.turns
         → IfOk result (HasPlayed D.Disk disk rules room me) }
-    ensures refused { (disk : D) (rules : Rules) (room me : ℕ) (first : PeerValue D)
-        → IsOpened D.Disk disk rules room me first
+    ensures refused { (disk : D) (rules : Rules) (room me drawn : ℕ) (first : PeerValue D)
+        → IsOpened D.Disk disk rules room me drawn first
         → HasEnded D.Disk first ended.entry.session.peer ended.entry.turns
         → IfErr result (HasFailed D.Disk disk rules room me) }
 {
-    let Ended { session, turns } = ended;
+    if let Some(error) = ended.refusal(lost) {
+        return Err(error);
+    }
+    let Ended { session, turns, .. } = ended;
     let made = match turns {
         Ok(made) => made,
         Err(error) => return Err(PeerError::from(error)),

@@ -5,7 +5,7 @@ ghost use Rattle.c8_net.specs.Answers.{IsUnbegun};
 
 use crate::arguments::Asked;
 use crate::error::PeerError;
-use crate::fault::{Fault, Why};
+use crate::fault::{Fault, Why, no_file};
 use crate::line::Sealing;
 use c8_command::TextError;
 use c8_disk::DiskError;
@@ -141,7 +141,10 @@ where
 {
     match secret_in(rt, path) {
         Ok(secret) => Ok(secret),
-        Err(fault) => Err(secret_fault(rt.alloc(), fault, path)),
+        Err(fault) => {
+            let absence = no_file(rt, path);
+            Err(secret_fault(rt.alloc(), fault, path).or_because(absence))
+        }
     }
 }
 

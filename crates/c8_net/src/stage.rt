@@ -11,7 +11,7 @@ use crate::quiet::Quiet;
 use c8_disk::Disk;
 use c8_game::Game;
 use c8_live::{
-    Board, Counters, KeySource, PLACES, Pen, Progress, Putter, Relay, Standing, Taker, Viewer,
+    Board, Counters, InputSource, PLACES, Pen, Progress, Putter, Relay, Standing, Taker, Viewer,
     game_worker, inlet, net_worker, open_board,
 };
 use c8_peer::Peer;
@@ -54,11 +54,11 @@ struct Post<W> {
     inbox: Putter,
 }
 
-/// What the game thread owns: a session and its key sets, its ends of the inlets, and the pen of the board.
+/// What the game thread owns: a session and its inputs, its ends of the inlets, and the pen of the board.
 #[derive(Drop)]
 struct Turner<'g, D: Disk, K> {
     session: Session<'g, D>,
-    keys: K,
+    inputs: K,
     relay: Relay,
     pen: Pen,
     /// How many turns it makes at most.
@@ -107,7 +107,7 @@ impl Stage {
         })
     }
 
-    /// Plays a session with the key sets of a source over a wire and its bell: the caller's thread makes its turns, one
+    /// Plays a session with the inputs of a source over a wire and its bell: the caller's thread makes its turns, one
     /// thread moves its packets, and one prints the progress. It ends when the session is over, its turns are made, the
     /// viewer has asked for the end, or the wire fails. All threads are then joined. If the system starts no thread, no
     /// turn is made (`Thread`).
@@ -116,14 +116,14 @@ impl Stage {
         rt: &R,
         asked: &Asked<'_, '_>,
         session: Session<'g, D>,
-        keys: K,
+        inputs: K,
         wire: (W, Bell),
         progress: &mut E,
     ) -> Result<Ended<'g, D>, Unopened>
     where
         R: Clock + Threads + Wait + Sync,
         D: Disk + Drop,
-        K: KeySource + Drop,
+        K: InputSource + Drop,
         W: Wire + Drop + Send,
         E: Write + Send,
         requires { MayShow session.peer self.pen }
@@ -160,7 +160,7 @@ impl Stage {
         };
         let turner = Turner {
             session,
-            keys,
+            inputs,
             relay,
             pen,
             turns: asked.turns,
@@ -191,7 +191,7 @@ fn move_and_turn<'g, R, D, K, W>(
 where
     R: Clock + Threads + Wait + Sync,
     D: Disk + Drop,
-    K: KeySource + Drop,
+    K: InputSource + Drop,
     W: Wire + Drop + Send,
     requires board { turner.pen.board ≡ shared.now.board }
     requires shows { MayShow turner.session.peer turner.pen }
@@ -222,7 +222,7 @@ where
 }
 
 /// Runs the game thread, which is the caller's.
-fn make_turns<'g, R: Clock, D: Disk, K: KeySource + Drop>(
+fn make_turns<'g, R: Clock, D: Disk, K: InputSource + Drop>(
     turner: Turner<'g, D, K>,
     shared: &Shared<'_, R>,
 ) -> Ended<'g, D>
@@ -237,14 +237,14 @@ fn make_turns<'g, R: Clock, D: Disk, K: KeySource + Drop>(
     } = shared;
     let Turner {
         mut session,
-        mut keys,
+        mut inputs,
         mut relay,
         mut pen,
         turns,
     } = turner;
     let turns = game_worker(
         &mut session,
-        &mut keys,
+        &mut inputs,
         &mut relay,
         board,
         &mut pen,
@@ -253,7 +253,11 @@ fn make_turns<'g, R: Clock, D: Disk, K: KeySource + Drop>(
         pace,
     );
     pace.end(Worker::Game);
-    Ended { session, turns }
+    Ended {
+        session,
+        turns,
+        is_unanswered: false,
+    }
 }
 
 /// Runs the net thread.

@@ -14,17 +14,17 @@ pub length_run : (skip count : ℕ) (pairs : List Pair) → skip + count ≡ cou
 length_run skip count pairs counts = length-drop skip (words_in pairs) ∙ omega (arith, counts, length_words pairs)
 
 -- within the first stretch
-pub drop_within : (skip times keys : ℕ) (words : List ℕ) → skip ≤ times
-    → drop skip (replicate times keys ++ words) ≡ replicate (times - skip) keys ++ words
-drop_within skip times keys words within =
-    drop-append-le skip (replicate times keys) words (omega (arith, within, length-replicate times keys))
-    ∙ ap (λ (ws : List ℕ). ws ++ words) (drop-replicate skip times keys)
+pub drop_within : (skip times input : ℕ) (words : List ℕ) → skip ≤ times
+    → drop skip (replicate times input ++ words) ≡ replicate (times - skip) input ++ words
+drop_within skip times input words within =
+    drop-append-le skip (replicate times input) words (omega (arith, within, length-replicate times input))
+    ∙ ap (λ (ws : List ℕ). ws ++ words) (drop-replicate skip times input)
 
 -- past it
-pub drop_past : (place times keys : ℕ) (words : List ℕ) → times ≤ place → drop place (replicate times keys ++ words) ≡ drop (place - times) words
-drop_past place times keys words past =
-    let all : length (replicate times keys) + (place - times) ≡ place = omega (arith, past, length-replicate times keys) in
-    ap (λ (n : ℕ). drop n (replicate times keys ++ words)) (sym all) ∙ drop-append-add (replicate times keys) words (place - times)
+pub drop_past : (place times input : ℕ) (words : List ℕ) → times ≤ place → drop place (replicate times input ++ words) ≡ drop (place - times) words
+drop_past place times input words past =
+    let all : length (replicate times input) + (place - times) ≡ place = omega (arith, past, length-replicate times input) in
+    ap (λ (n : ℕ). drop n (replicate times input ++ words)) (sym all) ∙ drop-append-add (replicate times input) words (place - times)
 
 first_dropped : (words : List ℕ) (n : ℕ) → slice_get (drop n words) 0 ≡ slice_get words n
 first_dropped words zero = refl
@@ -34,16 +34,16 @@ first_dropped (w ∷ words) (suc n) = first_dropped words n
 slice_get_dropped : (words : List ℕ) (skip place : ℕ) → slice_get (drop skip words) place ≡ slice_get (drop (skip + place) words) 0
 slice_get_dropped words skip place = sym (first_dropped (drop skip words) place) ∙ ap (λ (ws : List ℕ). slice_get ws 0) (drop-drop place skip words)
 
-first_within : (skip times keys : ℕ) (words : List ℕ) → skip < times → slice_get (drop skip (replicate times keys ++ words)) 0 ≡ Some keys
-first_within zero zero keys words within = absurd (omega (arith, within))
-first_within zero (suc times) keys words within = refl
-first_within (suc skip) zero keys words within = absurd (omega (arith, within))
-first_within (suc skip) (suc times) keys words within = first_within skip times keys words (omega (arith, within))
+first_within : (skip times input : ℕ) (words : List ℕ) → skip < times → slice_get (drop skip (replicate times input ++ words)) 0 ≡ Some input
+first_within zero zero input words within = absurd (omega (arith, within))
+first_within zero (suc times) input words within = refl
+first_within (suc skip) zero input words within = absurd (omega (arith, within))
+first_within (suc skip) (suc times) input words within = first_within skip times input words (omega (arith, within))
 
-pub got : (all rest : List ℕ) (skip place begun times keys : ℕ) → drop begun (replicate times keys ++ rest) ≡ drop (skip + place) all
-    → begun < times → slice_get (drop skip all) place ≡ Some keys
-got all rest skip place begun times keys same within =
-    slice_get_dropped all skip place ∙ ap (λ (ws : List ℕ). slice_get ws 0) (sym same) ∙ first_within begun times keys rest within
+pub got : (all rest : List ℕ) (skip place begun times input : ℕ) → drop begun (replicate times input ++ rest) ≡ drop (skip + place) all
+    → begun < times → slice_get (drop skip all) place ≡ Some input
+got all rest skip place begun times input same within =
+    slice_get_dropped all skip place ∙ ap (λ (ws : List ℕ). slice_get ws 0) (sym same) ∙ first_within begun times input rest within
 
 -- a run begins with its first pair
 pub begins : (pairs : List Pair) → well_after None pairs ≡ true → is_begun 0 pairs ≡ true

@@ -11,7 +11,7 @@ spelled run = run.bytes.now
 
 -- all inputs of these pairs
 abbrev pub touched : Pairs → List ℕ
-touched run = words_in (pairs_at run.bytes.now)
+touched run = words_in (pairs_at run.width.bytes run.bytes.now)
 
 -- the inputs of the run: it may begin within its first pair
 abbrev pub words : Pairs → List ℕ
@@ -19,4 +19,4 @@ words run = drop run.skip (touched run)
 
 -- what is left of an iteration: the rest of a pair, and the inputs of the pairs after it
 abbrev pub words_left : PairsIter → List ℕ
-words_left w = replicate w.times w.keys ++ words_in (pairs_at w.rest.now)
+words_left w = replicate w.times w.input ++ words_in (pairs_at w.width.bytes w.rest.now)

@@ -1,1 +1,2 @@
+pub mod ByteLaws
 pub mod PairLaws

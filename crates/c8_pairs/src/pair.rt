@@ -1,8 +1,10 @@
 //! One pair.
 
-/// A stretch of equal inputs: its length, 1 to 64 in a run, and its key set.
+use c8_game::Input;
+
+/// A stretch of equal inputs: its length, 1 to 64 in a run, and the input.
 #[derive(Clone, Copy, Debug, PartialEq, Eq)]
 pub struct Pair {
     pub times: u8,
-    pub keys: u16,
+    pub input: Input,
 }

@@ -1,7 +1,7 @@
 //! Datagrams, and the links that admit them.
 use crate::answers::Answers;
 use crate::words::{bytes_in, count_in, player_in, unreadable};
-use c8_game::{Game, Player, WireVersion};
+use c8_game::{Game, Input, Player, Width, WireVersion};
 use c8_hand::{HandError, Links};
 use c8_wire::{Body, DatagramKind, Head, LONGEST_DATAGRAM, Said, Seat, fits, view, write};
 use std::alloc::{AllocError, Global};
@@ -38,28 +38,29 @@ pub(crate) fn show_data(
     let inputs = inputs_of(alloc, &bytes_in(alloc, spelled, block, 0)?)?;
     let mut room = [0; LONGEST_DATAGRAM];
     let length = write_data(version, &inputs, &mut room);
-    let carried = fits(version, &inputs);
+    let carried = fits(version, Width::DEFAULT, &inputs);
     out.tell(format_args!("fits {carried} length {length}"))?;
     out.spell("", room.get(..length).unwrap_or(&[]))
 }
 
-/// The key sets of two bytes each.
-fn inputs_of(alloc: Global, bytes: &[u8]) -> Result<Vec<u16>, AllocError> {
+/// The inputs of two bytes each.
+fn inputs_of(alloc: Global, bytes: &[u8]) -> Result<Vec<Input>, AllocError> {
     let mut inputs = Vec::new(alloc);
     for pair in bytes.chunks(2) {
         if let [high, low] = pair {
-            inputs.push(u16::from_be_bytes([*high, *low]))?;
+            inputs.push(Input(u64::from(u16::from_be_bytes([*high, *low]))))?;
         }
     }
     Ok(inputs)
 }
 
 /// Writes a DATA that carries what fits, and returns its length.
-fn write_data(version: WireVersion, words: &[u16], out: &mut [u8; LONGEST_DATAGRAM]) -> usize {
-    let (run, _) = words.split_at(fits(version, words));
+fn write_data(version: WireVersion, words: &[Input], out: &mut [u8; LONGEST_DATAGRAM]) -> usize {
+    let (run, _) = words.split_at(fits(version, Width::DEFAULT, words));
     let head = Head {
         kind: DatagramKind::Data,
         version,
+        width: Width::DEFAULT,
         session: 0,
         from: Seat { number: 1 },
         to: Seat { number: 2 },

@@ -1,8 +1,8 @@
 //! Known inputs, and a roll on them.
 use crate::answers::{Answers, write_bytes};
-use crate::words::{bytes_in, count_in, keys_in, needed, player_in, unreadable};
+use crate::words::{bytes_in, count_in, input_in, needed, player_in, unreadable};
 use c8_digest::mark;
-use c8_game::{Game, Keys, Player};
+use c8_game::{Game, Input, Player};
 use c8_known::{Known, KnownError};
 use c8_roll::{Buffers, Roll};
 use c8_window::Window;
@@ -134,7 +134,7 @@ fn call_roll(
     out: &mut Answers,
 ) -> io::Result<()> {
     match words {
-        ["tick", keys] => tick(known, roll, keys_in(keys)?, out),
+        ["tick", input] => tick(known, roll, input_in(input, known.width())?, out),
         ["settle"] => settle(known, roll, out),
         ["look"] => look(roll, out),
         ["debug"] => out.tell(format_args!("{roll:?}")),
@@ -159,8 +159,8 @@ fn ack(
 /// Prints the own inputs that a player has not acknowledged.
 fn pending(window: &Window, known: &Known, player: Player, out: &mut Answers) -> io::Result<()> {
     write!(out.text, "pending")?;
-    for keys in window.pending(player, known) {
-        write!(out.text, " {keys:04x}")?;
+    for input in window.pending(player, known) {
+        write!(out.text, " {}", input.digits(known.width()))?;
     }
     writeln!(out.text)
 }
@@ -186,10 +186,15 @@ fn take(
     bytes: &[u8],
     out: &mut Answers,
 ) -> io::Result<()> {
-    if player.number > known.players() || bytes.len() > 128 || bytes.len() % 2 != 0 {
+    let width = known.width();
+    let size = usize::from(width.bytes);
+    if bytes.len() > 128 || bytes.len() > 64 * size || bytes.len() % size != 0 {
         return Err(unreadable());
     }
-    let part = match known.fresh(player, player, start, Run::new(bytes)) {
+    if player.number > known.players() {
+        return Err(unreadable());
+    }
+    let part = match known.fresh(player, player, start, Run::new(bytes, width)) {
         Ok(part) => part,
         Err(error) => return refuse(error, out),
     };
@@ -204,12 +209,15 @@ fn take(
 /// Takes the inputs of a DATA, and prints the part of them that was lent: how many, how many of its first pair come
 /// before them, and the bytes.
 fn take_data(known: &mut Known, player: Player, bytes: &[u8], out: &mut Answers) -> io::Result<()> {
-    let Ok(Datagram::Data(data)) = view(bytes) else {
+    let Ok(datagram) = view(bytes) else {
         return Err(unreadable());
     };
-    if player.number > known.players() {
+    if player.number > known.players() || datagram.header().width() != known.width() {
         return Err(unreadable());
     }
+    let Datagram::Data(data) = datagram else {
+        return Err(unreadable());
+    };
     let part = match known.fresh(player, player, data.start(), data.run()) {
         Ok(part) => part,
         Err(error) => return refuse(error, out),
@@ -223,14 +231,14 @@ fn take_data(known: &mut Known, player: Player, bytes: &[u8], out: &mut Answers)
     Ok(())
 }
 
-/// Enters a key set of the own player, advances the roll, and prints how many frames that ran, if there is
+/// Enters an input of the own player, advances the roll, and prints how many frames that ran, if there is
 /// room for it and the roll has seen the ticks before.
-fn tick(known: &mut Known, roll: &mut Roll<'_>, keys: Keys, out: &mut Answers) -> io::Result<()> {
+fn tick(known: &mut Known, roll: &mut Roll<'_>, input: Input, out: &mut Answers) -> io::Result<()> {
     let me = known.me();
-    if known.count(me) >= known.limit() {
+    if known.count(me) >= known.limit() || !input.fits(known.width()) {
         return Err(unreadable());
     }
-    known.own(keys);
+    known.own(input);
     if known.ticks() == 0 || known.ticks() - 1 != roll.ticks() {
         return Err(unreadable());
     }

@@ -18,6 +18,6 @@ pub use answers::{Answers, write_bytes};
 pub use desk::Desk;
 pub use disks::write_at;
 pub use words::{
-    arm_in, bytes_in, count_in, keys_in, needed, number_in, player_in, size_in, unreadable,
+    arm_in, bytes_in, count_in, input_in, needed, number_in, player_in, size_in, unreadable,
     words_in,
 };

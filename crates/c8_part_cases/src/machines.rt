@@ -1,9 +1,9 @@
 //! Games and machines.
 use crate::answers::Answers;
-use crate::words::{keys_in, number_in, unreadable};
+use crate::words::{input_in, number_in, unreadable};
 use c8_digest::{STATE_LENGTH, mark, read_state, state_bytes};
-use c8_game::Game;
-use c8_machine::Machine;
+use c8_game::{Game, Width};
+use c8_machine::{Keys, Machine};
 use std::io;
 
 /// Prints the version of datagrams that a game names, its id, or its session in a room.
@@ -32,11 +32,11 @@ pub(crate) fn call_machine(
 ) -> io::Result<()> {
     match words {
         ["step", keys] => {
-            let step = machine.step(game, keys_in(keys)?);
+            let step = machine.step(game, Keys::from(input_in(keys, Width::DEFAULT)?));
             out.tell(format_args!("{step:?}"))
         }
         ["frame", keys] => {
-            machine.frame(game, keys_in(keys)?);
+            machine.frame(game, Keys::from(input_in(keys, Width::DEFAULT)?));
             out.tell("frame")
         }
         ["state"] => {

@@ -2,10 +2,10 @@
 use crate::answers::Answers;
 use crate::disks::Hand;
 use crate::words::{
-    bytes_in, count_in, keys_in, needed, number_in, player_in, unreadable, words_in,
+    bytes_in, count_in, input_in, needed, number_in, player_in, unreadable, words_in,
 };
 use c8_disk::MemDisk;
-use c8_game::{Game, Player};
+use c8_game::{Game, Player, Width};
 use c8_known::Known;
 use c8_log::{BODY_LENGTH, Log, OPEN_GATE};
 use c8_record::{Checks, Record, ReplayError, body_of, replay, replay_bytes};
@@ -99,21 +99,23 @@ fn tell(answer: Result<u32, ReplayError>, known: &Known, out: &mut Answers) -> i
     let confirmed = known.confirmed();
     write!(out.text, " confirmed {confirmed}")?;
     if let Some(last) = confirmed.checked_sub(1) {
-        let [one, two, three, four] = known.row(last).sets;
-        write!(out.text, " row {one} {two} {three} {four}")?;
+        write!(out.text, " row")?;
+        for input in &known.row(last).inputs {
+            write!(out.text, " {}", input.digits(known.width()))?;
+        }
     }
     writeln!(out.text)
 }
 
-/// Prints the body of a record: `own P START KEYS` is an own input.
+/// Prints the body of a record: `own P START INPUT` is an own input of two bytes.
 pub(crate) fn body_in(words: &[&str], out: &mut Answers) -> io::Result<()> {
-    let ["own", player, start, keys] = words else {
+    let ["own", player, start, input] = words else {
         return Err(unreadable());
     };
     let own = Record::Own {
         player: player_in(player)?,
         start: count_in(start)?,
-        keys: keys_in(keys)?,
+        input: input_in(input, Width::DEFAULT)?,
     };
-    out.spell("body", &body_of(&own))
+    out.spell("body", &body_of(&own, Width::DEFAULT))
 }

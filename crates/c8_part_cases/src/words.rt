@@ -1,6 +1,6 @@
 //! How numbers, players and bytes are spelled.
 use c8_disk::Arm;
-use c8_game::{Keys, Player};
+use c8_game::{Input, Player, Width};
 use hex::FromHexError;
 use std::alloc::Global;
 use std::io;
@@ -47,8 +47,8 @@ pub fn size_in(word: &str) -> io::Result<usize> {
     needed(word.parse::<usize>().ok())
 }
 
-pub fn keys_in(word: &str) -> io::Result<Keys> {
-    needed(Keys::from_hex(word.as_bytes()))
+pub fn input_in(word: &str, width: Width) -> io::Result<Input> {
+    needed(Input::from_hex(word.as_bytes(), width))
 }
 
 /// Which calls of a disk fail: `off`, `stop N` or `once N`.

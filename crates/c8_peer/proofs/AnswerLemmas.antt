@@ -24,11 +24,11 @@ use Rattle.c8_peer.proofs.RoomLemmas.{had_room}
 -- the outcome of a call, by the parts of the peer and by its model
 pub outcome_seen : {D : Type 0} {ran : ℕ} (v : PeerValue D) (rules : Rules) (room : ℕ) (j : JournalValue D) (k : KnownValue) (m : Memory)
     → IsPeer rules room j k m → view rules room k.me j m ran ≡ v
-    → (call : Call) (o : Memory → Outcome) → outcome rules (told_of rules k.me (records_of j.bodies)) k m call ≡ o m
+    → (call : Call) (o : Memory → Outcome) → outcome rules (told_of rules k.me (records_of rules.width j.bodies)) k m call ≡ o m
     → outcome v.rules (told_by v) (known_by v) v.state.memory call ≡ o v.state.memory
 outcome_seen {D} {ran} v rules room j k m is seen call o comes =
     subst (λ (x : PeerValue D). outcome x.rules (told_by x) (known_by x) x.state.memory call ≡ o x.state.memory) seen
-    (subst (λ (known : KnownValue). outcome rules (told_of rules k.me (records_of j.bodies)) known m call ≡ o m) is.known comes)
+    (subst (λ (known : KnownValue). outcome rules (told_of rules k.me (records_of rules.width j.bodies)) known m call ≡ o m) is.known comes)
 
 module _ {D : Type 0} (g : Ghosts D) where
   -- the call does not touch the disk
@@ -56,10 +56,10 @@ module _ {D : Type 0} (g : Ghosts D) where
 
   -- what a call that records does with the disk
   pub record Kept (v : PeerValue D) (r : Record) (answer : Answer) (new : D) : Type 0 where
-    pub any_moment : LeavesOnly g v.disk new (KeepsWithOrWithout v.state.journal (Some r))
+    pub any_moment : LeavesOnly g v.disk new (KeepsWithOrWithout v.rules.width v.state.journal (Some r))
     pub changes : g.changes new ≤ g.changes v.disk + 4
     pub same : IsSameDisk g v.disk new
-    pub asks : Asks g (AppendWithin (g.capacity v.disk) (length v.state.journal) (body_of r)) answer v.disk new
+    pub asks : Asks g (AppendWithin (g.capacity v.disk) (length v.state.journal) (body_of v.rules.width r)) answer v.disk new
 
   abbrev pub with_record : PeerValue D → D → Record → Memory → ℕ → PeerValue D
   with_record v disk r m ran = record v { disk = disk; state = record v.state { journal = v.state.journal ++ r ∷ []; memory = m }; last_run = ran }
@@ -81,13 +81,13 @@ module _ {D : Type 0} (g : Ghosts D) where
   records v disk m ran call reply r mode comes on_disk kept runs leaves = record {
     step = rw (mode, comes, on_disk) refl;
     cause = λ why e. let never : Works ≡ Refuses why = sym on_disk ∙ e in absurd cc;
-    full = λ other is few. let room = had_room (g.capacity v.disk) (length v.state.journal) (body_of r) kept.asks.calls kept.asks.is in
+    full = λ other is few. let room = had_room (g.capacity v.disk) (length v.state.journal) (body_of v.rules.width r) kept.asks.calls kept.asks.is in
         absurd (omega (arith, few, room));
     any_moment = rw (mode, comes) kept.any_moment;
     journal = leaves;
     asks = λ other is. let this : Some r ≡ Some other = rw (mode, comes) refl ∙ is in
         let same : r ≡ other = cc in
-        rw on_disk (subst (λ (x : Record). Asks g (AppendWithin (g.capacity v.disk) (length v.state.journal) (body_of x)) (Ok tt) v.disk
+        rw on_disk (subst (λ (x : Record). Asks g (AppendWithin (g.capacity v.disk) (length v.state.journal) (body_of v.rules.width x)) (Ok tt) v.disk
         disk) same kept.asks);
     untouched = λ e. let never : Some r ≡ None = sym (rw (mode, comes) refl) ∙ e in absurd cc;
     changes = kept.changes;
@@ -110,7 +110,8 @@ module _ {D : Type 0} (g : Ghosts D) where
     journal = leaves;
     asks = λ other is. let this : Some r ≡ Some other = rw (mode, comes) refl ∙ is in
         let same : r ≡ other = cc in
-        rw on_disk (subst (λ (x : Record). Asks g (AppendWithin (g.capacity v.disk) (length v.state.journal) (body_of x)) (Err why) v.disk
+        rw on_disk (subst (λ (x : Record). Asks g (AppendWithin (g.capacity v.disk) (length v.state.journal) (body_of v.rules.width x)) (Err why)
+        v.disk
         disk) same kept.asks);
     untouched = λ e. let never : Some r ≡ None = sym (rw (mode, comes) refl) ∙ e in absurd cc;
     changes = kept.changes;

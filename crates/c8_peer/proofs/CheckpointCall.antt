@@ -262,10 +262,11 @@ runs_none k ran runs = none_run k ran runs.oldest runs.is runs.all
 
 module _ {D : Type 0} where
   pub comes_inside : (rules : Rules) (room : ℕ) (j : JournalValue D) (k : KnownValue) (m : Memory) (c : Checks) → IsPeer rules room j k m
-      → IsCut rules k.me (records_of j.bodies) c → (player_in k k.me).leaving ≡ false
-      → outcome rules (told_of rules k.me (records_of j.bodies)) k m Checkpoint ≡ recorded m (Checked (Ok (next_said c))) (next_record k.me c)
+      → IsCut rules k.me (records_of rules.width j.bodies) c → (player_in k k.me).leaving ≡ false
+      → outcome rules (told_of rules k.me (records_of rules.width j.bodies)) k m Checkpoint
+      ≡ recorded m (Checked (Ok (next_said c))) (next_record k.me c)
   comes_inside rules room j k m c is cut stays =
-      let journal : List Record = records_of j.bodies in
+      let journal : List Record = records_of rules.width j.bodies in
       let stays_known : (player_in (known_of rules k.me journal) (known_of rules k.me journal).me).leaving ≡ false =
       subst (λ (x : KnownValue). (player_in x x.me).leaving ≡ false) is.known stays in
       subst (λ (x : KnownValue). checkpoint (told_of rules k.me journal) x m ≡ recorded m (Checked (Ok (next_said c))) (next_record x.me c))
@@ -274,10 +275,10 @@ module _ {D : Type 0} where
 
   -- the next record, by the parts of the peer
   pub next_inside : (rules : Rules) (room : ℕ) (j : JournalValue D) (k : KnownValue) (m : Memory) (c : Checks) → IsPeer rules room j k m
-      → IsCut rules k.me (records_of j.bodies) c → (player_in k k.me).leaving ≡ false
-      → IsNext rules k.me (records_of j.bodies) (next_record k.me c)
+      → IsCut rules k.me (records_of rules.width j.bodies) c → (player_in k k.me).leaving ≡ false
+      → IsNext rules k.me (records_of rules.width j.bodies) (next_record k.me c)
   next_inside rules room j k m c is cut stays =
-      let journal : List Record = records_of j.bodies in
+      let journal : List Record = records_of rules.width j.bodies in
       let keeps : (checkpoint (told_of rules k.me journal) (known_of rules k.me journal) m).keeps ≡ Some (next_record k.me c) =
       subst (λ (x : KnownValue). (checkpoint (told_of rules k.me journal) x m).keeps ≡ Some (next_record k.me c)) is.known
       (ap (λ (o : Outcome). o.keeps) (comes_inside rules room j k m c is cut stays)) in
@@ -290,35 +291,37 @@ module _ {D : Type 0} where
       → (IsErrOf {T = Unit {0}} (Err why) errors.Full ↔ (g.capacity j.disk < slot_length * (length j.bodies + 1) + 1))
       → (IsErrOf {T = Unit {0}} (Err why) errors.Full → new ≡ j.disk) → HasAppendCause g v (without_record g v new r) why
   append_cause g v rules room me j new m r errors.Failed seen failed full left =
-      let many = length-map j.bodies record_of in
+      let many = length-map j.bodies (record_of rules.width) in
       subst (λ (x : PeerValue D). HasAppendCause g x (without_record g x new r) errors.Failed) seen
       (elim (cases_lt (g.capacity j.disk) (slot_length * (length j.bodies + 1) + 1)) [
         | inl lacks ↦ absurd (let never = full.1 lacks in cc)
         | inr fits ↦ (omega (arith, many, fits), failed refl)
       ])
   append_cause g v rules room me j new m r errors.Full seen failed full left =
-      let many = length-map j.bodies record_of in
+      let many = length-map j.bodies (record_of rules.width) in
       subst (λ (x : PeerValue D). HasAppendCause g x (without_record g x new r) errors.Full) seen
       (let lacks = full.0 refl in omega (arith, many, lacks), left refl)
 
   -- ---- what holds once the bytes of the next record are cut
 
   pub record IsReady (rules : Rules) (room : ℕ) (j : JournalValue D) (k : KnownValue) (m : Memory) (c : Checks) : Type 0 where
-    pub cut : IsCut rules k.me (records_of j.bodies) c
-    pub comes : outcome rules (told_of rules k.me (records_of j.bodies)) k m Checkpoint ≡ recorded m (Checked (Ok (next_said c))) (next_record k.me c)
-    pub next : IsNext rules k.me (records_of j.bodies) (next_record k.me c)
-    pub may : IsAllowed rules k.me room (records_of j.bodies) (next_record k.me c)
+    pub cut : IsCut rules k.me (records_of rules.width j.bodies) c
+    pub comes : outcome rules (told_of rules k.me (records_of rules.width j.bodies)) k m Checkpoint
+        ≡ recorded m (Checked (Ok (next_said c))) (next_record k.me c)
+    pub next : IsNext rules k.me (records_of rules.width j.bodies) (next_record k.me c)
+    pub may : IsAllowed rules k.me room (records_of rules.width j.bodies) (next_record k.me c)
 
   pub ready : (rules : Rules) (room : ℕ) (j : JournalValue D) (k : KnownValue) (m : Memory) (v : RollValue) (ran : ℕ) (old c : Checks)
       (q : ℕ) (leaving : Bool) → IsPeer rules room j k m
-      → IsRolled rules (records_of j.bodies) k (value_of old) v ran → IsPlanned rules k.me (records_of j.bodies) old → q ≡ k.me
+      → IsRolled rules (records_of rules.width j.bodies) k (value_of old) v ran → IsPlanned rules k.me (records_of rules.width j.bodies) old → q
+      ≡ k.me
       → leaving ≡ (player_in k q).leaving → leaving ≡ false
       → value_of c ≡ value_of old → (old.count ≢ 0 → c ≡ old) → (old.count ≡ 0 → frames_of (value_of old).last < confirmed k)
       → (old.count ≡ 0 → (c.count ≡ 0) × (c.frames ≡ v.confirmed)
       × (plan_of c ≡ save_bytes (record { frames = v.confirmed; machine = v.base; marks = v.marks })))
       → IsReady rules room j k m c
   ready rules room j k m v ran old c q leaving is rolled planned own judged stays same kept above begun =
-      let journal : List Record = records_of j.bodies in
+      let journal : List Record = records_of rules.width j.bodies in
       let here : IsCut rules k.me journal c = is_cut rules k.me room journal k v old c is.range is.from_one is.in_game is.bodies.journal
       is.memory.saving is.known rolled.roll rolled.checks_are planned same kept above begun in
       let stays_here : (player_in k k.me).leaving ≡ false = ap (λ (player : ℕ). (player_in k player).leaving) (sym own) ∙ sym judged ∙ stays in
@@ -334,7 +337,7 @@ module _ {D : Type 0} where
 
   pub kept_of : {ran : ℕ} (g : Ghosts D) (v : PeerValue D) (rules : Rules) (room me : ℕ) (j : JournalValue D) (new : D) (m : Memory)
       (r : Record) (body : List ℕ) (answer : Answer) → view rules room me j m ran ≡ v
-      → AreJournalBodies rules me room j.bodies → body ≡ body_of r → LeavesOnly g j.disk new (KeepsBodies j.bodies (Some body))
+      → AreJournalBodies rules me room j.bodies → body ≡ body_of rules.width r → LeavesOnly g j.disk new (KeepsBodies j.bodies (Some body))
       → g.changes new ≤ g.changes j.disk + 4 → IsSameDisk g j.disk new
       → Asks g (AppendWithin (g.capacity j.disk) (length j.bodies) body) answer j.disk new → Kept g v r answer new
   kept_of {ran} g v rules room me j new m r body answer seen bodies spelled any_moment changes same asks = record {
@@ -347,10 +350,10 @@ module _ {D : Type 0} where
   -- a checkpoint runs no frame
   pub runs_of : {ran : ℕ} (v : PeerValue D) (rules : Rules) (room : ℕ) (j : JournalValue D) (k : KnownValue) (m : Memory) (r : Record)
       (now : ℕ) → view rules room k.me j m ran ≡ v → IsPeer rules room j k m
-      → IsAllowed rules k.me room (records_of j.bodies) r → with_record k r ≡ k → RunsFromOldest k k now
+      → IsAllowed rules k.me room (records_of rules.width j.bodies) r → with_record k r ≡ k → RunsFromOldest k k now
       → RunsFrames 0 (known_by v) (known_of v.rules v.me (v.state.journal ++ r ∷ [])) now
   runs_of {ran} v rules room j k m r now seen is may quiet runs =
-      let journal : List Record = records_of j.bodies in
+      let journal : List Record = records_of rules.width j.bodies in
       let later : known_of rules k.me (journal ++ r ∷ []) ≡ k =
       known_more rules k.me room journal r may ∙ ap (λ (x : KnownValue). with_record x r) (sym is.known) ∙ quiet in
       let from : RunsFromOldest (known_of rules k.me journal) (known_of rules k.me (journal ++ r ∷ [])) now =

@@ -1,12 +1,12 @@
 -- A checkpoint that a peer records: the rules allow each of its records, each is true, and the next one may follow it.
-use Rattle.std.proofs.Common.{◌≡◌, ◌≢◌, ◌⊎◌, inl, inr, ℕ, ◌+◌, ◌-◌, ◌*◌, ◌/◌, ◌%◌, ◌^◌, ◌<◌, ◌≤◌, List, [], ◌∷◌, ◌++◌, take, true, false}
+use Rattle.std.proofs.Common.{◌≡◌, ◌≢◌, ◌⊎◌, inl, inr, ℕ, ◌+◌, ◌-◌, ◌*◌, ◌/◌, ◌%◌, ◌^◌, ◌<◌, ◌≤◌, List, [], ◌∷◌, ◌++◌, drop, take, true, false}
 use Rattle.std.proofs.Common.{Option, Some, None, refl, sym, ap, subst, ◌∙◌, arith}
-use Rattle.std.specs.Prelude.{◌==◌, nat_le}
-use Rattle.std.proofs.lemmas.Bool.{and_from, cases_eq, eqb-true, eqb-false, leb-false, eq-eqb, ne_eqb, lt-ltb}
+use Rattle.std.specs.Prelude.{◌==◌, nat_le, Bool, if◌then◌else◌}
+use Rattle.std.proofs.lemmas.Bool.{and_from, cases_eq, cases_lt, eqb-true, eqb-false, leb-false, eq-eqb, ne_eqb, lt-ltb}
+use Rattle.std.proofs.lemmas.List.{get_or-drop, get_or-take, get_or_past, length-take}
 use Rattle.c8_game.specs.Rules.{Rules, AreInRange}
 use Rattle.c8_game.specs.declared.row.Row.{Row}
 use Rattle.c8_wire.specs.Packet.{AreBytes}
-use Rattle.c8_wire.specs.checked.NumberLaws.{AreBytes-take, AreBytes-drop}
 use Rattle.c8_digest.specs.declared.marks.FrameMark.{FrameMark}
 use Rattle.c8_digest.specs.StateBytes.{mark_of}
 use Rattle.c8_digest.specs.Marks.{kept}
@@ -18,7 +18,7 @@ use Rattle.c8_known.specs.Confirmed.{confirmed}
 use Rattle.c8_known.specs.Growth.{IsStillKnown}
 use Rattle.c8_known.specs.checked.ConfirmedLaws.{confirmed_is}
 use Rattle.c8_record.specs.Checks.{Pieces, ChecksValue, before_piece, piece_length, piece_in, save_bytes, digest_of, with_check, checks_of}
-use Rattle.c8_record.specs.Checks.{bytes_so_far, frames_of, is_next_after, has_shape, may_take, origin_in, MayCheck, or_first, begun_at}
+use Rattle.c8_record.specs.Checks.{has_checks, bytes_so_far, frames_of, is_next_after, has_shape, may_take, origin_in, MayCheck, or_first, begun_at}
 use Rattle.c8_record.specs.declared.checks.Checks.{Checks}
 use Rattle.c8_record.specs.Seen.{pieces_of, value_of}
 use Rattle.c8_record.specs.checked.OpenedLaws.{opened_more}
@@ -27,7 +27,8 @@ use Rattle.c8_record.specs.checked.PieceLaws.{pieces_more, whole_origin, whole_m
 use Rattle.c8_roll.specs.Roll.{mark_since, marks_since, origin_at, IsOnTheWay}
 use Rattle.c8_roll.specs.checked.RollLaws.{map_same_between, origin_goes_on, confirmed_is_serial, marks_on_the_way}
 use Rattle.c8_record.specs.Body.{HasSpelling}
-use Rattle.c8_record.specs.Allowed.{past_of, MayFollow, IsAllowed, IsJournal}
+use Rattle.c8_wire.specs.Format.{has_lives}
+use Rattle.c8_record.specs.Allowed.{past_of, form_of, MayFollow, IsAllowed, IsJournal}
 use Rattle.c8_record.specs.checked.JournalLaws.{journal_known, journal_more, journal_grows, known_more, checks_more}
 use Rattle.c8_record.specs.checked.CheckLaws.{checks_in_order, begun_confirmed, begun_in_order}
 use Rattle.c8_peer.specs.Told.{Told, told_of}
@@ -35,7 +36,7 @@ use Rattle.c8_peer.specs.TrueChecks.{serial_at, AreTruePieces, HasTrueChecks}
 use Rattle.c8_peer.specs.Lawful.{IsSaving}
 use Rattle.c8_peer.specs.State.{Memory}
 use Rattle.c8_peer.specs.Calls.{next_piece, checkpoint}
-use Rattle.c8_peer.specs.checked.Held.{IsPlanned, is_play}
+use Rattle.c8_peer.specs.checked.Held.{IsPlanned, is_play, HasNoLife}
 use Rattle.c8_peer.specs.checked.TruthLaws.{rows_same}
 use Rattle.c8_peer.specs.checked.TrueCheckLaws.{play_checks, play_begins}
 use Rattle.c8_peer.proofs.Tests.{failed, either_way, this_record}
@@ -216,20 +217,35 @@ pub saved_origin : (rules : Rules) (me room : ℕ) (journal : List Record) (n : 
 saved_origin rules me room journal n range from to is starts =
     origin_goes_on rules (begun_at rules journal) (known_of rules me journal) n range (begun_in_order rules me room journal range from to is) starts
 
+low_drop : (n : ℕ) (bytes : List ℕ) → AreBytes bytes → AreBytes (drop n bytes)
+low_drop n bytes low i = rw get_or-drop (low (n + i))
+
+low_take : (n : ℕ) (bytes : List ℕ) → AreBytes bytes → AreBytes (take n bytes)
+low_take n bytes low i =
+    elim (cases_lt i n) [
+      | inl within ↦ rw (get_or-take n bytes i 0 within) (low i)
+      | inr past ↦ rw (get_or_past (take n bytes) i 0 (omega (arith, past, length-take n bytes))) (omega arith)
+    ]
+
 piece_low : (from : Origin) (piece : ℕ) → IsOrigin from → AreBytes (piece_in piece (save_bytes from))
-piece_low from piece is = AreBytes-take _ _ (AreBytes-drop (before_piece piece) (save_bytes from) (saved_low from is))
+piece_low from piece is = low_take _ _ (low_drop (before_piece piece) (save_bytes from) (saved_low from is))
 
 digest_low : (bytes : List ℕ) → AreBytes (digest_of bytes)
-digest_low bytes = AreBytes-take 8 _ (digest_bytes_fit _)
+digest_low bytes = low_take 8 _ (digest_bytes_fit _)
 
 frames_fit : (k : KnownValue) (frames : ℕ) → IsKnown k → frames ≤ confirmed k → frames < 2 ^ 32
 frames_fit k frames known low =
     let ticked = (confirmed_is k).ticked in
     omega (arith, low, ticked, known.own, known.within k.me, known.limit)
 
+-- each form that is written has checkpoints
+some_form : (late : Bool) (width : ℕ) → 0 < (if late then 2 + width else 2)
+some_form true width = omega arith
+some_form false width = omega arith
+
 piece_may : (rules : Rules) (me room : ℕ) (journal : List Record) (r : Record) → AreInRange rules → 1 ≤ me → me ≤ rules.players
     → IsJournal rules me room journal → IsSaving rules me journal → IsPiece rules me journal r
-    → HasSpelling r × MayFollow rules room (past_of rules me journal) r
+    → HasSpelling rules.width r × MayFollow rules room (past_of rules me journal) r
 piece_may rules me room journal r range from to is saving next =
     let k : KnownValue = known_of rules me journal in
     let at : Origin = origin_at rules (begun_at rules journal) k next.frames in
@@ -240,23 +256,26 @@ piece_may rules me room journal r range from to is saving next =
     let same : piece_in next.piece ((told_of rules me journal).saved next.frames) ≡ piece = ap (piece_in next.piece) saved in
     let new : Record = State k.me next.frames next.piece piece in
     let is_new : r ≡ new = next.is ∙ ap (λ (bytes : List ℕ). State k.me next.frames next.piece bytes) same in
-    let spelled : HasSpelling new = record {
+    let spelled : HasSpelling rules.width new = record {
+      some_bytes = range.some_width;
       from_one = known.me.from_one;
       to_four = omega (arith, known.at_most_four, known.me.in_game);
       number = frames_fit k next.frames known next.low;
       start = let within = next.within in omega (arith, within);
+      few = omega (arith, saved_few at next.piece origin next.within);
       short = saved_few at next.piece origin next.within;
       parts = (saved_even at next.piece origin next.within, piece_low at next.piece origin);
     } in
     let shape : has_shape next.frames next.piece piece ≡ true = piece_fits at next.piece origin next.within in
     let may : may_take (checks_of journal) (confirmed k) next.frames next.piece piece ≡ true =
-    and_from _ _ (and_from _ _ (eq-eqb (checks_of journal).form 2 saving.form) next.next) shape in
-    subst (λ (one : Record). HasSpelling one × MayFollow rules room (past_of rules me journal) one) (sym is_new)
+    and_from _ _ (and_from _ _ (ap has_checks saving.form ∙ lt-ltb 0 (form_of rules) (some_form (has_lives rules.wire) rules.width)) next.next)
+    shape in
+    subst (λ (one : Record). HasSpelling rules.width one × MayFollow rules room (past_of rules me journal) one) (sym is_new)
     (spelled, record { own = refl; low = piece_low at next.piece origin; next = may })
 
 end_may : (rules : Rules) (me room : ℕ) (journal : List Record) (r : Record) → AreInRange rules → 1 ≤ me → me ≤ rules.players
     → IsJournal rules me room journal → IsEnd rules me journal r
-    → HasSpelling r × MayFollow rules room (past_of rules me journal) r
+    → HasSpelling rules.width r × MayFollow rules room (past_of rules me journal) r
 end_may rules me room journal r range from to is next =
     let k : KnownValue = known_of rules me journal in
     let p : Pieces = next.p in
@@ -267,20 +286,22 @@ end_may rules me room journal r range from to is next =
     next.bytes ∙ ap (take (before_piece p.count)) (saved_is rules me journal p.frames) in
     let new : Record = Check k.me p.frames (digest_of p.bytes) in
     let whole = whole_may_check (checks_of journal) at p origin next.under_way refl next.all bytes in
-    let spelled : HasSpelling new = record {
+    let spelled : HasSpelling rules.width new = record {
+      some_bytes = range.some_width;
       from_one = known.me.from_one;
       to_four = omega (arith, known.at_most_four, known.me.in_game);
       number = frames_fit k p.frames known next.low;
       start = omega arith;
+      few = omega (arith, digest_long p.bytes);
       short = omega (arith, digest_long p.bytes);
       parts = (digest_long p.bytes, digest_low p.bytes);
     } in
-    subst (λ (one : Record). HasSpelling one × MayFollow rules room (past_of rules me journal) one) (sym next.is)
+    subst (λ (one : Record). HasSpelling rules.width one × MayFollow rules room (past_of rules me journal) one) (sym next.is)
     (spelled, record { own = refl; whole = whole })
 
 pub next_may : (rules : Rules) (me room : ℕ) (journal : List Record) (r : Record) → AreInRange rules → 1 ≤ me → me ≤ rules.players
     → IsJournal rules me room journal → IsSaving rules me journal → IsNext rules me journal r
-    → HasSpelling r × MayFollow rules room (past_of rules me journal) r
+    → HasSpelling rules.width r × MayFollow rules room (past_of rules me journal) r
 next_may rules me room journal r range from to is saving (inl next) = piece_may rules me room journal r range from to is saving next
 next_may rules me room journal r range from to is saving (inr next) = end_may rules me room journal r range from to is next
 
@@ -288,6 +309,10 @@ pub next_player : (rules : Rules) (me : ℕ) (journal : List Record) (r : Record
     → player_of r ≡ (known_of rules me journal).me
 next_player rules me journal r (inl next) = ap player_of next.is
 next_player rules me journal r (inr next) = ap player_of next.is
+
+pub next_no_life : (rules : Rules) (me : ℕ) (journal : List Record) (r : Record) → IsNext rules me journal r → HasNoLife r
+next_no_life rules me journal r (inl next) = subst HasNoLife (sym next.is) (record { life = refl; met = λ q. refl })
+next_no_life rules me journal r (inr next) = subst HasNoLife (sym next.is) (record { life = refl; met = λ q. refl })
 
 -- ---- what the journal with it says
 

@@ -4,8 +4,11 @@ pub mod CheckpointCall
 pub mod CheckpointLemmas
 pub mod AllowedLemmas
 pub mod OpeningLemmas
+pub mod MeetingLemmas
 pub mod MemoryLemmas
 pub mod SayingLemmas
+pub mod SaidLemmas
+mod NewsLemmas
 pub mod SpellingLemmas
 pub mod JudgingLemmas
 pub mod WritingLemmas

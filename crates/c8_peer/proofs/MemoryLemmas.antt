@@ -1,46 +1,35 @@
 -- Each call keeps a peer's memory in order.
-use Rattle.std.proofs.Common.{◌≡◌, ℕ, zero, suc, ◌+◌, ◌^◌, ◌<◌, ◌≤◌, List, [], ◌∷◌, ◌++◌, length, Bool, true, false, Option, Some, None, Ok}
-use Rattle.std.proofs.Common.{Err, refl, ap, arith}
-use Rattle.std.specs.Prelude.{◌==◌, ◌||◌, not, nat_lt, nat_le, is_some, if◌then◌else◌, Result}
-use Rattle.std.proofs.lemmas.Bool.{ltb-false, ne_eqb}
-use Rattle.c8_game.specs.Rules.{Rules, AreInRange}
+use Rattle.std.proofs.Common.{◌≡◌, ℕ, zero, suc, ◌^◌, ◌<◌, ◌≤◌, List, [], ◌∷◌, ◌++◌, length, Bool, true, false, Option, Some, None, Ok, Err}
+use Rattle.std.proofs.Common.{refl, ap, subst, arith}
+use Rattle.std.specs.Prelude.{◌==◌, nat_lt, if◌then◌else◌}
+use Rattle.std.proofs.lemmas.Bool.{ne_eqb}
+use Rattle.c8_game.specs.Rules.{Rules, AreInRange, session_of}
 use Rattle.c8_wire.specs.declared.kinds.DatagramKind.{DatagramKind}
 use Rattle.c8_wire.specs.declared.kinds.DatagramKind.TheVariants as kinds
-use Rattle.c8_wire.specs.declared.error.WireError.{WireError}
-use Rattle.c8_wire.specs.Packet.{HeadValue, DataMessage, FreezeMessage, LeaverMessage, Message, Packet}
-use Rattle.c8_wire.specs.Packet as packets
-use Rattle.c8_hand.specs.declared.error.HandError.{HandError}
-use Rattle.c8_hand.specs.Links.{LinkValue, LinksValue, no_link, link_to, with_link, link_after, heard}
+use Rattle.c8_wire.specs.Packet.{HeadValue, Packet, IsPacket, Fits}
+use Rattle.c8_hand.specs.Lives.{LivesValue}
+use Rattle.c8_hand.specs.Links.{LinkValue, LinksValue, MetValue, no_link, link_to, with_link, is_call, link_after, link_heard, heard, meeting, shunned}
+use Rattle.c8_hand.specs.Links.{after_word}
 use Rattle.c8_hand.specs.Links as links
-use Rattle.c8_known.specs.declared.error.KnownError.{KnownError}
-use Rattle.c8_known.specs.Journal.{Record, count}
-use Rattle.c8_known.specs.Known.{PlayerValue, KnownValue, player_in, count_in, is_player, known_of}
+use Rattle.c8_hand.specs.checked.LinkLaws.{player_admitted}
+use Rattle.c8_known.specs.Journal.{Record, count, had_epoch}
+use Rattle.c8_known.specs.Known.{PlayerValue, KnownValue, count_in, known_of}
 use Rattle.c8_known.specs.checked.OneMore.{player_known}
 use Rattle.c8_known.specs.checked.JournalLaws.{epoch_stays}
-use Rattle.c8_known.specs.Fresh.{is_from_leaver, misfit, fresh_words}
 use Rattle.c8_known.specs.Confirmed.{confirmed}
 use Rattle.c8_window.specs.Window.{WindowValue, acked_of, acked_more, with_acked}
-use Rattle.c8_round.specs.Round.{ChairValue, StayerValue, with_report, with_have, is_ready}
-use Rattle.c8_record.specs.Checks.{Pieces, frames_of}
+use Rattle.c8_round.specs.Round.{ChairValue, StayerValue}
 use Rattle.c8_record.specs.Allowed.{IsJournal}
-use Rattle.c8_peer.specs.Told.{Told, told_of}
-use Rattle.c8_refusals.specs.declared.error.TickError.{TickError}
-use Rattle.c8_refusals.specs.declared.error.Refused.{Refused}
-use Rattle.c8_refusals.specs.declared.error.Unsayable.{Unsayable}
-use Rattle.c8_refusals.specs.declared.error.LeaveError.{LeaveError}
-use Rattle.c8_refusals.specs.declared.error.DecideError.{DecideError}
-use Rattle.c8_refusals.specs.declared.error.CheckError.{CheckError}
-use Rattle.c8_peer.specs.declared.check.Check.{Check}
-use Rattle.c8_peer.specs.declared.heard.Heard.{Heard}
-use Rattle.c8_peer.specs.State.{Memory, SeenValue, seen_by, with_seen, Call, Tick, Deliver, Say, Show, Leave, Decide, Checkpoint, Saying}
-use Rattle.c8_peer.specs.State.{Ticked, Delivered, Said, Left, Decided, Checked, Outcome}
-use Rattle.c8_peer.specs.Calls.{tick, leave, decide, next_piece, checkpoint}
-use Rattle.c8_peer.specs.Hearing.{is_desync, hear_data, hear_welcome, hear_freeze, hear_frozen, hear_cut, hear_end, got, unless_misfit}
-use Rattle.c8_peer.specs.Hearing.{is_of_other_wire, unless_hand, hear_message, hear_seen, hear_from, seen_in, deliver}
-use Rattle.c8_peer.specs.Saying.{is_not_mine, lacks_record, lacks_link, say, show}
+use Rattle.c8_news.specs.News.{AllNewsValue}
+use Rattle.c8_peer.specs.Told.{told_of}
+use Rattle.c8_peer.specs.State.{Memory, SeenValue, seen_by, with_seen, Call, Tick, Deliver, Say, Show, Leave, Decide, Checkpoint, Outcome}
+use Rattle.c8_peer.specs.Hearing.{met}
 use Rattle.c8_peer.specs.Steps.{outcome}
-use Rattle.c8_peer.specs.Lawful.{IsSaving, IsMemory, IsCall}
+use Rattle.c8_peer.specs.Lawful.{KnowsLives, IsSaving, IsMemory, IsCall}
+use Rattle.c8_peer.specs.checked.Held.{HasNoLife}
 use Rattle.c8_peer.specs.checked.TruthLaws.{count_rises, confirmed_counts}
+use Rattle.c8_peer.specs.checked.LivesLemmas.{grown, AddsNoLife, lives_stay, lives_grown, met_record, heard_knows, shunned_knows, word_knows}
+use Rattle.c8_peer.specs.checked.OutcomeLemmas.{Delivers, Changes, tick_is, leave_is, decide_is, checkpoint_is, deliver_is, no_packet_is, say_is, show_is}
 
 -- ---- links and acknowledgements
 
@@ -79,12 +68,19 @@ low_after kinds.Frozen link theirs bound was is = was
 low_after kinds.Cut link theirs bound was is = was
 low_after kinds.Show link theirs bound was is = was
 low_after kinds.Seen link theirs bound was is = was
+low_after kinds.Pass link theirs bound was is = was
+low_after kinds.Refused link theirs bound was is = was
+
+low_link : (call : Bool) (was is : LinkValue) (bound : ℕ) → was.known < bound → is.known < bound → (if call then was else is).known < bound
+low_link true was is bound old new = old
+low_link false was is bound old new = new
 
 low_heard : (l : LinksValue) (head : HeadValue) (other bound : ℕ) → ((q : ℕ) → (link_to l q).known < bound) → head.sender_epoch < bound
     → (link_to (heard l head) other).known < bound
 low_heard l head other bound low is =
-    low_with l head.from other bound (link_after head.kind (link_to l head.from) head.sender_epoch) low
-    (low_after head.kind (link_to l head.from) head.sender_epoch bound (low head.from) is)
+    low_with l head.from other bound (link_heard l head) low
+    (low_link (is_call l head) (link_to l head.from) (link_after head.kind (link_to l head.from) head.sender_epoch) bound (low head.from)
+    (low_after head.kind (link_to l head.from) head.sender_epoch bound (low head.from) is))
 
 few_of : (test : Bool) (new old bound : ℕ) → new ≤ bound → old ≤ bound → (if test then new else old) ≤ bound
 few_of true new old bound is was = is
@@ -117,13 +113,26 @@ few_more w player other n bound few is =
 
 -- ---- the memory
 
--- drop rounds and the alarm do not matter
-with_rest : (rules : Rules) (room me : ℕ) (journal : List Record) (m : Memory) (chair : ChairValue) (stayer : StayerValue) (alarm : Bool)
-    → IsMemory rules room me journal m → IsMemory rules room me journal (record m { chair = chair; stayer = stayer; alarm = alarm })
-with_rest rules room me journal m chair stayer alarm is = record {
+-- the memory is in order but for what is known of lives
+record IsApart (rules : Rules) (room me : ℕ) (journal : List Record) (m : Memory) : Type 0 where
+  player : m.links.me ≡ me
+  players : m.links.players ≡ rules.players
+  version : m.links.version ≡ rules.wire
+  width : m.links.width ≡ rules.width
+  session : m.links.session ≡ session_of rules room
+  epoch : had_epoch m.links.epoch journal ≡ true
+  epoch_fits : m.links.epoch < 2 ^ 32
+  known_fits : (q : ℕ) → (link_to m.links q).known < 2 ^ 32
+  acked : (q : ℕ) → acked_of m.acks q ≤ count rules me journal
+  shown : (watcher : ℕ) → seen_by m.seen watcher ≤ confirmed (known_of rules me journal)
+  saving : IsSaving rules me journal
+
+apart_of : (rules : Rules) (room me : ℕ) (journal : List Record) (m : Memory) → IsMemory rules room me journal m → IsApart rules room me journal m
+apart_of rules room me journal m is = record {
   player = is.player;
   players = is.players;
   version = is.version;
+  width = is.width;
   session = is.session;
   epoch = is.epoch;
   epoch_fits = is.epoch_fits;
@@ -133,13 +142,50 @@ with_rest rules room me journal m chair stayer alarm is = record {
   saving = is.saving;
 }
 
-with_acks : (rules : Rules) (room me : ℕ) (journal : List Record) (m : Memory) (q n : ℕ) → IsMemory rules room me journal m
-    → n ≤ count rules me journal
-    → IsMemory rules room me journal (record m { acks = acked_more m.acks q n })
-with_acks rules room me journal m q n is few = record {
+with_lives : (rules : Rules) (room me : ℕ) (journal : List Record) (m : Memory) → IsApart rules room me journal m
+    → KnowsLives journal m.links.lives → IsMemory rules room me journal m
+with_lives rules room me journal m is lives = record {
   player = is.player;
   players = is.players;
   version = is.version;
+  width = is.width;
+  session = is.session;
+  epoch = is.epoch;
+  epoch_fits = is.epoch_fits;
+  known_fits = is.known_fits;
+  acked = is.acked;
+  lives = lives;
+  shown = is.shown;
+  saving = is.saving;
+}
+
+-- other parts of the memory do not matter, nor what is known of lives
+with_rest : (rules : Rules) (room me : ℕ) (journal : List Record) (m : Memory) (chair : ChairValue) (stayer : StayerValue) (alarm : Bool)
+    (news : AllNewsValue) (lives : LivesValue) → IsApart rules room me journal m
+    → IsApart rules room me journal
+    (record m { links = record m.links { lives = lives }; chair = chair; stayer = stayer; alarm = alarm; news = news })
+with_rest rules room me journal m chair stayer alarm news lives is = record {
+  player = is.player;
+  players = is.players;
+  version = is.version;
+  width = is.width;
+  session = is.session;
+  epoch = is.epoch;
+  epoch_fits = is.epoch_fits;
+  known_fits = is.known_fits;
+  acked = is.acked;
+  shown = is.shown;
+  saving = is.saving;
+}
+
+with_acks : (rules : Rules) (room me : ℕ) (journal : List Record) (m : Memory) (q n : ℕ) (news : AllNewsValue) → IsApart rules room me journal m
+    → n ≤ count rules me journal
+    → IsApart rules room me journal (record m { acks = acked_more m.acks q n; news = news })
+with_acks rules room me journal m q n news is few = record {
+  player = is.player;
+  players = is.players;
+  version = is.version;
+  width = is.width;
   session = is.session;
   epoch = is.epoch;
   epoch_fits = is.epoch_fits;
@@ -149,13 +195,14 @@ with_acks rules room me journal m q n is few = record {
   saving = is.saving;
 }
 
-with_heard : (rules : Rules) (room me : ℕ) (journal : List Record) (m : Memory) (head : HeadValue) → IsMemory rules room me journal m
+with_heard : (rules : Rules) (room me : ℕ) (journal : List Record) (m : Memory) (head : HeadValue) → IsApart rules room me journal m
     → head.sender_epoch < 2 ^ 32
-    → IsMemory rules room me journal (record m { links = heard m.links head })
+    → IsApart rules room me journal (record m { links = heard m.links head })
 with_heard rules room me journal m head is low = record {
   player = is.player;
   players = is.players;
   version = is.version;
+  width = is.width;
   session = is.session;
   epoch = is.epoch;
   epoch_fits = is.epoch_fits;
@@ -170,13 +217,14 @@ few_seen s watcher other n bound few is =
     few_of (other == 5) _ _ bound (few_of (watcher == 5) n s.five bound is (few 5))
     (few_of (other == 6) _ _ bound (few_of (watcher == 6) n s.six bound is (few 6)) (omega arith))
 
-with_shown : (rules : Rules) (room me : ℕ) (journal : List Record) (m : Memory) (watcher n : ℕ) → IsMemory rules room me journal m
+with_shown : (rules : Rules) (room me : ℕ) (journal : List Record) (m : Memory) (watcher n : ℕ) → IsApart rules room me journal m
     → n ≤ confirmed (known_of rules me journal)
-    → IsMemory rules room me journal (record m { seen = with_seen m.seen watcher n })
+    → IsApart rules room me journal (record m { seen = with_seen m.seen watcher n })
 with_shown rules room me journal m watcher n is few = record {
   player = is.player;
   players = is.players;
   version = is.version;
+  width = is.width;
   session = is.session;
   epoch = is.epoch;
   epoch_fits = is.epoch_fits;
@@ -186,195 +234,51 @@ with_shown rules room me journal m watcher n is few = record {
   saving = is.saving;
 }
 
--- ---- the outcomes of calls
-
-pub either : (M : Outcome → Type 0) (test : Bool) (x y : Outcome) → M x → M y → M (if test then x else y)
-either M true x y is other = is
-either M false x y is other = other
-
-pub unless : (M : Outcome → Type 0) (test : Bool) (x y : Outcome) → M x → (test ≡ false → M y) → M (if test then x else y)
-unless M true x y is other = is
-unless M false x y is other = other refl
-
--- M holds with this memory after the call, whatever the call answers and records. Each call below leaves one of a few
--- memories.
-abbrev Ticks : (Outcome → Type 0) → Memory → Type 0
-Ticks M m = (answer : Result (Unit {0}) TickError) (keeps : Option Record) → M (record { reply = Ticked answer; keeps = keeps; memory = m })
-
-abbrev Leaves : (Outcome → Type 0) → Memory → Type 0
-Leaves M m = (answer : Result (Unit {0}) LeaveError) (keeps : Option Record) → M (record { reply = Left answer; keeps = keeps; memory = m })
-
-abbrev Decides : (Outcome → Type 0) → Memory → Type 0
-Decides M m = (answer : Result ℕ DecideError) (keeps : Option Record) → M (record { reply = Decided answer; keeps = keeps; memory = m })
-
-abbrev Checks : (Outcome → Type 0) → Memory → Type 0
-Checks M m = (answer : Result Check CheckError) (keeps : Option Record) → M (record { reply = Checked answer; keeps = keeps; memory = m })
-
-abbrev Delivers : (Outcome → Type 0) → Memory → Type 0
-Delivers M m = (answer : Result Heard Refused) (keeps : Option Record) → M (record { reply = Delivered answer; keeps = keeps; memory = m })
-
-pub tick_is : (M : Outcome → Type 0) (rules : Rules) (k : KnownValue) (m : Memory) (keys : ℕ) → Ticks M m → M (tick rules k m keys)
-unfolding tick
-tick_is M rules k m keys is =
-    either M (player_in k k.me).leaving _ _ (is _ _) (either M (nat_le rules.frames k.ticks) _ _ (is _ _)
-    (either M (nat_le (confirmed k + rules.window) k.ticks) _ _ (is _ _) (is _ _)))
-
-pub leave_is : (M : Outcome → Type 0) (k : KnownValue) (m : Memory) (leaver : ℕ) → Leaves M m → M (leave k m leaver)
-unfolding leave
-leave_is M k m leaver is =
-    either M (not (k.me == 1)) _ _ (is _ _) (either M (leaver == k.me) _ _ (is _ _)
-    (either M (not (is_player k leaver)) _ _ (is _ _) (either M (player_in k leaver).leaving _ _ (is _ _) (is _ _))))
-
-pub decide_is : (M : Outcome → Type 0) (k : KnownValue) (m : Memory) (leaver : ℕ) → Decides M m → M (decide k m leaver)
-unfolding decide
-decide_is M k m leaver is =
-    either M (not (k.me == 1) || not (player_in k leaver).leaving) _ _ (is _ _)
-    (either M (is_some (player_in k leaver).cut) _ _ (is _ _) (either M (not (is_ready m.chair k leaver)) _ _ (is _ _) (is _ _)))
-
-piece_is : (M : Outcome → Type 0) (t : Told) (k : KnownValue) (m : Memory) (o : Option Pieces) → Checks M m → M (next_piece t k m o)
-piece_is M t k m None is = either M (nat_le (confirmed k) (frames_of t.checks.last)) _ _ (is _ _) (is _ _)
-piece_is M t k m (Some p) is = either M (p.count == 36) _ _ (is _ _) (is _ _)
-
-pub checkpoint_is : (M : Outcome → Type 0) (t : Told) (k : KnownValue) (m : Memory) → Checks M m → M (checkpoint t k m)
-unfolding checkpoint
-checkpoint_is M t k m is = either M (player_in k k.me).leaving _ _ (is _ _) (piece_is M t k m t.checks.under_way is)
-
-misfit_is : (M : Outcome → Type 0) (m : Memory) (error : Option KnownError) (o : Outcome) → Delivers M m → M o → M (unless_misfit m error o)
-misfit_is M m None o was is = is
-misfit_is M m (Some error) o was is = was _ _
-
-got_is : (M : Outcome → Type 0) (k : KnownValue) (m : Memory) (q : ℕ) (words : List ℕ) → Delivers M m → M (got k m q words)
-got_is M k m q [] is = is _ _
-got_is M k m q (word ∷ words) is = is _ _
-
-data_is : (M : Outcome → Type 0) (t : Told) (k : KnownValue) (m : Memory) (q : ℕ) (d : DataMessage) → Delivers M m
-    → Delivers M (record m { alarm = true })
-    → (d.ack ≤ count_in k k.me → Delivers M (record m { acks = acked_more m.acks q d.ack })) → M (hear_data t k m q d)
-unfolding hear_data
-data_is M t k m q d is alarmed acked =
-    either M (is_from_leaver k q q) _ _ (is _ _) (unless M (nat_lt (count_in k k.me) d.ack) _ _ (is _ _) (λ few.
-    misfit_is M m (misfit k q d.start d.words) _ is
-    (either M (is_desync t d) _ _ (alarmed _ _)
-    (got_is M k (record m { acks = acked_more m.acks q d.ack }) q (fresh_words k q d.start d.words)
-    (acked (ltb-false (count_in k k.me) d.ack few))))))
-
-welcome_is : (M : Outcome → Type 0) (k : KnownValue) (m : Memory) (head : HeadValue) (ack : ℕ) → Delivers M m
-    → (ack ≤ count_in k k.me → Delivers M (record m { links = heard m.links head; acks = acked_more m.acks head.from ack }))
-    → M (hear_welcome k m head ack)
-unfolding hear_welcome
-welcome_is M k m head ack is acked = unless M (nat_lt (count_in k k.me) ack) _ _ (is _ _) (λ few. acked (ltb-false (count_in k k.me) ack few) _ _)
-
-freeze_is : (M : Outcome → Type 0) (k : KnownValue) (m : Memory) (q : ℕ) (f : FreezeMessage) → Delivers M m
-    → Delivers M (record m { stayer = with_have m.stayer f.leaver f.have }) → M (hear_freeze k m q f)
-unfolding hear_freeze
-freeze_is M k m q f is told =
-    either M (not (q == 1)) _ _ (is _ _) (either M (f.leaver == k.me || not (is_player k f.leaver)) _ _ (is _ _)
-    (either M (player_in k f.leaver).frozen _ _ (told _ _) (told _ _)))
-
-frozen_is : (M : Outcome → Type 0) (k : KnownValue) (m : Memory) (q : ℕ) (f : LeaverMessage) → Delivers M m
-    → Delivers M (record m { chair = with_report m.chair f.leaver q f.length }) → M (hear_frozen k m q f)
-unfolding hear_frozen
-frozen_is M k m q f is told =
-    either M (not (k.me == 1)) _ _ (is _ _) (either M (f.leaver == q || not (is_player k f.leaver)) _ _ (is _ _)
-    (either M (not (player_in k f.leaver).leaving) _ _ (is _ _)
-    (either M (is_some (player_in k f.leaver).cut) _ _ (told _ _) (either M (nat_lt k.limit f.length) _ _ (is _ _)
-    (misfit_is M m (misfit k f.leaver f.start f.words) _ is
-    (got_is M k (record m { chair = with_report m.chair f.leaver q f.length }) f.leaver (fresh_words k f.leaver f.start f.words) told))))))
-
-end_is : (M : Outcome → Type 0) (k : KnownValue) (m : Memory) (c : LeaverMessage) (cut : Option ℕ) → Delivers M m → M (hear_end k m c cut)
-end_is M k m c (Some K) is = either M (K == c.length) _ _ (is _ _) (is _ _)
-end_is M k m c None is =
-    let words : List ℕ = fresh_words k c.leaver c.start c.words in
-    either M (nat_lt c.length (count_in k c.leaver)) _ _ (is _ _)
-    (misfit_is M m (misfit k c.leaver c.start c.words) _ is
-    (either M (count_in k c.leaver + length words == c.length) _ _ (is _ _) (got_is M k m c.leaver words is)))
-
-cut_is : (M : Outcome → Type 0) (k : KnownValue) (m : Memory) (q : ℕ) (c : LeaverMessage) → Delivers M m → M (hear_cut k m q c)
-unfolding hear_cut
-cut_is M k m q c is =
-    either M (not (q == 1)) _ _ (is _ _) (either M (c.leaver == k.me) _ _ (is _ _) (either M (not (is_player k c.leaver)) _ _ (is _ _)
-    (either M (not (player_in k c.leaver).frozen) _ _ (is _ _) (end_is M k m c (player_in k c.leaver).cut is))))
-
--- M holds with each memory that a delivery can leave
-pub record Changes (M : Outcome → Type 0) (m : Memory) (head : HeadValue) (own sure : ℕ) : Type 0 where
-  pub rest : (chair : ChairValue) (stayer : StayerValue) (alarm : Bool) → Delivers M (record m { chair = chair; stayer = stayer; alarm = alarm })
-  pub acks : (n : ℕ) → n ≤ own → Delivers M (record m { acks = acked_more m.acks head.from n })
-  pub links : Delivers M (record m { links = heard m.links head })
-  pub both : (n : ℕ) → n ≤ own → Delivers M (record m { links = heard m.links head; acks = acked_more m.acks head.from n })
-  pub seen : (n : ℕ) → n ≤ sure → Delivers M (record m { seen = with_seen m.seen head.from n })
-
-message_is : (M : Outcome → Type 0) (rules : Rules) (t : Told) (k : KnownValue) (m : Memory) (head : HeadValue) (message : Message)
-    → Changes M m head (count_in k k.me) (confirmed k) → M (hear_message rules t k m head message)
-message_is M rules t k m head packets.Hello may = may.links _ _
-message_is M rules t k m head (packets.Welcome ack) may = welcome_is M k m head ack (may.rest m.chair m.stayer m.alarm) (may.both ack)
-message_is M rules t k m head (packets.Data d) may =
-    data_is M t k m head.from d (may.rest m.chair m.stayer m.alarm) (may.rest m.chair m.stayer true) (may.acks d.ack)
-message_is M rules t k m head (packets.Freeze f) may =
-    freeze_is M k m head.from f (may.rest m.chair m.stayer m.alarm) (may.rest m.chair (with_have m.stayer f.leaver f.have) m.alarm)
-message_is M rules t k m head (packets.Frozen f) may =
-    frozen_is M k m head.from f (may.rest m.chair m.stayer m.alarm) (may.rest (with_report m.chair f.leaver head.from f.length) m.stayer m.alarm)
-message_is M rules t k m head (packets.Cut c) may = cut_is M k m head.from c (may.rest m.chair m.stayer m.alarm)
-message_is M rules t k m head (packets.Show shown) may = may.rest m.chair m.stayer m.alarm _ _
-message_is M rules t k m head (packets.Seen ack) may = may.rest m.chair m.stayer m.alarm _ _
-
-seen_is : (M : Outcome → Type 0) (k : KnownValue) (m : Memory) (head : HeadValue) (ack : ℕ) → Delivers M m
-    → (ack ≤ confirmed k → Delivers M (record m { seen = with_seen m.seen head.from ack })) → M (hear_seen k m head ack)
-unfolding hear_seen
-seen_is M k m head ack is seen = unless M (nat_lt (confirmed k) ack) _ _ (is _ _) (λ few. seen (ltb-false (confirmed k) ack few) _ _)
-
-hand_is : (M : Outcome → Type 0) (m : Memory) (error : Option HandError) (o : Outcome) → Delivers M m → M o → M (unless_hand m error o)
-hand_is M m None o was is = is
-hand_is M m (Some error) o was is = was _ _
-
-from_is : (M : Outcome → Type 0) (rules : Rules) (t : Told) (k : KnownValue) (m : Memory) (p : Packet) (heard : Option ℕ)
-    → Changes M m p.head (count_in k k.me) (confirmed k) → M (hear_from rules t k m p heard)
-from_is M rules t k m p (Some ack) may =
-    let same : Delivers M m = may.rest m.chair m.stayer m.alarm in
-    hand_is M m (links.refusal_of_seen m.links p.head) (hear_seen k m p.head ack) same (seen_is M k m p.head ack same (may.seen ack))
-from_is M rules t k m p None may =
-    let same : Delivers M m = may.rest m.chair m.stayer m.alarm in
-    hand_is M m (links.refusal m.links p.head) (hear_message rules t k m p.head p.message) same (message_is M rules t k m p.head p.message may)
-
-pub deliver_is : (M : Outcome → Type 0) (rules : Rules) (t : Told) (k : KnownValue) (m : Memory) (p : Packet)
-    → Changes M m p.head (count_in k k.me) (confirmed k) → M (deliver rules t k m (Ok p))
-deliver_is M rules t k m p may =
-    let same : Delivers M m = may.rest m.chair m.stayer m.alarm in
-    either M (player_in k k.me).leaving _ _ (same _ _)
-    (either M (is_of_other_wire rules p.head) _ _ (same _ _) (from_is M rules t k m p (seen_in p.message) may))
-
-pub no_packet_is : (M : Outcome → Type 0) (rules : Rules) (t : Told) (k : KnownValue) (m : Memory) (error : WireError) → Delivers M m
-    → M (deliver rules t k m (Err error))
-no_packet_is M rules t k m error is = either M (player_in k k.me).leaving _ _ (is _ _) (is _ _)
-
-pub say_is : (M : Outcome → Type 0) (rules : Rules) (t : Told) (k : KnownValue) (m : Memory) (to : ℕ) (what : Saying)
-    → ((answer : Result Packet Unsayable) → M (record { reply = Said answer; keeps = None; memory = m })) → M (say rules t k m to what)
-unfolding say
-say_is M rules t k m to what is =
-    either M (player_in k k.me).leaving _ _ (is _) (either M (to == k.me || not (is_player k to)) _ _ (is _)
-    (either M (is_not_mine k to what) _ _ (is _) (either M (lacks_record k what) _ _ (is _) (either M (lacks_link m to what) _ _ (is _) (is _)))))
-
-pub show_is : (M : Outcome → Type 0) (k : KnownValue) (m : Memory) (watcher : ℕ)
-    → ((answer : Result Packet Unsayable) → M (record { reply = Said answer; keeps = None; memory = m })) → M (show k m watcher)
-unfolding show
-show_is M k m watcher is = either M (k.me == 1) _ _ (is _) (is _)
-
 -- ---- all of it
 
+-- the memory after a call, apart from lives; and the lives, with the record that it adds
 abbrev Keeps : Rules → ℕ → ℕ → List Record → Outcome → Type 0
-Keeps rules room me journal o = IsMemory rules room me journal o.memory
+Keeps rules room me journal o = IsApart rules room me journal o.memory × KnowsLives (grown journal o.keeps) o.memory.links.lives
 
-changes : (rules : Rules) (room me : ℕ) (journal : List Record) (m : Memory) (head : HeadValue) (own : ℕ) → IsMemory rules room me journal m
-    → head.sender_epoch < 2 ^ 32
-    → own ≡ count rules me journal → Changes (Keeps rules room me journal) m head own (confirmed (known_of rules me journal))
-changes rules room me journal m head own is low all =
-    let heard_is = with_heard rules room me journal m head is low in
+-- the same lives, and a record that says nothing of them
+same_lives : (rules : Rules) (room me : ℕ) (journal : List Record) (m : Memory) → IsApart rules room me journal m
+    → KnowsLives journal m.links.lives → Delivers (Keeps rules room me journal) m
+same_lives rules room me journal m is lives answer keeps none = (is, lives_grown journal keeps m.links.lives none lives)
+
+met_is : (rules : Rules) (room me : ℕ) (journal : List Record) (m : Memory) (o : Option MetValue) → IsApart rules room me journal m
+    → KnowsLives (grown journal (met_record o)) m.links.lives → Keeps rules room me journal (met m o)
+met_is rules room me journal m None is lives = (is, lives)
+met_is rules room me journal m (Some life) is lives = (is, lives)
+
+changes : (rules : Rules) (room me : ℕ) (journal : List Record) (m : Memory) (p : Packet) (own : ℕ) → AreInRange rules
+    → IsMemory rules room me journal m → IsPacket p
+    → own ≡ count rules me journal → Changes (Keeps rules room me journal) m p.head p.message own (confirmed (known_of rules me journal))
+changes rules room me journal m p own range is packet all =
+    let head : HeadValue = p.head in
+    let apart = apart_of rules room me journal m is in
+    let heard_is = with_heard rules room me journal m head apart packet.head.sender_epoch in
+    let few : m.links.players ≤ 4 = omega (arith, is.players, range.at_most_four) in
+    let lives = λ (admitted : links.refusal m.links head ≡ None).
+    heard_knows journal m.links head (meeting m.links head) is.lives few packet.head.match_number (player_admitted m.links head admitted) refl in
     record {
-      rest = λ chair stayer alarm answer keeps. with_rest rules room me journal m chair stayer alarm is;
-      acks = λ n few answer keeps. with_acks rules room me journal m head.from n is (omega (arith, few, all));
-      links = λ answer keeps. heard_is;
-      both = λ n few answer keeps. with_acks rules room me journal (record m { links = heard m.links head }) head.from n heard_is
-          (omega (arith, few, all));
-      seen = λ n few answer keeps. with_shown rules room me journal m head.from n is few;
+      rest = λ chair stayer alarm. same_lives rules room me journal (record m { chair = chair; stayer = stayer; alarm = alarm })
+          (with_rest rules room me journal m chair stayer alarm m.news m.links.lives apart) is.lives;
+      acks = λ n news few. same_lives rules room me journal (record m { acks = acked_more m.acks head.from n; news = news })
+          (with_acks rules room me journal m head.from n news apart (omega (arith, few, all))) is.lives;
+      links = λ admitted. met_is rules room me journal (record m { links = heard m.links head }) (meeting m.links head) heard_is (lives admitted);
+      both = λ n few admitted.
+          let noted : Memory = record m { links = heard m.links head } in
+          met_is rules room me journal (record noted { acks = acked_more m.acks head.from n }) (meeting m.links head)
+          (with_acks rules room me journal noted head.from n m.news heard_is (omega (arith, few, all))) (lives admitted);
+      seen = λ n few. same_lives rules room me journal (record m { seen = with_seen m.seen head.from n })
+          (with_shown rules room me journal m head.from n apart few) is.lives;
+      shun = same_lives rules room me journal (record m { links = shunned m.links head })
+          (with_rest rules room me journal m m.chair m.stayer m.alarm m.news (shunned m.links head).lives apart)
+          (shunned_knows journal m.links head is.lives packet.head.life packet.head.match_number);
+      word = λ w refused. same_lives rules room me journal (record m { links = after_word m.links head w })
+          (with_rest rules room me journal m m.chair m.stayer m.alarm m.news (after_word m.links head w).lives apart)
+          (word_knows journal m.links head w is.lives
+          (subst (Fits head.width) refused packet.fits).0 packet.head.match_number);
     }
 
 -- the count of the own player's known inputs is the journal's
@@ -383,37 +287,56 @@ pub own_count : (rules : Rules) (me : ℕ) (journal : List Record) → 1 ≤ me 
 unfolding known_of
 own_count rules me journal from to = ap (λ (p : PlayerValue). length p.held) (player_known rules me me journal from to)
 
+-- a memory that does not change
+same : (rules : Rules) (room me : ℕ) (journal : List Record) (m : Memory) → IsMemory rules room me journal m
+    → (keeps : Option Record) → AddsNoLife keeps
+    → IsApart rules room me journal m × KnowsLives (grown journal keeps) m.links.lives
+same rules room me journal m is keeps none = (apart_of rules room me journal m is, lives_grown journal keeps m.links.lives none is.lives)
+
+kept : (rules : Rules) (me room : ℕ) (journal : List Record) (m : Memory) (call : Call)
+    → AreInRange rules → 1 ≤ me → me ≤ rules.players → IsMemory rules room me journal m → IsCall call
+    → Keeps rules room me journal (outcome rules (told_of rules me journal) (known_of rules me journal) m call)
+kept rules me room journal m (Tick input) range from to is fits =
+    tick_is (Keeps rules room me journal) rules (known_of rules me journal) m input (λ answer. same rules room me journal m is)
+kept rules me room journal m (Deliver (Err error)) range from to is fits =
+    no_packet_is (Keeps rules room me journal) rules (told_of rules me journal) (known_of rules me journal) m error (λ answer. same rules room me journal m is)
+kept rules me room journal m (Deliver (Ok p)) range from to is fits =
+    let k : KnownValue = known_of rules me journal in
+    deliver_is (Keeps rules room me journal) rules (told_of rules me journal) k m p
+    (changes rules room me journal m p (count_in k k.me) range is fits (own_count rules me journal from to))
+kept rules me room journal m (Say q what) range from to is fits =
+    say_is (Keeps rules room me journal) rules (told_of rules me journal) (known_of rules me journal) m q what
+    (λ answer. (apart_of rules room me journal m is, is.lives))
+kept rules me room journal m (Show watcher) range from to is fits =
+    show_is (Keeps rules room me journal) (known_of rules me journal) m watcher (λ answer. (apart_of rules room me journal m is, is.lives))
+kept rules me room journal m (Leave leaver) range from to is fits =
+    leave_is (Keeps rules room me journal) (known_of rules me journal) m leaver (λ answer. same rules room me journal m is)
+kept rules me room journal m (Decide leaver) range from to is fits =
+    decide_is (Keeps rules room me journal) (known_of rules me journal) m leaver (λ answer. same rules room me journal m is)
+kept rules me room journal m Checkpoint range from to is fits =
+    checkpoint_is (Keeps rules room me journal) (told_of rules me journal) (known_of rules me journal) m (λ answer. same rules room me journal m is)
+
+-- a call that records nothing keeps the memory in order
 pub memory_kept : (rules : Rules) (me room : ℕ) (journal : List Record) (m : Memory) (call : Call)
     → AreInRange rules → 1 ≤ me → me ≤ rules.players → IsJournal rules me room journal
     → IsMemory rules room me journal m → IsCall call
+    → (outcome rules (told_of rules me journal) (known_of rules me journal) m call).keeps ≡ None
     → IsMemory rules room me journal (outcome rules (told_of rules me journal) (known_of rules me journal) m call).memory
-memory_kept rules me room journal m (Tick keys) range from to journal_is is fits =
-    tick_is (Keeps rules room me journal) rules (known_of rules me journal) m keys (λ answer keeps. is)
-memory_kept rules me room journal m (Deliver (Err error)) range from to journal_is is fits =
-    no_packet_is (Keeps rules room me journal) rules (told_of rules me journal) (known_of rules me journal) m error (λ answer keeps. is)
-memory_kept rules me room journal m (Deliver (Ok p)) range from to journal_is is fits =
-    let k : KnownValue = known_of rules me journal in
-    deliver_is (Keeps rules room me journal) rules (told_of rules me journal) k m p
-    (changes rules room me journal m p.head (count_in k k.me) is fits.head.sender_epoch (own_count rules me journal from to))
-memory_kept rules me room journal m (Say q what) range from to journal_is is fits =
-    say_is (Keeps rules room me journal) rules (told_of rules me journal) (known_of rules me journal) m q what (λ answer. is)
-memory_kept rules me room journal m (Show watcher) range from to journal_is is fits =
-    show_is (Keeps rules room me journal) (known_of rules me journal) m watcher (λ answer. is)
-memory_kept rules me room journal m (Leave leaver) range from to journal_is is fits =
-    leave_is (Keeps rules room me journal) (known_of rules me journal) m leaver (λ answer keeps. is)
-memory_kept rules me room journal m (Decide leaver) range from to journal_is is fits =
-    decide_is (Keeps rules room me journal) (known_of rules me journal) m leaver (λ answer keeps. is)
-memory_kept rules me room journal m Checkpoint range from to journal_is is fits =
-    checkpoint_is (Keeps rules room me journal) (told_of rules me journal) (known_of rules me journal) m (λ answer keeps. is)
+memory_kept rules me room journal m call range from to journal_is is fits none =
+    let o : Outcome = outcome rules (told_of rules me journal) (known_of rules me journal) m call in
+    let both = kept rules me room journal m call range from to is fits in
+    with_lives rules room me journal o.memory both.0
+    (subst (λ (keeps : Option Record). KnowsLives (grown journal keeps) o.memory.links.lives) none both.1)
 
--- the memory stays in order with one more record, if that leaves the checkpoints in order
-pub memory_more : (rules : Rules) (room me : ℕ) (journal : List Record) (r : Record) (m : Memory) → AreInRange rules → 1 ≤ me
-    → me ≤ rules.players → IsJournal rules me room (journal ++ r ∷ []) → IsMemory rules room me journal m → IsSaving rules me (journal ++ r ∷ [])
-    → IsMemory rules room me (journal ++ r ∷ []) m
-memory_more rules room me journal r m range from to journal_is is saving = record {
+-- the memory apart from lives stays in order with one more record, if that leaves the checkpoints in order
+apart_more : (rules : Rules) (room me : ℕ) (journal : List Record) (r : Record) (m : Memory) → AreInRange rules → 1 ≤ me
+    → me ≤ rules.players → IsJournal rules me room (journal ++ r ∷ []) → IsApart rules room me journal m → IsSaving rules me (journal ++ r ∷ [])
+    → IsApart rules room me (journal ++ r ∷ []) m
+apart_more rules room me journal r m range from to journal_is is saving = record {
   player = is.player;
   players = is.players;
   version = is.version;
+  width = is.width;
   session = is.session;
   epoch = epoch_stays m.links.epoch journal (r ∷ []) is.epoch;
   epoch_fits = is.epoch_fits;
@@ -422,3 +345,24 @@ memory_more rules room me journal r m range from to journal_is is saving = recor
   shown = λ watcher. let few = is.shown watcher in omega (arith, few, confirmed_counts rules me room journal (r ∷ []) range from to journal_is);
   saving = saving;
 }
+
+-- the memory stays in order with a record that names no life
+pub memory_more : (rules : Rules) (room me : ℕ) (journal : List Record) (r : Record) (m : Memory) → AreInRange rules → 1 ≤ me
+    → me ≤ rules.players → IsJournal rules me room (journal ++ r ∷ []) → IsMemory rules room me journal m → HasNoLife r
+    → IsSaving rules me (journal ++ r ∷ []) → IsMemory rules room me (journal ++ r ∷ []) m
+memory_more rules room me journal r m range from to journal_is is none saving =
+    with_lives rules room me (journal ++ r ∷ []) m
+    (apart_more rules room me journal r m range from to journal_is (apart_of rules room me journal m is) saving)
+    (lives_stay journal r m.links.lives none is.lives)
+
+-- a call that records something keeps the memory in order, with the record
+pub memory_grown : (rules : Rules) (me room : ℕ) (journal : List Record) (m : Memory) (call : Call) (r : Record)
+    → AreInRange rules → 1 ≤ me → me ≤ rules.players → IsJournal rules me room (journal ++ r ∷ [])
+    → IsMemory rules room me journal m → IsCall call
+    → (outcome rules (told_of rules me journal) (known_of rules me journal) m call).keeps ≡ Some r → IsSaving rules me (journal ++ r ∷ [])
+    → IsMemory rules room me (journal ++ r ∷ []) (outcome rules (told_of rules me journal) (known_of rules me journal) m call).memory
+memory_grown rules me room journal m call r range from to journal_is is fits some saving =
+    let o : Outcome = outcome rules (told_of rules me journal) (known_of rules me journal) m call in
+    let both = kept rules me room journal m call range from to is fits in
+    with_lives rules room me (journal ++ r ∷ []) o.memory (apart_more rules room me journal r o.memory range from to journal_is both.0 saving)
+    (subst (λ (keeps : Option Record). KnowsLives (grown journal keeps) o.memory.links.lives) some both.1)

@@ -22,7 +22,7 @@ one_opening rules room me found Stands Spent one other served also = absurd (let
 one_opening rules room me found (Unfit error) NoPlayer one other served also = absurd (let plays = one.1 in omega (arith, other, plays))
 one_opening rules room me found (Unfit error) Stands one other served also = absurd (journal_not_refused rules me room found error other.0 one.0)
 one_opening rules room me found (Unfit error) (Unfit why) one other served also =
-    ap Unfit (one_refusal rules me room (map body_of found) error why one.0 other.0)
+    ap Unfit (one_refusal rules me room (map (body_of rules.width) found) error why one.0 other.0)
 one_opening rules room me found (Unfit error) Spent one other served also = absurd (journal_not_refused rules me room found error other.0 one.0)
 one_opening rules room me found Spent NoPlayer one other served also = absurd (let plays = one.2 in omega (arith, other, plays))
 one_opening rules room me found Spent Stands one other served also = absurd (let many = one.1 in let few = other.1 in omega (arith, few, many))
@@ -50,11 +50,11 @@ pub would_stand : (rules : Rules) (room me : ℕ) (found : List Record) (why : D
     → other ≡ Stands
 would_stand rules room me found why other may is served = one_opening rules room me found other Stands is may served tt
 
-pub one_answer : (rules : Rules) (room me : ℕ) (s t u : State) (finds : Bool) (one other : Opening) (answer second : Option Reply)
-    → IsDone rules room me s (Opens finds one) answer t
-    → IsDone rules room me s (Opens finds other) second u → IsServed one → IsServed other → (answer ≡ second) × (t ≡ u)
-one_answer rules room me s t u finds one other answer second done also served too =
-    let same : one ≡ other = one_opening rules room me _ one other done.may.1 also.may.1 served too in
+pub one_answer : (rules : Rules) (room me : ℕ) (s t u : State) (finds : Bool) (drawn : ℕ) (one other : Opening) (answer second : Option Reply)
+    → IsDone rules room me s (Opens finds drawn one) answer t
+    → IsDone rules room me s (Opens finds drawn other) second u → IsServed one → IsServed other → (answer ≡ second) × (t ≡ u)
+one_answer rules room me s t u finds drawn one other answer second done also served too =
+    let same : one ≡ other = one_opening rules room me _ one other done.may.2 also.may.2 served too in
     let both : record { answer = answer; state = t } ≡ record { answer = second; state = u } =
-    sym done.is ∙ ap (λ (x : Opening). after rules room me s (Opens finds x)) same ∙ also.is in
+    sym done.is ∙ ap (λ (x : Opening). after rules room me s (Opens finds drawn x)) same ∙ also.is in
     (ap (λ (x : After). x.answer) both, ap (λ (x : After). x.state) both)

@@ -1,20 +1,20 @@
 -- The outcome of a call never blames the disk, so the answer tells whether the peer is down after it.
-use Rattle.std.proofs.Common.{◌≡◌, ◌⊎◌, inl, inr, ⊎_elim, ◌+◌, ◌≤◌, ℕ, List, [], ◌∷◌, ◌++◌, length, Bool, true, Option, Some, None, Ok, Err}
+use Rattle.std.proofs.Common.{◌≡◌, ◌⊎◌, inl, inr, ⊎_elim, ◌+◌, ◌^◌, ◌≤◌, ℕ, List, [], ◌∷◌, ◌++◌, length, Bool, true, Option, Some, None, Ok, Err}
 use Rattle.std.proofs.Common.{refl, sym, ap, ◌∙◌}
 use Rattle.std.specs.Prelude.{Result, ◌==◌, ◌||◌, not, nat_le, nat_lt, is_some}
 use Rattle.c8_game.specs.Rules.{Rules, AreInRange}
 use Rattle.c8_disk.specs.declared.error.DiskError.{DiskError}
 use Rattle.c8_wire.specs.declared.error.WireError.{WireError}
-use Rattle.c8_wire.specs.Packet.{HeadValue, DataMessage, FreezeMessage, LeaverMessage, Message, Packet}
+use Rattle.c8_wire.specs.Packet.{HeadValue, NewsValue, DataMessage, FreezeMessage, LeaverMessage, PassMessage, RefusedMessage, Message, Packet}
 use Rattle.c8_wire.specs.Packet as packets
 use Rattle.c8_hand.specs.declared.error.HandError.{HandError}
 use Rattle.c8_hand.specs.Links as links
+use Rattle.c8_hand.specs.Links.{MetValue}
 use Rattle.c8_known.specs.declared.error.KnownError.{KnownError}
 use Rattle.c8_known.specs.Journal.{Record}
 use Rattle.c8_known.specs.Known.{KnownValue, known_of, player_in, count_in, is_player}
 use Rattle.c8_known.specs.Confirmed.{confirmed}
 use Rattle.c8_known.specs.Fresh.{is_from_leaver, misfit, fresh_words}
-use Rattle.c8_window.specs.Window.{acked_more}
 use Rattle.c8_round.specs.Round.{is_ready, with_report}
 use Rattle.c8_peer.specs.Told.{Told, told_of}
 use Rattle.c8_refusals.specs.declared.error.Unsayable.{Unsayable}
@@ -22,8 +22,8 @@ use Rattle.c8_peer.specs.State.{Memory, Mode, Open, Down, Away, State, Saying, C
 use Rattle.c8_peer.specs.State.{Said, Outcome, answered}
 use Rattle.c8_peer.specs.Steps.{DiskOutcome, Works, Refuses, refused_by_disk, outcome, done, at_mode, step}
 use Rattle.c8_peer.specs.Calls.{tick, leave, decide, next_piece, checkpoint}
-use Rattle.c8_peer.specs.Hearing.{is_desync, unless_misfit, got, cut_or_got, hear_data, hear_welcome, hear_freeze, hear_frozen, hear_end}
-use Rattle.c8_peer.specs.Hearing.{hear_cut, hear_message, is_of_other_wire, unless_hand, hear_seen, hear_from, seen_in, hear_told}
+use Rattle.c8_peer.specs.Hearing.{is_desync, unless_misfit, got, cut_or_got, after_data, hear_data, hear_pass, met, hear_welcome, learnt}
+use Rattle.c8_peer.specs.Hearing.{hear_freeze, hear_frozen, hear_end, hear_cut, hear_message, is_of_other_wire, unless_hand, hear_seen, hear_from, seen_in, hear_told}
 use Rattle.c8_peer.specs.Saying.{say, show}
 use Rattle.c8_peer.specs.Opening.{Opening, NoPlayer, Stands, NotWritten, NoMemory, NotRead, Unfit, Spent, opened}
 use Rattle.c8_peer.specs.Replies.{mode_told}
@@ -35,7 +35,8 @@ use Rattle.c8_peer.specs.checked.Held.{is_play}
 use Rattle.c8_peer.specs.checked.TrueCheckLaws.{play_begins, play_true}
 use Rattle.c8_peer.proofs.CheckpointLemmas.{IsNext, adds_next, next_leaves, saving_play, saving_next, next_true}
 use Rattle.c8_peer.proofs.AllowedLemmas.{keeps_allowed}
-use Rattle.c8_peer.proofs.MemoryLemmas.{either, say_is, show_is, memory_kept, memory_more}
+use Rattle.c8_peer.specs.checked.OutcomeLemmas.{either, say_is, show_is}
+use Rattle.c8_peer.proofs.MemoryLemmas.{memory_grown}
 use Rattle.c8_record.specs.checked.JournalLaws.{journal_more}
 
 -- the record, if there is one, is one of what players do
@@ -53,11 +54,12 @@ plain o is plays = record { told = is; plays = plays }
 
 -- ---- calls of the own player
 
-tick_plain : (rules : Rules) (k : KnownValue) (m : Memory) (keys : ℕ) → IsPlain (tick rules k m keys)
+tick_plain : (rules : Rules) (k : KnownValue) (m : Memory) (input : ℕ) → IsPlain (tick rules k m input)
 unfolding tick
-tick_plain rules k m keys =
+tick_plain rules k m input =
     either IsPlain (player_in k k.me).leaving _ _ (plain _ refl refl) (either IsPlain (nat_le rules.frames k.ticks) _ _ (plain _ refl refl)
-    (either IsPlain (nat_le (confirmed k + rules.window) k.ticks) _ _ (plain _ refl refl) (plain _ refl refl)))
+    (either IsPlain (nat_le (confirmed k + rules.window) k.ticks) _ _ (plain _ refl refl)
+    (either IsPlain (nat_le (256 ^ rules.width) input) _ _ (plain _ refl refl) (plain _ refl refl))))
 
 leave_plain : (k : KnownValue) (m : Memory) (leaver : ℕ) → IsPlain (leave k m leaver)
 unfolding leave
@@ -83,17 +85,32 @@ got_plain : (k : KnownValue) (m : Memory) (q : ℕ) (words : List ℕ) → IsPla
 got_plain k m q [] = plain _ refl refl
 got_plain k m q (word ∷ words) = plain _ refl refl
 
-data_plain : (rules : Rules) (t : Told) (k : KnownValue) (m : Memory) (q : ℕ) (d : DataMessage) → IsPlain (hear_data t k m q d)
+data_plain : (t : Told) (k : KnownValue) (m : Memory) (q : ℕ) (news : Option NewsValue) (d : DataMessage) → IsPlain (hear_data t k m q news d)
 unfolding hear_data
-data_plain rules t k m q d =
+data_plain t k m q news d =
     either IsPlain (is_from_leaver k q q) _ _ (plain _ refl refl) (either IsPlain (nat_lt (count_in k k.me) d.ack) _ _ (plain _ refl refl)
     (misfit_plain m (misfit k q d.start d.words) _
     (either IsPlain (is_desync t d) _ _ (plain _ refl refl)
-    (got_plain k (record m { acks = acked_more m.acks q d.ack }) q (fresh_words k q d.start d.words)))))
+    (got_plain k (after_data k m q news d) q (fresh_words k q d.start d.words)))))
+
+pass_plain : (k : KnownValue) (m : Memory) (q : ℕ) (p : PassMessage) → IsPlain (hear_pass k m q p)
+unfolding hear_pass
+pass_plain k m q p =
+    either IsPlain (not (q == 1)) _ _ (plain _ refl refl) (either IsPlain (p.player == k.me || not (is_player k p.player)) _ _ (plain _ refl refl)
+    (either IsPlain (is_from_leaver k p.player p.player) _ _ (plain _ refl refl)
+    (misfit_plain m (misfit k p.player p.start p.words) _ (got_plain k m p.player (fresh_words k p.player p.start p.words)))))
+
+met_plain : (m : Memory) (o : Option MetValue) → IsPlain (met m o)
+met_plain m None = plain _ refl refl
+met_plain m (Some life) = plain _ refl refl
+
+word_plain : (m : Memory) (head : HeadValue) (w : RefusedMessage) (o : Option HandError) → IsPlain (learnt m head w o)
+word_plain m head w None = plain _ refl refl
+word_plain m head w (Some error) = plain _ refl refl
 
 welcome_plain : (k : KnownValue) (m : Memory) (head : HeadValue) (ack : ℕ) → IsPlain (hear_welcome k m head ack)
 unfolding hear_welcome
-welcome_plain k m head ack = either IsPlain (nat_lt (count_in k k.me) ack) _ _ (plain _ refl refl) (plain _ refl refl)
+welcome_plain k m head ack = either IsPlain (nat_lt (count_in k k.me) ack) _ _ (plain _ refl refl) (met_plain _ (links.meeting m.links head))
 
 freeze_plain : (k : KnownValue) (m : Memory) (q : ℕ) (f : FreezeMessage) → IsPlain (hear_freeze k m q f)
 unfolding hear_freeze
@@ -127,28 +144,30 @@ cut_plain k m q c =
     (either IsPlain (not (is_player k c.leaver)) _ _ (plain _ refl refl) (either IsPlain (not (player_in k c.leaver).frozen) _ _ (plain _ refl refl)
     (end_plain k m c (player_in k c.leaver).cut))))
 
-message_plain : (rules : Rules) (t : Told) (k : KnownValue) (m : Memory) (head : HeadValue) (message : Message)
-    → IsPlain (hear_message rules t k m head message)
-message_plain rules t k m head packets.Hello = plain _ refl refl
-message_plain rules t k m head (packets.Welcome ack) = welcome_plain k m head ack
-message_plain rules t k m head (packets.Data d) = data_plain rules t k m head.from d
-message_plain rules t k m head (packets.Freeze f) = freeze_plain k m head.from f
-message_plain rules t k m head (packets.Frozen f) = frozen_plain k m head.from f
-message_plain rules t k m head (packets.Cut c) = cut_plain k m head.from c
-message_plain rules t k m head (packets.Show shown) = plain _ refl refl
-message_plain rules t k m head (packets.Seen ack) = plain _ refl refl
+message_plain : (rules : Rules) (t : Told) (k : KnownValue) (m : Memory) (head : HeadValue) (news : Option NewsValue) (message : Message)
+    → IsPlain (hear_message rules t k m head news message)
+message_plain rules t k m head news packets.Hello = met_plain _ (links.meeting m.links head)
+message_plain rules t k m head news (packets.Welcome ack) = welcome_plain k m head ack
+message_plain rules t k m head news (packets.Data d) = data_plain t k m head.from news d
+message_plain rules t k m head news (packets.Freeze f) = freeze_plain k m head.from f
+message_plain rules t k m head news (packets.Frozen f) = frozen_plain k m head.from f
+message_plain rules t k m head news (packets.Cut c) = cut_plain k m head.from c
+message_plain rules t k m head news (packets.Show shown) = plain _ refl refl
+message_plain rules t k m head news (packets.Seen ack) = plain _ refl refl
+message_plain rules t k m head news (packets.Pass p) = pass_plain k m head.from p
+message_plain rules t k m head news (packets.Refused w) = word_plain m head w (links.refusal_of_word m.links head w)
 
 seen_plain : (k : KnownValue) (m : Memory) (head : HeadValue) (ack : ℕ) → IsPlain (hear_seen k m head ack)
 unfolding hear_seen
 seen_plain k m head ack = either IsPlain (nat_lt (confirmed k) ack) _ _ (plain _ refl refl) (plain _ refl refl)
 
-hand_plain : (m : Memory) (o : Option HandError) (x : Outcome) → IsPlain x → IsPlain (unless_hand m o x)
-hand_plain m None x is = is
-hand_plain m (Some error) x is = plain _ refl refl
+hand_plain : (m : Memory) (head : HeadValue) (o : Option HandError) (x : Outcome) → IsPlain x → IsPlain (unless_hand m head o x)
+hand_plain m head None x is = is
+hand_plain m head (Some error) x is = plain _ refl refl
 
 from_plain : (rules : Rules) (t : Told) (k : KnownValue) (m : Memory) (p : Packet) (heard : Option ℕ) → IsPlain (hear_from rules t k m p heard)
-from_plain rules t k m p (Some ack) = hand_plain m (links.refusal_of_seen m.links p.head) _ (seen_plain k m p.head ack)
-from_plain rules t k m p None = hand_plain m (links.refusal m.links p.head) _ (message_plain rules t k m p.head p.message)
+from_plain rules t k m p (Some ack) = hand_plain m p.head (links.refusal_of_seen m.links p.head) _ (seen_plain k m p.head ack)
+from_plain rules t k m p None = hand_plain m p.head (links.refusal m.links p.head) _ (message_plain rules t k m p.head p.news p.message)
 
 told_plain : (rules : Rules) (t : Told) (k : KnownValue) (m : Memory) (told : Result Packet WireError) → IsPlain (hear_told rules t k m told)
 told_plain rules t k m (Ok p) = either IsPlain (is_of_other_wire rules p.head) _ _ (plain _ refl refl) (from_plain rules t k m p (seen_in p.message))
@@ -182,7 +201,7 @@ checkpoint_told t k m = either (λ x. mode_told x.reply ≡ Open) (player_in k k
 -- ---- any call
 
 call_plain : (rules : Rules) (t : Told) (k : KnownValue) (m : Memory) (call : Call) → mode_told (outcome rules t k m call).reply ≡ Open
-call_plain rules t k m (Tick keys) = (tick_plain rules k m keys).told
+call_plain rules t k m (Tick input) = (tick_plain rules k m input).told
 call_plain rules t k m (Deliver told) = (either IsPlain (player_in k k.me).leaving _ _ (plain _ refl refl) (told_plain rules t k m told)).told
 call_plain rules t k m (Say to what) = (say_quiet rules t k m to what).told
 call_plain rules t k m (Show watcher) = (show_quiet k m watcher).told
@@ -200,8 +219,8 @@ a_play o r keeps is = ap are_plays (sym keeps) ∙ is.plays
 call_adds : (rules : Rules) (me room : ℕ) (journal : List Record) (m : Memory) (call : Call) (r : Record) → AreInRange rules → 1 ≤ me
     → me ≤ rules.players → IsJournal rules me room journal → IsMemory rules room me journal m
     → (outcome rules (told_of rules me journal) (known_of rules me journal) m call).keeps ≡ Some r → Adds rules me journal r
-call_adds rules me room journal m (Tick keys) r range from to is memory keeps =
-    inl (a_play _ r keeps (tick_plain rules (known_of rules me journal) m keys))
+call_adds rules me room journal m (Tick input) r range from to is memory keeps =
+    inl (a_play _ r keeps (tick_plain rules (known_of rules me journal) m input))
 call_adds rules me room journal m (Deliver told) r range from to is memory keeps =
     let k : KnownValue = known_of rules me journal in
     inl (a_play _ r keeps (either IsPlain (player_in k k.me).leaving _ _ (plain _ refl refl) (told_plain rules (told_of rules me journal) k m told)))
@@ -246,8 +265,7 @@ pub keeps_memory : (rules : Rules) (me room : ℕ) (journal : List Record) (m : 
     → IsMemory rules room me (journal ++ r ∷ []) (outcome rules (told_of rules me journal) (known_of rules me journal) m call).memory
 keeps_memory rules me room journal m call r range from to is memory fits keeps =
     let may = keeps_allowed rules me room journal m call r range from to is memory fits keeps in
-    memory_more rules room me journal r _ range from to (journal_more rules me room journal r is may)
-    (memory_kept rules me room journal m call range from to is memory fits)
+    memory_grown rules me room journal m call r range from to (journal_more rules me room journal r is may) memory fits keeps
     (⊎_elim
     (λ play. saving_play rules me room journal r range from to is may play memory.saving)
     (λ next. saving_next rules me room journal r range from to is may memory.saving next)
@@ -256,7 +274,7 @@ keeps_memory rules me room journal m call r range from to is memory fits keeps =
 -- the disk never refuses a saying
 refused_tells : (rules : Rules) (t : Told) (k : KnownValue) (m : Memory) (call : Call) (r : Record) (why : DiskError)
     → (outcome rules t k m call).keeps ≡ Some r → Down ≡ mode_told (refused_by_disk call why)
-refused_tells rules t k m (Tick keys) r why keeps = refl
+refused_tells rules t k m (Tick input) r why keeps = refl
 refused_tells rules t k m (Deliver told) r why keeps = refl
 refused_tells rules t k m (Say to what) r why keeps = absurd (let none = sym (say_quiet rules t k m to what).keeps ∙ keeps in cc)
 refused_tells rules t k m (Show watcher) r why keeps = absurd (let none = sym (show_quiet k m watcher).keeps ∙ keeps in cc)
@@ -283,12 +301,12 @@ pub step_tells : (rules : Rules) (me : ℕ) (s : State) (call : Call) (on_disk :
     → (step rules me s call on_disk).state.mode ≡ mode_told (step rules me s call on_disk).reply
 step_tells rules me s call on_disk up = mode_tells rules (told_of rules me s.journal) (known_of rules me s.journal) s call on_disk s.mode refl up
 
-pub opened_tells : (rules : Rules) (room me : ℕ) (s : State) (found : List Record) (opening : Opening)
-    → (opened rules room me s found opening).state.mode ≡ mode_told (opened rules room me s found opening).reply
-opened_tells rules room me s found NoPlayer = refl
-opened_tells rules room me s found Stands = refl
-opened_tells rules room me s found (NotWritten why) = refl
-opened_tells rules room me s found NoMemory = refl
-opened_tells rules room me s found (NotRead why) = refl
-opened_tells rules room me s found (Unfit error) = refl
-opened_tells rules room me s found Spent = refl
+pub opened_tells : (rules : Rules) (room me drawn : ℕ) (s : State) (found : List Record) (opening : Opening)
+    → (opened rules room me drawn s found opening).state.mode ≡ mode_told (opened rules room me drawn s found opening).reply
+opened_tells rules room me drawn s found NoPlayer = refl
+opened_tells rules room me drawn s found Stands = refl
+opened_tells rules room me drawn s found (NotWritten why) = refl
+opened_tells rules room me drawn s found NoMemory = refl
+opened_tells rules room me drawn s found (NotRead why) = refl
+opened_tells rules room me drawn s found (Unfit error) = refl
+opened_tells rules room me drawn s found Spent = refl

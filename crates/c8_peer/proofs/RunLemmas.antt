@@ -23,7 +23,7 @@ use Rattle.c8_peer.specs.State.{Mode, Open, Down, Away, State, Call, Reply, Said
 use Rattle.c8_peer.specs.State as states
 use Rattle.c8_peer.specs.Steps.{outcome, DiskOutcome, Works, Refuses, refused_by_disk, when_down, done, at_mode, step}
 use Rattle.c8_peer.specs.Opening.{last_epoch, found, opening_record, Opening, NoPlayer, Stands, NotWritten, NoMemory, NotRead, Unfit, Spent}
-use Rattle.c8_peer.specs.Opening.{away, opened, MayBecome}
+use Rattle.c8_peer.specs.Opening.{away, opened, MayDraw, MayBecome}
 use Rattle.c8_peer.specs.Truth.{IsTrue, CarriesMark}
 use Rattle.c8_peer.specs.TrueChecks.{HasTrueChecks}
 use Rattle.c8_peer.specs.checked.TrueCheckLaws.{none_true}
@@ -35,7 +35,7 @@ use Rattle.c8_peer.specs.Runs.{IsDone, IsRun, IsLawful, TellsTruly, IsReached, I
 use Rattle.c8_peer.proofs.AllowedLemmas.{keeps_allowed}
 use Rattle.c8_peer.proofs.MemoryLemmas.{memory_kept}
 use Rattle.c8_peer.proofs.OpeningLemmas.{opening_allowed, opening_memory, opening_stays}
-use Rattle.c8_peer.proofs.SayingLemmas.{said_true}
+use Rattle.c8_peer.proofs.SaidLemmas.{said_true}
 use Rattle.c8_peer.proofs.PlainLemmas.{keeps_true, keeps_memory}
 
 -- the game, the room and the player
@@ -90,29 +90,29 @@ step_grows : (rules : Rules) (me : ℕ) (s : State) (call : Call) (on_disk : Dis
 step_grows rules me s call on_disk = mode_grows s call
     (outcome rules (told_of rules me s.journal) (known_of rules me s.journal) s.memory call) s.mode on_disk
 
-opened_grows : (rules : Rules) (room me : ℕ) (s : State) (finds : Bool) (opening : Opening)
-    → Grows s (opened rules room me s (found s finds) opening).state
-opened_grows rules room me s finds Stands =
+opened_grows : (rules : Rules) (room me drawn : ℕ) (s : State) (finds : Bool) (opening : Opening)
+    → Grows s (opened rules room me drawn s (found s finds) opening).state
+opened_grows rules room me drawn s finds Stands =
     let more = found_more s finds in
-    let new : List Record = opening_record rules room me (found s finds) ∷ [] in
+    let new : List Record = opening_record rules room me drawn (found s finds) ∷ [] in
     (more.0 ++ new, ap (λ (journal : List Record). journal ++ new) more.1 ∙ append_assoc s.journal more.0 new)
-opened_grows rules room me s finds (NotWritten why) = found_more s finds
-opened_grows rules room me s finds NoPlayer = same_grows s (away s s.journal s.pending) refl
-opened_grows rules room me s finds NoMemory = same_grows s (away s s.journal s.pending) refl
-opened_grows rules room me s finds (NotRead why) = same_grows s (away s s.journal s.pending) refl
-opened_grows rules room me s finds (Unfit error) = found_more s finds
-opened_grows rules room me s finds Spent = found_more s finds
+opened_grows rules room me drawn s finds (NotWritten why) = found_more s finds
+opened_grows rules room me drawn s finds NoPlayer = same_grows s (away s s.journal s.pending) refl
+opened_grows rules room me drawn s finds NoMemory = same_grows s (away s s.journal s.pending) refl
+opened_grows rules room me drawn s finds (NotRead why) = same_grows s (away s s.journal s.pending) refl
+opened_grows rules room me drawn s finds (Unfit error) = found_more s finds
+opened_grows rules room me drawn s finds Spent = found_more s finds
 
 after_grows : (rules : Rules) (room me : ℕ) (s : State) (deed : Deed) → Grows s (after rules room me s deed).state
 after_grows rules room me s (Does call on_disk) = step_grows rules me s call on_disk
-after_grows rules room me s (Opens finds opening) = opened_grows rules room me s finds opening
+after_grows rules room me s (Opens finds drawn opening) = opened_grows rules room me drawn s finds opening
 after_grows rules room me s Closes = same_grows s (away s s.journal s.pending) refl
 after_grows rules room me s (Stops call on_disk leaves) =
     let t : State = (step rules me s call on_disk).state in
     grows_then s t (crashed t leaves) (step_grows rules me s call on_disk) (found_more t leaves)
-after_grows rules room me s (StopsOpening finds opening leaves) =
-    let t : State = (opened rules room me s (found s finds) opening).state in
-    grows_then s t (crashed t leaves) (opened_grows rules room me s finds opening) (found_more t leaves)
+after_grows rules room me s (StopsOpening finds drawn opening leaves) =
+    let t : State = (opened rules room me drawn s (found s finds) opening).state in
+    grows_then s t (crashed t leaves) (opened_grows rules room me drawn s finds opening) (found_more t leaves)
 
 done_deed_grows : (rules : Rules) (room me : ℕ) (s u : State) (deed : Deed) (answer : Option Reply) → IsDone rules room me s deed answer u → Grows s u
 done_deed_grows rules room me s u deed answer is = subst (λ (a : After). Grows s a.state) is.is (after_grows rules room me s deed)
@@ -175,7 +175,7 @@ done_held : (rules : Rules) (room me : ℕ) (s : State) (call : Call) (keeps : O
 done_held rules room me s call None on_disk game held up fits keeps = record {
   journal = held.journal;
   longer = held.longer;
-  memory = λ opened. memory_kept rules me room s.journal s.memory call game.range game.from game.to held.journal (held.memory up) fits;
+  memory = λ opened. memory_kept rules me room s.journal s.memory call game.range game.from game.to held.journal (held.memory up) fits keeps;
   settled = held.settled;
 }
 done_held rules room me s call (Some r) Works game held up fits keeps =
@@ -210,40 +210,40 @@ step_held : (rules : Rules) (room me : ℕ) (s : State) (call : Call) (on_disk :
     → IsCall call → IsHeld rules room me (step rules me s call on_disk).state
 step_held rules room me s call on_disk game held fits = mode_held rules room me s call on_disk s.mode game held refl fits
 
-opened_held : (rules : Rules) (room me : ℕ) (s : State) (journal : List Record) (opening : Opening) → IsMatch rules room me
+opened_held : (rules : Rules) (room me drawn : ℕ) (s : State) (journal : List Record) (opening : Opening) → IsMatch rules room me
     → IsHeld rules room me s → IsJournal rules me room journal
-    → MayBecome rules room me journal opening → IsHeld rules room me (opened rules room me s journal opening).state
-opened_held rules room me s journal Stands game held is may =
-    let new : Record = opening_record rules room me journal in
+    → MayDraw rules drawn → MayBecome rules room me journal opening → IsHeld rules room me (opened rules room me drawn s journal opening).state
+opened_held rules room me drawn s journal Stands game held is draws may =
+    let new : Record = opening_record rules room me drawn journal in
     let more : IsJournal rules me room (journal ++ new ∷ []) =
-    journal_more rules me room journal new is (opening_allowed rules me room journal game.range game.from game.to game.low is may.1) in
+    journal_more rules me room journal new is (opening_allowed rules me room drawn journal game.range game.from game.to game.low draws is may.1) in
     record {
       journal = more;
       longer = none_pending rules room me (journal ++ new ∷ []) more;
-      memory = λ opened. opening_memory rules me room journal game.range game.from game.to is may.1;
+      memory = λ opened. opening_memory rules me room drawn journal game.range game.from game.to game.low draws is may.1;
       settled = λ opened. refl;
     }
-opened_held rules room me s journal (NotWritten why) game held is may =
-    let new : Record = opening_record rules room me journal in
+opened_held rules room me drawn s journal (NotWritten why) game held is draws may =
+    let new : Record = opening_record rules room me drawn journal in
     away_held rules room me s journal (Some new) is
-    (journal_more rules me room journal new is (opening_allowed rules me room journal game.range game.from game.to game.low is may.1))
-opened_held rules room me s journal NoPlayer game held is may = away_held rules room me s s.journal s.pending held.journal held.longer
-opened_held rules room me s journal NoMemory game held is may = away_held rules room me s s.journal s.pending held.journal held.longer
-opened_held rules room me s journal (NotRead why) game held is may = away_held rules room me s s.journal s.pending held.journal held.longer
-opened_held rules room me s journal (Unfit error) game held is may = away_held rules room me s journal None is (none_pending rules room me journal is)
-opened_held rules room me s journal Spent game held is may = away_held rules room me s journal None is (none_pending rules room me journal is)
+    (journal_more rules me room journal new is (opening_allowed rules me room drawn journal game.range game.from game.to game.low draws is may.1))
+opened_held rules room me drawn s journal NoPlayer game held is draws may = away_held rules room me s s.journal s.pending held.journal held.longer
+opened_held rules room me drawn s journal NoMemory game held is draws may = away_held rules room me s s.journal s.pending held.journal held.longer
+opened_held rules room me drawn s journal (NotRead why) game held is draws may = away_held rules room me s s.journal s.pending held.journal held.longer
+opened_held rules room me drawn s journal (Unfit error) game held is draws may = away_held rules room me s journal None is (none_pending rules room me journal is)
+opened_held rules room me drawn s journal Spent game held is draws may = away_held rules room me s journal None is (none_pending rules room me journal is)
 
 after_held : (rules : Rules) (room me : ℕ) (s : State) (deed : Deed) → IsMatch rules room me → IsHeld rules room me s
     → MayDo rules room me s deed → IsHeld rules room me (after rules room me s deed).state
 after_held rules room me s (Does call on_disk) game held may = step_held rules room me s call on_disk game held may
-after_held rules room me s (Opens finds opening) game held may =
-    opened_held rules room me s (found s finds) opening game held (found_journal rules room me s finds held) may.1
+after_held rules room me s (Opens finds drawn opening) game held may =
+    opened_held rules room me drawn s (found s finds) opening game held (found_journal rules room me s finds held) may.1 may.2
 after_held rules room me s Closes game held may = away_held rules room me s s.journal s.pending held.journal held.longer
 after_held rules room me s (Stops call on_disk leaves) game held may =
     crash_held rules room me (step rules me s call on_disk).state leaves (step_held rules room me s call on_disk game held may)
-after_held rules room me s (StopsOpening finds opening leaves) game held may =
-    crash_held rules room me (opened rules room me s (found s finds) opening).state leaves
-    (opened_held rules room me s (found s finds) opening game held (found_journal rules room me s finds held) may.1)
+after_held rules room me s (StopsOpening finds drawn opening leaves) game held may =
+    crash_held rules room me (opened rules room me drawn s (found s finds) opening).state leaves
+    (opened_held rules room me drawn s (found s finds) opening game held (found_journal rules room me s finds held) may.1 may.2)
 
 done_deed_held : (rules : Rules) (room me : ℕ) (s u : State) (deed : Deed) (answer : Option Reply) → IsMatch rules room me
     → IsHeld rules room me s → IsDone rules room me s deed answer u → IsHeld rules room me u
@@ -350,43 +350,44 @@ step_checked : (rules : Rules) (room me : ℕ) (s : State) (call : Call) (on_dis
     → IsHeld rules room me s → AreChecked rules me s → IsCall call → AreChecked rules me (step rules me s call on_disk).state
 step_checked rules room me s call on_disk game held are fits = mode_checked rules room me s call on_disk s.mode game held are refl fits
 
-opening_checked : (rules : Rules) (room me : ℕ) (journal : List Record) → IsMatch rules room me → IsJournal rules me room journal
-    → epoch journal < last_epoch → HasTrueChecks rules me journal → HasTrueChecks rules me (journal ++ opening_record rules room me journal ∷ [])
-opening_checked rules room me journal game is few are =
-    opening_stays rules me room journal game.range game.from game.to game.low is few are.last
+opening_checked : (rules : Rules) (room me drawn : ℕ) (journal : List Record) → IsMatch rules room me → MayDraw rules drawn
+    → IsJournal rules me room journal
+    → epoch journal < last_epoch → HasTrueChecks rules me journal → HasTrueChecks rules me (journal ++ opening_record rules room me drawn journal ∷ [])
+opening_checked rules room me drawn journal game draws is few are =
+    opening_stays rules me room drawn journal game.range game.from game.to game.low draws is few are.last
 
-opened_checked : (rules : Rules) (room me : ℕ) (s : State) (journal : List Record) (opening : Opening) → IsMatch rules room me
+opened_checked : (rules : Rules) (room me drawn : ℕ) (s : State) (journal : List Record) (opening : Opening) → IsMatch rules room me
     → AreChecked rules me s → IsJournal rules me room journal → HasTrueChecks rules me journal
-    → MayBecome rules room me journal opening → AreChecked rules me (opened rules room me s journal opening).state
-opened_checked rules room me s journal Stands game was is are may =
-    let more = opening_checked rules room me journal game is may.1 are in
-    record { journal = more; longer = none_checked rules me (journal ++ opening_record rules room me journal ∷ []) more }
-opened_checked rules room me s journal (NotWritten why) game was is are may =
-    away_checked rules me s journal (Some (opening_record rules room me journal)) are (opening_checked rules room me journal game is may.1 are)
-opened_checked rules room me s journal NoPlayer game was is are may = away_checked rules me s s.journal s.pending was.journal was.longer
-opened_checked rules room me s journal NoMemory game was is are may = away_checked rules me s s.journal s.pending was.journal was.longer
-opened_checked rules room me s journal (NotRead why) game was is are may = away_checked rules me s s.journal s.pending was.journal was.longer
-opened_checked rules room me s journal (Unfit error) game was is are may =
+    → MayDraw rules drawn → MayBecome rules room me journal opening → AreChecked rules me (opened rules room me drawn s journal opening).state
+opened_checked rules room me drawn s journal Stands game was is are draws may =
+    let more = opening_checked rules room me drawn journal game draws is may.1 are in
+    record { journal = more; longer = none_checked rules me (journal ++ opening_record rules room me drawn journal ∷ []) more }
+opened_checked rules room me drawn s journal (NotWritten why) game was is are draws may =
+    away_checked rules me s journal (Some (opening_record rules room me drawn journal)) are (opening_checked rules room me drawn journal game draws is may.1 are)
+opened_checked rules room me drawn s journal NoPlayer game was is are draws may = away_checked rules me s s.journal s.pending was.journal was.longer
+opened_checked rules room me drawn s journal NoMemory game was is are draws may = away_checked rules me s s.journal s.pending was.journal was.longer
+opened_checked rules room me drawn s journal (NotRead why) game was is are draws may = away_checked rules me s s.journal s.pending was.journal was.longer
+opened_checked rules room me drawn s journal (Unfit error) game was is are draws may =
     away_checked rules me s journal None are (none_checked rules me journal are)
-opened_checked rules room me s journal Spent game was is are may = away_checked rules me s journal None are (none_checked rules me journal are)
+opened_checked rules room me drawn s journal Spent game was is are draws may = away_checked rules me s journal None are (none_checked rules me journal are)
 
-opens_checked : (rules : Rules) (room me : ℕ) (s : State) (finds : Bool) (opening : Opening) → IsMatch rules room me
-    → IsHeld rules room me s → AreChecked rules me s → MayBecome rules room me (found s finds) opening
-    → AreChecked rules me (opened rules room me s (found s finds) opening).state
-opens_checked rules room me s finds opening game held are may =
-    opened_checked rules room me s (found s finds) opening game are (found_journal rules room me s finds held)
-    (found_checked rules me s finds are) may
+opens_checked : (rules : Rules) (room me drawn : ℕ) (s : State) (finds : Bool) (opening : Opening) → IsMatch rules room me
+    → IsHeld rules room me s → AreChecked rules me s → MayDraw rules drawn → MayBecome rules room me (found s finds) opening
+    → AreChecked rules me (opened rules room me drawn s (found s finds) opening).state
+opens_checked rules room me drawn s finds opening game held are draws may =
+    opened_checked rules room me drawn s (found s finds) opening game are (found_journal rules room me s finds held)
+    (found_checked rules me s finds are) draws may
 
 after_checked : (rules : Rules) (room me : ℕ) (s : State) (deed : Deed) → IsMatch rules room me → IsHeld rules room me s
     → AreChecked rules me s → MayDo rules room me s deed → AreChecked rules me (after rules room me s deed).state
 after_checked rules room me s (Does call on_disk) game held are may = step_checked rules room me s call on_disk game held are may
-after_checked rules room me s (Opens finds opening) game held are may = opens_checked rules room me s finds opening game held are may.1
+after_checked rules room me s (Opens finds drawn opening) game held are may = opens_checked rules room me drawn s finds opening game held are may.1 may.2
 after_checked rules room me s Closes game held are may = away_checked rules me s s.journal s.pending are.journal are.longer
 after_checked rules room me s (Stops call on_disk leaves) game held are may =
     crash_checked rules me (step rules me s call on_disk).state leaves (step_checked rules room me s call on_disk game held are may)
-after_checked rules room me s (StopsOpening finds opening leaves) game held are may =
-    crash_checked rules me (opened rules room me s (found s finds) opening).state leaves
-    (opens_checked rules room me s finds opening game held are may.1)
+after_checked rules room me s (StopsOpening finds drawn opening leaves) game held are may =
+    crash_checked rules me (opened rules room me drawn s (found s finds) opening).state leaves
+    (opens_checked rules room me drawn s finds opening game held are may.1 may.2)
 
 done_deed_checked : (rules : Rules) (room me : ℕ) (s u : State) (deed : Deed) (answer : Option Reply) → IsMatch rules room me
     → IsHeld rules room me s → AreChecked rules me s → IsDone rules room me s deed answer u → AreChecked rules me u
@@ -425,7 +426,7 @@ reached_tells rules room me s range from to low reached =
 -- ---- what was said stays true
 
 disk_says_nothing : (call : Call) (why : DiskError) (packet : Packet) → refused_by_disk call why ≢ Said (Ok packet)
-disk_says_nothing (states.Tick keys) why packet = λ e. cc e
+disk_says_nothing (states.Tick input) why packet = λ e. cc e
 disk_says_nothing (states.Deliver told) why packet = λ e. cc e
 disk_says_nothing (states.Say to what) why packet = λ e. cc e
 disk_says_nothing (states.Show watcher) why packet = λ e. cc e
@@ -434,7 +435,7 @@ disk_says_nothing (states.Decide leaver) why packet = λ e. cc e
 disk_says_nothing states.Checkpoint why packet = λ e. cc e
 
 down_says_nothing : (call : Call) (packet : Packet) → when_down call ≢ Said (Ok packet)
-down_says_nothing (states.Tick keys) packet = λ e. cc e
+down_says_nothing (states.Tick input) packet = λ e. cc e
 down_says_nothing (states.Deliver told) packet = λ e. cc e
 down_says_nothing (states.Say to what) packet = λ e. cc e
 down_says_nothing (states.Show watcher) packet = λ e. cc e
@@ -464,26 +465,26 @@ mode_says rules room me s call packet Open on_disk game held are up fits said =
 mode_says rules room me s call packet Down on_disk game held are down fits said = absurd (down_says_nothing call packet said)
 mode_says rules room me s call packet Away on_disk game held are gone fits said = absurd (down_says_nothing call packet said)
 
-opened_says_nothing : (rules : Rules) (room me : ℕ) (s : State) (journal : List Record) (opening : Opening) (packet : Packet)
-    → (opened rules room me s journal opening).reply ≢ Said (Ok packet)
-opened_says_nothing rules room me s journal Stands packet = λ e. cc e
-opened_says_nothing rules room me s journal (NotWritten why) packet = λ e. cc e
-opened_says_nothing rules room me s journal NoPlayer packet = λ e. cc e
-opened_says_nothing rules room me s journal NoMemory packet = λ e. cc e
-opened_says_nothing rules room me s journal (NotRead why) packet = λ e. cc e
-opened_says_nothing rules room me s journal (Unfit error) packet = λ e. cc e
-opened_says_nothing rules room me s journal Spent packet = λ e. cc e
+opened_says_nothing : (rules : Rules) (room me drawn : ℕ) (s : State) (journal : List Record) (opening : Opening) (packet : Packet)
+    → (opened rules room me drawn s journal opening).reply ≢ Said (Ok packet)
+opened_says_nothing rules room me drawn s journal Stands packet = λ e. cc e
+opened_says_nothing rules room me drawn s journal (NotWritten why) packet = λ e. cc e
+opened_says_nothing rules room me drawn s journal NoPlayer packet = λ e. cc e
+opened_says_nothing rules room me drawn s journal NoMemory packet = λ e. cc e
+opened_says_nothing rules room me drawn s journal (NotRead why) packet = λ e. cc e
+opened_says_nothing rules room me drawn s journal (Unfit error) packet = λ e. cc e
+opened_says_nothing rules room me drawn s journal Spent packet = λ e. cc e
 
 after_says : (rules : Rules) (room me : ℕ) (s : State) (deed : Deed) (packet : Packet) → IsMatch rules room me → IsHeld rules room me s
     → (CarriesMark packet.message → AreChecked rules me s) → MayDo rules room me s deed
     → (after rules room me s deed).answer ≡ Some (Said (Ok packet)) → IsTrue rules me s.journal packet
 after_says rules room me s (Does call on_disk) packet game held are may said =
     mode_says rules room me s call packet s.mode on_disk game held are refl may cc
-after_says rules room me s (Opens finds opening) packet game held are may said =
-    absurd (opened_says_nothing rules room me s (found s finds) opening packet cc)
+after_says rules room me s (Opens finds drawn opening) packet game held are may said =
+    absurd (opened_says_nothing rules room me drawn s (found s finds) opening packet cc)
 after_says rules room me s Closes packet game held are may said = absurd cc
 after_says rules room me s (Stops call on_disk leaves) packet game held are may said = absurd cc
-after_says rules room me s (StopsOpening finds opening leaves) packet game held are may said = absurd cc
+after_says rules room me s (StopsOpening finds drawn opening leaves) packet game held are may said = absurd cc
 
 -- what is true at one moment is true at each later one
 stays_true : (rules : Rules) (room me : ℕ) (s t : State) (packet : Packet) → IsMatch rules room me → Grows s t → IsHeld rules room me t
@@ -548,18 +549,18 @@ run_keeps_rows rules room me n s t deeds answers range from to low lawful run wi
 -- ---- what a crash leaves on a disk
 
 -- a crash inside a call leaves what a stop in a run finds
-inside_done : (s : State) (call : Call) (o : Outcome) (keeps : Option Record) (image : List ℕ)
-    → KeepsWithOrWithout s.journal (or_pending keeps s.pending) image
-    → (on_disk : DiskOutcome) × (leaves : Bool) × Keeps (found (done s call o keeps on_disk).state leaves) image
-inside_done s call o None image = ⊎_elim (λ without. (Works, false, without)) (λ with. (Works, true, with))
-inside_done s call o (Some r) image = ⊎_elim (λ without. (Refuses Failed, false, without)) (λ with. (Refuses Failed, true, with))
+inside_done : (width : ℕ) (s : State) (call : Call) (o : Outcome) (keeps : Option Record) (image : List ℕ)
+    → KeepsWithOrWithout width s.journal (or_pending keeps s.pending) image
+    → (on_disk : DiskOutcome) × (leaves : Bool) × Keeps width (found (done s call o keeps on_disk).state leaves) image
+inside_done width s call o None image = ⊎_elim (λ without. (Works, false, without)) (λ with. (Works, true, with))
+inside_done width s call o (Some r) image = ⊎_elim (λ without. (Refuses Failed, false, without)) (λ with. (Refuses Failed, true, with))
 
-inside_mode : (s : State) (call : Call) (o : Outcome) (mode : Mode) (image : List ℕ)
-    → KeepsWithOrWithout s.journal (or_pending (added_at mode o.keeps) s.pending) image
-    → (on_disk : DiskOutcome) × (leaves : Bool) × Keeps (found (at_mode s call o mode on_disk).state leaves) image
-inside_mode s call o Open image = inside_done s call o o.keeps image
-inside_mode s call o Down image = ⊎_elim (λ without. (Works, false, without)) (λ with. (Works, true, with))
-inside_mode s call o Away image = ⊎_elim (λ without. (Works, false, without)) (λ with. (Works, true, with))
+inside_mode : (width : ℕ) (s : State) (call : Call) (o : Outcome) (mode : Mode) (image : List ℕ)
+    → KeepsWithOrWithout width s.journal (or_pending (added_at mode o.keeps) s.pending) image
+    → (on_disk : DiskOutcome) × (leaves : Bool) × Keeps width (found (at_mode s call o mode on_disk).state leaves) image
+inside_mode width s call o Open image = inside_done width s call o o.keeps image
+inside_mode width s call o Down image = ⊎_elim (λ without. (Works, false, without)) (λ with. (Works, true, with))
+inside_mode width s call o Away image = ⊎_elim (λ without. (Works, false, without)) (λ with. (Works, true, with))
 
 module _ {D : Type 0} where
   -- calls are deeds
@@ -575,16 +576,16 @@ module _ {D : Type 0} where
   sound_lawful g p sound = record { journal = sound.found_is; memory = λ opened. sound.memory; settled = sound.none_pending }
 
   pub inside_call : (p : PeerValue D) (call : Call) (image : List ℕ) → MayLeave p call image
-      → (on_disk : DiskOutcome) × (leaves : Bool) × Keeps (found (step p.rules p.me p.state call on_disk).state leaves) image
-  inside_call p call image left = inside_mode p.state call
+      → (on_disk : DiskOutcome) × (leaves : Bool) × Keeps p.rules.width (found (step p.rules p.me p.state call on_disk).state leaves) image
+  inside_call p call image left = inside_mode p.rules.width p.state call
       (outcome p.rules (told_of p.rules p.me p.state.journal) (known_of p.rules p.me p.state.journal) p.state.memory call) p.state.mode image left
 
   pub left_bodies : (g : Ghosts D) (p : PeerValue D) (image : List ℕ) → IsSound g p → g.may_leave p.disk image
-      → (finds : Bool) × Keeps (found p.state finds) image
+      → (finds : Bool) × Keeps p.rules.width (found p.state finds) image
   left_bodies g p image sound left = ⊎_elim (λ without. (false, without)) (λ with. (true, with)) (sound.leaves image left)
 
   pub left_records : (g : Ghosts D) (p : PeerValue D) (image : List ℕ) → IsSound g p → g.may_leave p.disk image
-      → (finds : Bool) × (records_of (kept image) ≡ found p.state finds)
+      → (finds : Bool) × (records_of p.rules.width (kept image) ≡ found p.state finds)
   left_records g p image sound left =
       let (finds, keeps) = left_bodies g p image sound left in
-      (finds, ap records_of keeps ∙ journal_back p.rules p.me p.room (found p.state finds) (sound.found_is finds))
+      (finds, ap (records_of p.rules.width) keeps ∙ journal_back p.rules p.me p.room (found p.state finds) (sound.found_is finds))

@@ -4,10 +4,13 @@ use Rattle.std.proofs.Common.{Some, None, Ok, Err, refl, sym, ap, subst, ◌∙�
 use Rattle.std.specs.Prelude.{◌*◌, ◌==◌, ◌||◌, not, nat_le, is_none, replicate, unwrap_or}
 use Rattle.std.proofs.lemmas.Bool.{cases_lt, cases_eq, ne_eqb, eqb-true, eqb-false, leb-true, not-false, or_parts, and_parts, both_ways, eq-eqb}
 use Rattle.std.proofs.lemmas.List.{length-drop, get_or_past}
-use Rattle.c8_game.specs.Rules.{Rules, AreInRange}
-use Rattle.c8_wire.specs.Sizes.{longest_run, most_rows}
+use Rattle.c8_game.specs.Rules.{Rules}
+use Rattle.c8_wire.specs.Sizes.{most_rows}
 use Rattle.c8_wire.specs.Carried.{fits_in}
+use Rattle.c8_wire.specs.Format.{has_lives}
 use Rattle.c8_wire.specs.Packet.{Packet}
+use Rattle.c8_hand.specs.Links.{MetValue, meeting}
+use Rattle.c8_news.specs.declared.news.Signs.{Signs}
 use Rattle.c8_known.specs.Journal as journals
 use Rattle.c8_known.specs.Journal.{Record, Head, Epoch, Own, Got, held, count, has_freeze}
 use Rattle.c8_known.specs.Known.{PlayerValue, KnownValue, nobody, player_in, count_in, is_frozen_of, is_frozen_in, is_player, known_of}
@@ -22,22 +25,22 @@ use Rattle.c8_digest.specs.Marks.{mark_step, newest_of}
 use Rattle.c8_record.specs.Checks.{begun_at}
 use Rattle.c8_roll.specs.Roll.{mark_after}
 use Rattle.c8_roll.specs.checked.RollLaws.{newest_up_to, marks_on_the_way}
-use Rattle.c8_window.specs.Window.{acked_of, pending_of}
+use Rattle.c8_window.specs.Window.{acked_of, most_pending, pending_of}
 use Rattle.c8_round.specs.Round.{owed, answer_from}
-use Rattle.c8_record.specs.Allowed.{IsJournal, IsOrderly}
-use Rattle.c8_record.specs.checked.JournalLaws.{of_game, journal_known}
-use Rattle.c8_record.specs.checked.LeaverLaws.{journal_orderly}
+use Rattle.c8_record.specs.Allowed.{IsOrderly}
+use Rattle.c8_record.specs.checked.JournalLaws.{of_game}
 use Rattle.c8_peer.specs.State.{Memory, Call, Tick, Deliver, Say, Show, Leave, Decide, Checkpoint, Saying, Hello, Welcome, Data, Freeze}
-use Rattle.c8_peer.specs.State.{Frozen, Cut, Said, Outcome, seen_by}
+use Rattle.c8_peer.specs.State.{Frozen, Cut, Pass, RefusedLife, Said, Outcome, seen_by}
 use Rattle.c8_peer.specs.Told.{Told, told_of}
-use Rattle.c8_peer.specs.Saying.{is_not_mine, lacks_record, lacks_link, run_from, newest_mark, cut_length, message, packet, say, rows_for}
-use Rattle.c8_peer.specs.Saying.{show_packet, show}
+use Rattle.c8_peer.specs.Hearing.{met}
+use Rattle.c8_peer.specs.Saying.{is_not_mine, lacks_record, lacks_link, run_from, passed_from, newest_mark, cut_length, message, packet}
+use Rattle.c8_peer.specs.Saying.{say, rows_for, show_packet, show}
 use Rattle.c8_peer.specs.Steps.{outcome}
-use Rattle.c8_peer.specs.Truth.{IsTrueMark, IsFrozenAt, IsTrueMessage, IsTrue, CarriesMark}
+use Rattle.c8_peer.specs.Truth.{IsTrueMark, IsFrozenAt, IsTrueMessage, CarriesMark}
 use Rattle.c8_peer.specs.TrueChecks.{HasTrueChecks}
 use Rattle.c8_peer.specs.checked.TruthLaws.{count_rises}
-use Rattle.c8_peer.specs.Lawful.{IsMemory, IsCall}
-use Rattle.c8_peer.proofs.MemoryLemmas.{unless, tick_is, leave_is, decide_is, checkpoint_is, deliver_is, no_packet_is}
+use Rattle.c8_peer.specs.Lawful.{IsMemory}
+use Rattle.c8_peer.specs.checked.OutcomeLemmas.{unless, tick_is, leave_is, decide_is, checkpoint_is, deliver_is, no_packet_is}
 use Rattle.std.proofs.lemmas.List.FromFn.{length-map-range_with_len}
 
 -- ---- the judgement of a saying
@@ -48,8 +51,8 @@ pub record IsSaid (rules : Rules) (t : Told) (k : KnownValue) (m : Memory) (p : 
   pub what : Saying
   pub apart : to ≢ k.me
   pub plays : Plays k to
-  pub mine : is_not_mine k to what ≡ false
-  pub has : lacks_record k what ≡ false
+  pub mine : is_not_mine rules.wire k to what ≡ false
+  pub has : lacks_record k m to what ≡ false
   pub is : p ≡ packet rules t k m to what
 
 -- Player one was asked for rows for a watcher.
@@ -73,8 +76,8 @@ unfolding say
 say_said rules t k m to what p =
     unless (Tells rules t k m p) (player_in k k.me).leaving _ _ (λ e. absurd cc) (λ stays.
     unless (Tells rules t k m p) (to == k.me || not (is_player k to)) _ _ (λ e. absurd cc) (λ player.
-    unless (Tells rules t k m p) (is_not_mine k to what) _ _ (λ e. absurd cc) (λ mine.
-    unless (Tells rules t k m p) (lacks_record k what) _ _ (λ e. absurd cc) (λ has.
+    unless (Tells rules t k m p) (is_not_mine rules.wire k to what) _ _ (λ e. absurd cc) (λ mine.
+    unless (Tells rules t k m p) (lacks_record k m to what) _ _ (λ e. absurd cc) (λ has.
     unless (Tells rules t k m p) (lacks_link m to what) _ _ (λ e. absurd cc) (λ link e.
     let other = or_parts (to == k.me) (not (is_player k to)) player in
     record { to = to; what = what; apart = eqb-false to k.me other.0; plays = plays_of k to other.1; mine = mine; has = has; is = cc })))))
@@ -87,24 +90,31 @@ show_said k m watcher p said =
       | inr other ↦ let told = rw (ne_eqb k.me 1 other) at said in absurd cc
     ]
 
+met_silent : (rules : Rules) (t : Told) (k : KnownValue) (m : Memory) (p : Packet) (left : Memory) (o : Option MetValue)
+    → Tells rules t k m p (met left o)
+met_silent rules t k m p left None = λ e. absurd cc
+met_silent rules t k m p left (Some life) = λ e. absurd cc
+
 -- only a saying is answered with a packet
 pub what_is_said : (rules : Rules) (t : Told) (k : KnownValue) (m : Memory) (call : Call) (p : Packet)
     → (outcome rules t k m call).reply ≡ Said (Ok p) → IsSaid rules t k m p ⊎ IsShown k m call p
-what_is_said rules t k m (Tick keys) p said = inl (tick_is (Tells rules t k m p) rules k m keys (λ answer keeps e. absurd cc) said)
-what_is_said rules t k m (Deliver (Err error)) p said = inl (no_packet_is (Tells rules t k m p) rules t k m error (λ answer keeps e. absurd cc) said)
+what_is_said rules t k m (Tick input) p said = inl (tick_is (Tells rules t k m p) rules k m input (λ answer keeps none e. absurd cc) said)
+what_is_said rules t k m (Deliver (Err error)) p said = inl (no_packet_is (Tells rules t k m p) rules t k m error (λ answer keeps none e. absurd cc) said)
 what_is_said rules t k m (Deliver (Ok came)) p said =
     inl (deliver_is (Tells rules t k m p) rules t k m came (record {
-      rest = λ chair stayer alarm answer keeps e. absurd cc;
-      acks = λ n few answer keeps e. absurd cc;
-      links = λ answer keeps e. absurd cc;
-      both = λ n few answer keeps e. absurd cc;
-      seen = λ n few answer keeps e. absurd cc;
+      rest = λ chair stayer alarm answer keeps none e. absurd cc;
+      acks = λ n news few answer keeps none e. absurd cc;
+      links = λ admitted. met_silent rules t k m p _ (meeting m.links came.head);
+      both = λ n few admitted. met_silent rules t k m p _ (meeting m.links came.head);
+      seen = λ n few answer keeps none e. absurd cc;
+      shun = λ answer keeps none e. absurd cc;
+      word = λ w refused answer keeps none e. absurd cc;
     }) said)
 what_is_said rules t k m (Say to what) p said = inl (say_said rules t k m to what p said)
 what_is_said rules t k m (Show watcher) p said = inr (show_said k m watcher p said)
-what_is_said rules t k m (Leave leaver) p said = inl (leave_is (Tells rules t k m p) k m leaver (λ answer keeps e. absurd cc) said)
-what_is_said rules t k m (Decide leaver) p said = inl (decide_is (Tells rules t k m p) k m leaver (λ answer keeps e. absurd cc) said)
-what_is_said rules t k m Checkpoint p said = inl (checkpoint_is (Tells rules t k m p) t k m (λ answer keeps e. absurd cc) said)
+what_is_said rules t k m (Leave leaver) p said = inl (leave_is (Tells rules t k m p) k m leaver (λ answer keeps none e. absurd cc) said)
+what_is_said rules t k m (Decide leaver) p said = inl (decide_is (Tells rules t k m p) k m leaver (λ answer keeps none e. absurd cc) said)
+what_is_said rules t k m Checkpoint p said = inl (checkpoint_is (Tells rules t k m p) t k m (λ answer keeps none e. absurd cc) said)
 
 -- ---- leavers
 
@@ -153,7 +163,7 @@ later q r journal at = record { before = r ∷ at.before; rest = at.rest; is = a
 splits : (q : ℕ) (journal : List Record) → has_freeze q journal ≡ true → Splits q journal
 unfolding has_freeze
 splits q [] is = absurd cc
-splits q (Head player form id room ∷ journal) is = later q (Head player form id room) journal (splits q journal is)
+splits q (Head player form id room life ∷ journal) is = later q (Head player form id room life) journal (splits q journal is)
 splits q (Epoch player number form ∷ journal) is = later q (Epoch player number form) journal (splits q journal is)
 splits q (Own player start word ∷ journal) is = later q (Own player start word) journal (splits q journal is)
 splits q (Got player start words ∷ journal) is = later q (Got player start words) journal (splits q journal is)
@@ -166,6 +176,7 @@ splits q (journals.Leave player ∷ journal) is = later q (journals.Leave player
 splits q (journals.Cut player length start words ∷ journal) is = later q (journals.Cut player length start words) journal (splits q journal is)
 splits q (journals.State player frames piece bytes ∷ journal) is = later q (journals.State player frames piece bytes) journal (splits q journal is)
 splits q (journals.Check player frames digest ∷ journal) is = later q (journals.Check player frames digest) journal (splits q journal is)
+splits q (journals.Met player life ∷ journal) is = later q (journals.Met player life) journal (splits q journal is)
 
 frozen_at : (rules : Rules) (q : ℕ) (journal : List Record) (n : ℕ) → has_freeze q journal ≡ true → n ≡ count rules q journal
     → IsFrozenAt rules q n journal
@@ -187,7 +198,7 @@ said_is rules me q journal plays =
     let within = plays.in_game in
     player_known rules me q journal plays.from_one (omega (arith, within, players_known rules me journal))
 
-count_is : (rules : Rules) (me q : ℕ) (journal : List Record) → Plays (known_of rules me journal) q
+pub count_is : (rules : Rules) (me q : ℕ) (journal : List Record) → Plays (known_of rules me journal) q
     → count_in (known_of rules me journal) q ≡ count rules q journal
 count_is rules me q journal plays = ap (λ (p : PlayerValue). length p.held) (said_is rules me q journal plays)
 
@@ -236,17 +247,17 @@ mark_true rules me journal true_checks =
     subst (λ (newest : FrameMark). IsTrueMark rules me journal newest.frame newest.mark) (sym (newest_is rules me journal true_checks))
     (record { steps = confirmed (known_of rules me journal) / mark_step; at = refl; confirmed = omega arith; is = refl })
 
-data_true : (rules : Rules) (me : ℕ) (journal : List Record) (m : Memory) (to : ℕ) → HasTrueChecks rules me journal
+data_true : (rules : Rules) (me : ℕ) (journal : List Record) (m : Memory) (to : ℕ) (signs : Signs) → HasTrueChecks rules me journal
     → IsKnown (known_of rules me journal) → acked_of m.acks to ≤ count rules me journal → Plays (known_of rules me journal) to
-    → TrueOf rules me journal m to Data
-data_true rules me journal m to true_checks known acked plays =
+    → TrueOf rules me journal m to (Data signs)
+data_true rules me journal m to signs true_checks known acked plays =
     let k : KnownValue = known_of rules me journal in
     let own : (player_in k k.me).held ≡ held rules me journal =
     ap (λ (p : PlayerValue). p.held) (said_is rules me k.me journal known.me)
     ∙ ap (λ (q : ℕ). held rules q journal) (own_player rules me journal) in (
       omega (arith, count_is rules me to journal plays),
-      stands_less (acked_of m.acks to) (fits_in rules.wire (pending_of m.acks k to)) (pending_of m.acks k to) (held rules me journal)
-          (stands_in (player_in k k.me).held (held rules me journal) longest_run (acked_of m.acks to) own
+      stands_less (acked_of m.acks to) (fits_in rules.wire k.width (pending_of m.acks k to)) (pending_of m.acks k to) (held rules me journal)
+          (stands_in (player_in k k.me).held (held rules me journal) most_pending (acked_of m.acks to) own
           (omega (arith, acked, ap (λ (xs : List ℕ). length xs) own))),
       mark_true rules me journal true_checks,
     )
@@ -259,11 +270,12 @@ run_stands : (rules : Rules) (me q start : ℕ) (journal : List Record) → Play
     → start ≤ count_in (known_of rules me journal) q → Stands start (run_from rules (known_of rules me journal) q start) (held rules q journal)
 run_stands rules me q start journal plays from =
     stands_in (player_in (known_of rules me journal) q).held (held rules q journal)
-    (fits_in rules.wire (drop start (player_in (known_of rules me journal) q).held)) start
+    (fits_in rules.wire (known_of rules me journal).width (drop start (player_in (known_of rules me journal) q).held)) start
     (ap (λ (p : PlayerValue). p.held) (said_is rules me q journal plays)) from
 
 freeze_true : (rules : Rules) (me : ℕ) (journal : List Record) (m : Memory) (to leaver : ℕ) → IsOrderly (known_of rules me journal)
-    → is_not_mine (known_of rules me journal) to (Freeze leaver) ≡ false → lacks_record (known_of rules me journal) (Freeze leaver) ≡ false
+    → is_not_mine rules.wire (known_of rules me journal) to (Freeze leaver) ≡ false
+    → lacks_record (known_of rules me journal) m to (Freeze leaver) ≡ false
     → TrueOf rules me journal m to (Freeze leaver)
 freeze_true rules me journal m to leaver orderly mine has =
     let k : KnownValue = known_of rules me journal in
@@ -276,7 +288,7 @@ freeze_true rules me journal m to leaver orderly mine has =
     )
 
 frozen_true : (rules : Rules) (me : ℕ) (journal : List Record) (m : Memory) (to leaver : ℕ) → IsOrderly (known_of rules me journal)
-    → lacks_record (known_of rules me journal) (Frozen leaver) ≡ false → TrueOf rules me journal m to (Frozen leaver)
+    → lacks_record (known_of rules me journal) m to (Frozen leaver) ≡ false → TrueOf rules me journal m to (Frozen leaver)
 frozen_true rules me journal m to leaver orderly has =
     let k : KnownValue = known_of rules me journal in
     let frozen : (player_in k leaver).frozen ≡ true = not-false (player_in k leaver).frozen has in
@@ -294,7 +306,8 @@ some_cut (Some K) has = refl
 
 cut_true : (rules : Rules) (me : ℕ) (journal : List Record) (m : Memory) (to leaver : ℕ) → IsOrderly (known_of rules me journal)
     → IsKnown (known_of rules me journal)
-    → is_not_mine (known_of rules me journal) to (Cut leaver) ≡ false → lacks_record (known_of rules me journal) (Cut leaver) ≡ false
+    → is_not_mine rules.wire (known_of rules me journal) to (Cut leaver) ≡ false
+    → lacks_record (known_of rules me journal) m to (Cut leaver) ≡ false
     → TrueOf rules me journal m to (Cut leaver)
 cut_true rules me journal m to leaver orderly known mine has =
     let k : KnownValue = known_of rules me journal in
@@ -306,24 +319,53 @@ cut_true rules me journal m to leaver orderly known mine has =
       run_stands rules me leaver (owed m.chair k to leaver) journal plays (omega arith),
     )
 
-message_true : (rules : Rules) (me : ℕ) (journal : List Record) (m : Memory) (to : ℕ) (what : Saying)
+second_or : (a b : Bool) → (a || b) ≡ false → b ≡ false
+second_or true b is = absurd cc
+second_or false b is = is
+
+first_or : (a b : Bool) → (a || b) ≡ false → a ≡ false
+first_or true b is = absurd cc
+first_or false b is = refl
+
+pub passed_plays : (k : KnownValue) (m : Memory) (to player : ℕ) → lacks_record k m to (Pass player) ≡ false → Plays k player
+passed_plays k m to player has = plays_of k player (first_or (not (is_player k player)) (player_in k player).leaving has)
+
+pass_true : (rules : Rules) (me : ℕ) (journal : List Record) (m : Memory) (to player : ℕ)
+    → is_not_mine rules.wire (known_of rules me journal) to (Pass player) ≡ false
+    → lacks_record (known_of rules me journal) m to (Pass player) ≡ false
+    → TrueOf rules me journal m to (Pass player)
+pass_true rules me journal m to player mine has =
+    let k : KnownValue = known_of rules me journal in
+    let plays : Plays k player = passed_plays k m to player has in
+    let chair = first_or (not (k.me == 1)) (player == 1 || to == player)
+    (second_or (not (has_lives rules.wire)) (not (k.me == 1) || (player == 1 || to == player)) mine) in
+    let one : k.me ≡ 1 = eqb-true k.me 1 (not-false (k.me == 1) chair) in (
+      sym (own_player rules me journal) ∙ one,
+      run_stands rules me player (passed_from k m to player) journal plays (omega arith),
+    )
+
+pub message_true : (rules : Rules) (me : ℕ) (journal : List Record) (m : Memory) (to : ℕ) (what : Saying)
     → (CarriesMark (message rules (told_of rules me journal) (known_of rules me journal) m to what) → HasTrueChecks rules me journal)
     → IsOrderly (known_of rules me journal) → IsKnown (known_of rules me journal) → acked_of m.acks to ≤ count rules me journal
-    → Plays (known_of rules me journal) to → is_not_mine (known_of rules me journal) to what ≡ false
-    → lacks_record (known_of rules me journal) what ≡ false → TrueOf rules me journal m to what
-message_true rules me journal m to Hello true_checks orderly known acked plays mine has = tt
-message_true rules me journal m to Welcome true_checks orderly known acked plays mine has = welcome_true rules me journal m to plays
-message_true rules me journal m to Data true_checks orderly known acked plays mine has =
-    data_true rules me journal m to (true_checks tt) known acked plays
-message_true rules me journal m to (Freeze leaver) true_checks orderly known acked plays mine has =
+    → Plays (known_of rules me journal) to → m.links.lives.mine ≡ journals.life_of journal
+    → is_not_mine rules.wire (known_of rules me journal) to what ≡ false
+    → lacks_record (known_of rules me journal) m to what ≡ false → TrueOf rules me journal m to what
+message_true rules me journal m to Hello true_checks orderly known acked plays life mine has = tt
+message_true rules me journal m to Welcome true_checks orderly known acked plays life mine has = welcome_true rules me journal m to plays
+message_true rules me journal m to (Data signs) true_checks orderly known acked plays life mine has =
+    data_true rules me journal m to signs (true_checks tt) known acked plays
+message_true rules me journal m to (Freeze leaver) true_checks orderly known acked plays life mine has =
     freeze_true rules me journal m to leaver orderly mine has
-message_true rules me journal m to (Frozen leaver) true_checks orderly known acked plays mine has =
+message_true rules me journal m to (Frozen leaver) true_checks orderly known acked plays life mine has =
     frozen_true rules me journal m to leaver orderly has
-message_true rules me journal m to (Cut leaver) true_checks orderly known acked plays mine has =
+message_true rules me journal m to (Cut leaver) true_checks orderly known acked plays life mine has =
     cut_true rules me journal m to leaver orderly known mine has
+message_true rules me journal m to (Pass player) true_checks orderly known acked plays life mine has =
+    pass_true rules me journal m to player mine has
+message_true rules me journal m to RefusedLife true_checks orderly known acked plays life mine has = λ some. life
 
 -- the rows that are shown are confirmed ones
-show_true : (rules : Rules) (me room : ℕ) (journal : List Record) (m : Memory) (watcher : ℕ) → (known_of rules me journal).me ≡ 1
+pub show_true : (rules : Rules) (me room : ℕ) (journal : List Record) (m : Memory) (watcher : ℕ) → (known_of rules me journal).me ≡ 1
     → IsMemory rules room me journal m
     → IsTrueMessage rules me watcher journal (rows_for (known_of rules me journal) m watcher)
 show_true rules me room journal m watcher one is =
@@ -331,31 +373,5 @@ show_true rules me room journal m watcher one is =
     let all : length (confirmed_rows k) ≡ confirmed k = length-map-range_with_len (row k) 0 (confirmed k) in
     let few = is.shown watcher in (
       sym (own_player rules me journal) ∙ one,
-      stands_in (confirmed_rows k) (confirmed_rows k) most_rows (seen_by m.seen watcher) refl (omega (arith, few, all)),
+      stands_in (confirmed_rows k) (confirmed_rows k) (most_rows k.width) (seen_by m.seen watcher) refl (omega (arith, few, all)),
     )
-
--- ---- all of it
-
-pub said_true : (rules : Rules) (me room : ℕ) (journal : List Record) (m : Memory)
-    (call : Call) (p : Packet)
-    → AreInRange rules → 1 ≤ me → me ≤ rules.players → IsJournal rules me room journal
-    → IsMemory rules room me journal m → IsCall call → (CarriesMark p.message → HasTrueChecks rules me journal)
-    → (outcome rules (told_of rules me journal) (known_of rules me journal) m call).reply ≡ Said (Ok p)
-    → IsTrue rules me journal p
-said_true rules me room journal m call p range from to journal_is is fits true_checks said =
-    let k : KnownValue = known_of rules me journal in
-    let known : IsKnown k = journal_known rules me room journal range from to journal_is in
-    elim (what_is_said rules (told_of rules me journal) k m call p said) [
-      | inl s ↦ subst (λ (one : Packet). IsTrue rules me journal one) (sym s.is) (record {
-        from = is.player;
-        epoch = is.epoch;
-        message = message_true rules me journal m s.to s.what
-            (subst (λ (one : Packet). CarriesMark one.message → HasTrueChecks rules me journal) s.is true_checks)
-            (journal_orderly rules me room journal journal_is) known (is.acked s.to) s.plays s.mine s.has;
-      })
-      | inr s ↦ subst (λ (one : Packet). IsTrue rules me journal one) (sym s.is) (record {
-        from = is.player;
-        epoch = is.epoch;
-        message = show_true rules me room journal m s.watcher s.one is;
-      })
-    ]

@@ -23,7 +23,7 @@ pub is_within : StayWithin → {D : Type 0} (rules : Rules) (room : ℕ) (j : Jo
     → IsPeer rules room j k m → k.ticks ≤ confirmed k + rules.window
 is_within law rules room j k m is =
     subst (λ (x : KnownValue). x.ticks ≤ confirmed x + rules.window) (sym is.known)
-    (law rules k.me room (records_of j.bodies) is.range is.from_one is.in_game is.bodies.journal)
+    (law rules k.me room (records_of rules.width j.bodies) is.range is.from_one is.in_game is.bodies.journal)
 
 pub roll_within : (rules : Rules) (from : Origin) (k : KnownValue) (v : RollValue) → v ≡ roll_since rules from k
     → k.ticks ≤ confirmed k + rules.window → IsWithinWindow v

@@ -1,8 +1,10 @@
 -- Sayings: the part of a list that a datagram carries, and that what is written is true and has a spelling.
-use Rattle.std.proofs.Common.{◌≡◌, ◌≢◌, true, ℕ, ◌-◌, List, length, take, drop, Ok, Err, refl, sym, ap, subst, ◌∙◌, arith}
+use Rattle.std.proofs.Common.{◌≡◌, ◌≢◌, true, false, Option, None, ℕ, ◌-◌, List, length, take, drop, Ok, Err, refl, sym, ap, subst, ◌∙◌, arith}
 use Rattle.std.proofs.lemmas.List.{take_all, length-drop}
 use Rattle.c8_game.specs.Rules.{Rules}
-use Rattle.c8_wire.specs.Packet.{HeadValue, Message, Packet, IsMessage, IsPacket, has_room, kind_of}
+use Rattle.c8_game.specs.declared.wire.WireVersion.{WireVersion}
+use Rattle.c8_wire.specs.Kinds.{shape_of, is_in, has_news}
+use Rattle.c8_wire.specs.Packet.{HeadValue, NewsValue, Message, Packet, IsMessage, Fits, AreNews, IsPacket, has_room, kind_of}
 use Rattle.c8_wire.specs.Spelling.{Spells}
 use Rattle.c8_wire.specs.declared.kinds.DatagramKind.TheVariants as wires
 use Rattle.c8_hand.specs.Links.{head_to}
@@ -13,7 +15,7 @@ use Rattle.c8_peer.specs.declared.kind.Kind.{Kind}
 use Rattle.c8_peer.specs.declared.kind.Kind.TheVariants as kinds
 use Rattle.c8_peer.specs.Asked.{saying_of, wire_of}
 use Rattle.c8_peer.specs.State.{Memory, Open, Saying, Say, Said, Outcome, answered, Show}
-use Rattle.c8_peer.specs.Saying.{message, packet, say, rows_for, show_packet, show}
+use Rattle.c8_peer.specs.Saying.{is_not_mine, message, news_in, packet, say, rows_for, show_packet, show}
 use Rattle.c8_peer.specs.Told.{Told, told_of}
 use Rattle.c8_peer.specs.Steps.{outcome}
 use Rattle.c8_peer.specs.Truth.{IsTrue, CarriesMark}
@@ -21,8 +23,8 @@ use Rattle.c8_peer.specs.TrueChecks.{HasTrueChecks}
 use Rattle.c8_refusals.specs.declared.error.Unsayable.TheVariants as unsayables
 use Rattle.c8_peer.specs.Peer.{PeerValue, known_by, told_by, IsStep, IsSaid}
 use Rattle.c8_peer.specs.checked.Held.{IsPeer}
-use Rattle.c8_peer.proofs.SayingLemmas.{said_true}
-use Rattle.c8_peer.proofs.SpellingLemmas.{said_spelled}
+use Rattle.c8_peer.proofs.SaidLemmas.{said_true}
+use Rattle.c8_peer.proofs.SpellingLemmas.{kind_in, said_spelled}
 use Rattle.c8_peer.proofs.PeerLemmas.{view}
 use Rattle.c8_peer.proofs.AnswerLemmas.{outcome_seen}
 use Rattle.std.proofs.lemmas.Bool.{eq-eqb, ne_eqb}
@@ -38,25 +40,31 @@ kind_said : (rules : Rules) (t : Told) (k : KnownValue) (m : Memory) (to : ℕ) 
     → kind_of (message rules t k m to (saying_of kind)) ≡ wire_of kind
 kind_said rules t k m to kinds.Hello = refl
 kind_said rules t k m to kinds.Welcome = refl
-kind_said rules t k m to kinds.Data = refl
+kind_said rules t k m to (kinds.Data signs) = refl
 kind_said rules t k m to (kinds.Freeze leaver) = refl
 kind_said rules t k m to (kinds.Frozen leaver) = refl
 kind_said rules t k m to (kinds.Cut leaver) = refl
+kind_said rules t k m to (kinds.Pass player) = refl
+kind_said rules t k m to kinds.Refused = refl
 
 -- a header and a body that are to be written
 pub record IsWritten (rules : Rules) (t : Told) (k : KnownValue) (m : Memory) (to : ℕ) (what : Saying) (head : HeadValue)
-    (body : Message) : Type 0 where
-  pub is : ◌≡◌ {A = Packet} (record { head = head; message = body }) (packet rules t k m to what)
+    (news : Option NewsValue) (body : Message) : Type 0 where
+  pub is : ◌≡◌ {A = Packet} (record { head = head; news = news; message = body }) (packet rules t k m to what)
   pub kind : head.kind ≡ kind_of body
-  pub message_is : IsMessage body
-  pub room : has_room head.version body ≡ true
+  pub news_are : AreNews (has_news head.version (shape_of head.kind).lead) news
+  pub fits : Fits head.width body
+  pub message_is : IsMessage head.width body
+  pub room : has_room head.version head.width body ≡ true
 
 -- a SHOW that is to be written
 pub record IsShowWritten (k : KnownValue) (m : Memory) (watcher : ℕ) (head : HeadValue) (body : Message) : Type 0 where
-  pub is : ◌≡◌ {A = Packet} (record { head = head; message = body }) (show_packet k m watcher)
+  pub is : ◌≡◌ {A = Packet} (record { head = head; news = None; message = body }) (show_packet k m watcher)
   pub kind : head.kind ≡ kind_of body
-  pub message_is : IsMessage body
-  pub room : has_room head.version body ≡ true
+  pub news_are : AreNews (has_news head.version (shape_of head.kind).lead) None
+  pub fits : Fits head.width body
+  pub message_is : IsMessage head.width body
+  pub room : has_room head.version head.width body ≡ true
 
 shows : (k : KnownValue) (m : Memory) (watcher : ℕ) → k.me ≡ 1 → show k m watcher ≡ answered m (Said (Ok (show_packet k m watcher)))
 unfolding show
@@ -69,27 +77,39 @@ shows_nothing k m watcher other = rw (ne_eqb k.me 1 other) refl
 module _ {D : Type 0} where
   -- what the journal of the parts tells
   abbrev told_in : Rules → JournalValue D → KnownValue → Told
-  told_in rules j k = told_of rules k.me (records_of j.bodies)
+  told_in rules j k = told_of rules k.me (records_of rules.width j.bodies)
+
+  -- a kind that this player may say is one of the version
+  pub kind_known : (rules : Rules) (room : ℕ) (j : JournalValue D) (k : KnownValue) (m : Memory) (to : ℕ) (kind : Kind) → IsPeer rules room j k m
+      → is_not_mine rules.wire k to (saying_of kind) ≡ false → is_in m.links.version (wire_of kind) ≡ true
+  kind_known rules room j k m to kind is mine =
+      let t : Told = told_in rules j k in
+      ap (λ (version : WireVersion). is_in version (wire_of kind)) is.memory.version
+      ∙ ap (is_in rules.wire) (sym (kind_said rules t k m to kind)) ∙ kind_in rules t k m to (saying_of kind) mine
 
   pub may_say : (rules : Rules) (room : ℕ) (j : JournalValue D) (k : KnownValue) (m : Memory) (to : ℕ) (kind : Kind) (head : HeadValue)
-      (body : Message) → IsPeer rules room j k m
+      (news : Option NewsValue) (body : Message) → IsPeer rules room j k m
       → say rules (told_in rules j k) k m to (saying_of kind) ≡ answered m (Said (Ok (packet rules (told_in rules j k) k m to (saying_of kind))))
-      → head ≡ head_to m.links to (wire_of kind) → body ≡ message rules (told_in rules j k) k m to (saying_of kind)
-      → IsWritten rules (told_in rules j k) k m to (saying_of kind) head body
-  may_say rules room j k m to kind head body is comes heads says =
+      → head ≡ head_to m.links to (wire_of kind) → news ≡ news_in rules.wire k to (saying_of kind)
+      → body ≡ message rules (told_in rules j k) k m to (saying_of kind)
+      → IsWritten rules (told_in rules j k) k m to (saying_of kind) head news body
+  may_say rules room j k m to kind head news body is comes heads tells says =
       let what : Saying = saying_of kind in
       let t : Told = told_in rules j k in
       let same : kind_of (message rules t k m to what) ≡ wire_of kind = kind_said rules t k m to kind in
-      let replies : (outcome rules t (known_of rules k.me (records_of j.bodies)) m (Say to what)).reply ≡ Said (Ok (packet rules t k m to what)) =
+      let replies : (outcome rules t (known_of rules k.me (records_of rules.width j.bodies)) m (Say to what)).reply
+      ≡ Said (Ok (packet rules t k m to what)) =
       subst (λ (known : KnownValue). (outcome rules t known m (Say to what)).reply ≡ Said (Ok (packet rules t k m to what))) is.known
       (ap (λ (o : Outcome). o.reply) comes) in
       let spelled : IsPacket (packet rules t k m to what) =
-      said_spelled rules k.me room (records_of j.bodies) m (Say to what) (packet rules t k m to what) is.range is.from_one is.in_game
+      said_spelled rules k.me room (records_of rules.width j.bodies) m (Say to what) (packet rules t k m to what) is.range is.from_one is.in_game
       is.bodies.journal is.memory tt replies in
       record {
-        is = λ i. record { head = (heads ∙ ap (head_to m.links to) (sym same)) i; message = says i };
+        is = λ i. record { head = (heads ∙ ap (head_to m.links to) (sym same)) i; news = tells i; message = says i };
         kind = rw (heads, says) (sym same);
-        message_is = rw says spelled.message;
+        news_are = rw (heads, tells, sym same) spelled.news;
+        fits = rw (heads, says) spelled.fits;
+        message_is = rw (heads, says) spelled.message;
         room = rw (heads, says) spelled.room;
       }
 
@@ -101,9 +121,11 @@ module _ {D : Type 0} where
       let t : Told = told_in rules j k in
       let here : outcome v.rules (told_by v) (known_by v) v.state.memory (Say to what) ≡ answered v.state.memory (Said (Ok p)) =
       outcome_seen v rules room j k m is seen (Say to what) (λ noted. answered noted (Said (Ok p))) comes in
-      let sound : (CarriesMark p.message → HasTrueChecks rules k.me (records_of j.bodies)) → IsTrue rules k.me (records_of j.bodies) p =
+      let sound : (CarriesMark p.message → HasTrueChecks rules k.me (records_of rules.width j.bodies))
+      → IsTrue rules k.me (records_of rules.width j.bodies) p =
       λ true_checks.
-      said_true rules k.me room (records_of j.bodies) m (Say to what) p is.range is.from_one is.in_game is.bodies.journal is.memory tt true_checks
+      said_true rules k.me room (records_of rules.width j.bodies) m (Say to what) p is.range is.from_one is.in_game is.bodies.journal is.memory tt
+      true_checks
       (subst (λ (known : KnownValue). (outcome rules t known m (Say to what)).reply ≡ Said (Ok p)) is.known (ap (λ (o : Outcome). o.reply) comes)) in
       record {
         packet = p;
@@ -118,16 +140,19 @@ module _ {D : Type 0} where
       → head ≡ head_to m.links watcher wires.Show → body ≡ rows_for k m watcher → IsShowWritten k m watcher head body
   may_show rules room j k m watcher head body is watches one heads rows =
       let t : Told = told_in rules j k in
-      let replies : (outcome rules t (known_of rules k.me (records_of j.bodies)) m (Show watcher)).reply ≡ Said (Ok (show_packet k m watcher)) =
+      let replies : (outcome rules t (known_of rules k.me (records_of rules.width j.bodies)) m (Show watcher)).reply
+      ≡ Said (Ok (show_packet k m watcher)) =
       subst (λ (known : KnownValue). (show known m watcher).reply ≡ Said (Ok (show_packet k m watcher))) is.known
       (ap (λ (o : Outcome). o.reply) (shows k m watcher one)) in
       let spelled : IsPacket (show_packet k m watcher) =
-      said_spelled rules k.me room (records_of j.bodies) m (Show watcher) (show_packet k m watcher) is.range is.from_one is.in_game
+      said_spelled rules k.me room (records_of rules.width j.bodies) m (Show watcher) (show_packet k m watcher) is.range is.from_one is.in_game
       is.bodies.journal is.memory watches replies in
       record {
-        is = λ i. record { head = heads i; message = rows i };
+        is = λ i. record { head = heads i; news = None; message = rows i };
         kind = rw (heads, rows) refl;
-        message_is = rw rows spelled.message;
+        news_are = rw heads spelled.news;
+        fits = rw (heads, rows) spelled.fits;
+        message_is = rw (heads, rows) spelled.message;
         room = rw (heads, rows) spelled.room;
       }
 
@@ -140,9 +165,11 @@ module _ {D : Type 0} where
       let comes = shows k m watcher one in
       let here : outcome v.rules (told_by v) (known_by v) v.state.memory (Show watcher) ≡ answered v.state.memory (Said (Ok p)) =
       outcome_seen v rules room j k m is seen (Show watcher) (λ noted. answered noted (Said (Ok p))) comes in
-      let sound : (CarriesMark p.message → HasTrueChecks rules k.me (records_of j.bodies)) → IsTrue rules k.me (records_of j.bodies) p =
+      let sound : (CarriesMark p.message → HasTrueChecks rules k.me (records_of rules.width j.bodies))
+      → IsTrue rules k.me (records_of rules.width j.bodies) p =
       λ true_checks.
-      said_true rules k.me room (records_of j.bodies) m (Show watcher) p is.range is.from_one is.in_game is.bodies.journal is.memory watches
+      said_true rules k.me room (records_of rules.width j.bodies) m (Show watcher) p is.range is.from_one is.in_game is.bodies.journal is.memory
+      watches
       true_checks
       (subst (λ (known : KnownValue). (show known m watcher).reply ≡ Said (Ok p)) is.known (ap (λ (o : Outcome). o.reply) comes)) in
       record {

@@ -1,5 +1,5 @@
 -- The calls tick, leave, decide and checkpoint. Their refusals stand in the order of judging.
-use Rattle.std.specs.Prelude.{ℕ, ◌+◌, ◌==◌, ◌||◌, not, nat_le, [], Option, Some, None, is_some, Ok, Err, if◌then◌else◌}
+use Rattle.std.specs.Prelude.{ℕ, ◌+◌, ◌^◌, ◌==◌, ◌||◌, not, nat_le, [], Option, Some, None, is_some, Ok, Err, if◌then◌else◌}
 use Rattle.c8_game.specs.Rules.{Rules}
 use Rattle.c8_known.specs.Journal as records
 use Rattle.c8_known.specs.Known.{KnownValue, player_in, count_in, is_player}
@@ -14,13 +14,14 @@ use Rattle.c8_peer.specs.declared.check.Check.TheVariants.{Piece, Done}
 use Rattle.c8_peer.specs.Told.{Told}
 use Rattle.c8_peer.specs.State.{Memory, Ticked, Left, Decided, Checked, Outcome, answered, recorded}
 
--- the own player enters a key set, for the frame of its tick plus the delay
+-- the own player enters an input of the game's width, for the frame of its tick plus the delay
 unfoldable pub tick : Rules → KnownValue → Memory → ℕ → Outcome
-tick rules k m keys =
+tick rules k m input =
     if (player_in k k.me).leaving then answered m (Ticked (Err ticks.Dropped))
     else (if nat_le rules.frames k.ticks then answered m (Ticked (Err ticks.End))
     else (if nat_le (confirmed k + rules.window) k.ticks then answered m (Ticked (Err ticks.Threshold))
-    else recorded m (Ticked (Ok tt)) (records.Own k.me (count_in k k.me) keys)))
+    else (if nat_le (256 ^ rules.width) input then answered m (Ticked (Err ticks.Wide))
+    else recorded m (Ticked (Ok tt)) (records.Own k.me (count_in k k.me) input))))
 
 -- player one drops a player
 unfoldable pub leave : KnownValue → Memory → ℕ → Outcome

@@ -4,11 +4,11 @@ use Rattle.std.specs.Prelude.{Result, Ok, Err, if◌then◌else◌}
 use Rattle.c8_game.specs.Rules.{Rules}
 use Rattle.c8_game.specs.Wire.{version_number}
 use Rattle.c8_wire.specs.declared.error.WireError.{WireError}
-use Rattle.c8_wire.specs.Packet.{HeadValue, DataMessage, FreezeMessage, LeaverMessage, Message, Packet}
+use Rattle.c8_wire.specs.Packet.{HeadValue, NewsValue, DataMessage, FreezeMessage, LeaverMessage, PassMessage, RefusedMessage, Message, Packet}
 use Rattle.c8_wire.specs.Packet as packets
 use Rattle.c8_hand.specs.declared.error.HandError.{HandError}
 use Rattle.c8_hand.specs.declared.error.HandError.TheVariants as hands
-use Rattle.c8_hand.specs.Links.{heard}
+use Rattle.c8_hand.specs.Links.{MetValue, heard, meeting, shunned, refusal_of_word, after_word}
 use Rattle.c8_hand.specs.Links as links
 use Rattle.c8_known.specs.declared.error.KnownError.{KnownError}
 use Rattle.c8_known.specs.declared.error.KnownError.TheVariants as knowns
@@ -24,6 +24,7 @@ use Rattle.c8_refusals.specs.declared.error.Refused.TheVariants as refusals
 use Rattle.c8_peer.specs.declared.heard.Heard.{Heard}
 use Rattle.c8_peer.specs.declared.heard.Heard.TheVariants as heards
 use Rattle.c8_peer.specs.Told.{Told}
+use Rattle.c8_news.specs.News.{with_more}
 use Rattle.c8_peer.specs.State.{Memory, with_seen, Delivered, Outcome, answered, recorded}
 
 abbrev pub refused : Memory → Refused → Outcome
@@ -54,21 +55,53 @@ differs_from (Some own) mark = differ own mark
 unfoldable pub is_desync : Told → DataMessage → Bool
 is_desync t d = differs_from (mark_at d.mark_frame t.marks) d.mark
 
--- From player q. The acknowledgement is kept only if nothing refuses the datagram.
-unfoldable pub hear_data : Told → KnownValue → Memory → ℕ → DataMessage → Outcome
-hear_data t k m q d =
+-- what is kept in memory of a DATA from player q: its acknowledgement and its news
+abbrev pub after_data : KnownValue → Memory → ℕ → Option NewsValue → DataMessage → Memory
+after_data k m q news d = record m { acks = acked_more m.acks q d.ack; news = with_more m.news k.me q d.ack news }
+
+-- From player q. The acknowledgement and the news are kept only if nothing refuses the datagram.
+unfoldable pub hear_data : Told → KnownValue → Memory → ℕ → Option NewsValue → DataMessage → Outcome
+hear_data t k m q news d =
     if is_from_leaver k q q then refused m (refusals.Known knowns.FromLeaver)
     else (if nat_lt (count_in k k.me) d.ack then refused m refusals.BadAck
     else unless_misfit m (misfit k q d.start d.words)
     (if is_desync t d then answered (record m { alarm = true }) (Delivered (Err refusals.Desync))
-    else got k (record m { acks = acked_more m.acks q d.ack }) q (fresh_words k q d.start d.words)))
+    else got k (after_data k m q news d) q (fresh_words k q d.start d.words)))
+
+-- ---- PASS
+
+-- Player one passes on inputs of a third player. They are judged as if that player had sent them.
+unfoldable pub hear_pass : KnownValue → Memory → ℕ → PassMessage → Outcome
+hear_pass k m q p =
+    if not (q == 1) then refused m refusals.NotChair
+    else (if p.player == k.me || not (is_player k p.player) then refused m refusals.WrongLeaver
+    else (if is_from_leaver k p.player p.player then refused m (refusals.Known knowns.FromLeaver)
+    else unless_misfit m (misfit k p.player p.start p.words) (got k m p.player (fresh_words k p.player p.start p.words))))
 
 -- ---- HELLO and WELCOME
+
+-- records a life that is met, if one is
+abbrev pub met : Memory → Option MetValue → Outcome
+met m None = taken m heards.Nothing
+met m (Some life) = recorded m (Delivered (Ok heards.Kept)) (records.Met life.player life.life)
+
+abbrev pub hear_hello : Memory → HeadValue → Outcome
+hear_hello m head = met (record m { links = heard m.links head }) (meeting m.links head)
 
 unfoldable pub hear_welcome : KnownValue → Memory → HeadValue → ℕ → Outcome
 hear_welcome k m head ack =
     if nat_lt (count_in k k.me) ack then refused m refusals.BadAck
-    else taken (record m { links = heard m.links head; acks = acked_more m.acks head.from ack }) heards.Nothing
+    else met (record m { links = heard m.links head; acks = acked_more m.acks head.from ack }) (meeting m.links head)
+
+-- ---- REFUSED
+
+-- it moves nothing but what the peer has learnt of its match
+abbrev pub learnt : Memory → HeadValue → RefusedMessage → Option HandError → Outcome
+learnt m head r None = taken (record m { links = after_word m.links head r }) heards.Nothing
+learnt m head r (Some error) = refused m (refusals.Hand error)
+
+abbrev pub hear_refused : Memory → HeadValue → RefusedMessage → Outcome
+hear_refused m head r = learnt m head r (refusal_of_word m.links head r)
 
 -- ---- the drop round
 
@@ -124,23 +157,35 @@ hear_seen k m head ack =
 -- ---- any delivery
 
 -- No player says SHOW or SEEN to another, so the links admit neither of them.
-abbrev pub hear_message : Rules → Told → KnownValue → Memory → HeadValue → Message → Outcome
-hear_message rules t k m head packets.Hello = taken (record m { links = heard m.links head }) heards.Nothing
-hear_message rules t k m head (packets.Welcome ack) = hear_welcome k m head ack
-hear_message rules t k m head (packets.Data d) = hear_data t k m head.from d
-hear_message rules t k m head (packets.Freeze f) = hear_freeze k m head.from f
-hear_message rules t k m head (packets.Frozen f) = hear_frozen k m head.from f
-hear_message rules t k m head (packets.Cut c) = hear_cut k m head.from c
-hear_message rules t k m head (packets.Show shown) = refused m (refusals.Hand hands.NotMine)
-hear_message rules t k m head (packets.Seen ack) = refused m (refusals.Hand hands.NotMine)
+abbrev pub hear_message : Rules → Told → KnownValue → Memory → HeadValue → Option NewsValue → Message → Outcome
+hear_message rules t k m head news packets.Hello = hear_hello m head
+hear_message rules t k m head news (packets.Welcome ack) = hear_welcome k m head ack
+hear_message rules t k m head news (packets.Data d) = hear_data t k m head.from news d
+hear_message rules t k m head news (packets.Freeze f) = hear_freeze k m head.from f
+hear_message rules t k m head news (packets.Frozen f) = hear_frozen k m head.from f
+hear_message rules t k m head news (packets.Cut c) = hear_cut k m head.from c
+hear_message rules t k m head news (packets.Show shown) = refused m (refusals.Hand hands.NotMine)
+hear_message rules t k m head news (packets.Seen ack) = refused m (refusals.Hand hands.NotMine)
+hear_message rules t k m head news (packets.Pass p) = hear_pass k m head.from p
+hear_message rules t k m head news (packets.Refused r) = hear_refused m head r
 
--- the datagram has another wire version than the game
+-- the datagram has another wire version, or inputs of another width, than the game
 abbrev pub is_of_other_wire : Rules → HeadValue → Bool
-is_of_other_wire rules head = not (version_number head.version == version_number rules.wire)
+is_of_other_wire rules head = not (version_number head.version == version_number rules.wire) || not (head.width == rules.width)
 
-abbrev pub unless_hand : Memory → Option HandError → Outcome → Outcome
-unless_hand m None outcome = outcome
-unless_hand m (Some error) outcome = refused m (refusals.Hand error)
+-- The memory after the links have refused a datagram. Another life of its sender is noted, so that the peer can tell it.
+abbrev pub after_refusal : Memory → HeadValue → HandError → Memory
+after_refusal m head hands.NotOpen = m
+after_refusal m head hands.Stale = m
+after_refusal m head hands.Ahead = m
+after_refusal m head hands.NotMine = m
+after_refusal m head hands.Session = m
+after_refusal m head hands.Restarted = record m { links = shunned m.links head }
+after_refusal m head hands.OtherMatch = m
+
+abbrev pub unless_hand : Memory → HeadValue → Option HandError → Outcome → Outcome
+unless_hand m head None outcome = outcome
+unless_hand m head (Some error) outcome = refused (after_refusal m head error) (refusals.Hand error)
 
 -- how many rows a SEEN acknowledges
 abbrev pub seen_in : Message → Option ℕ
@@ -152,14 +197,16 @@ seen_in (packets.Frozen f) = None
 seen_in (packets.Cut c) = None
 seen_in (packets.Show shown) = None
 seen_in (packets.Seen ack) = Some ack
+seen_in (packets.Pass p) = None
+seen_in (packets.Refused r) = None
 
 -- a SEEN of a watcher needs no link
 abbrev pub hear_from_watcher : KnownValue → Memory → HeadValue → ℕ → Outcome
-hear_from_watcher k m head ack = unless_hand m (links.refusal_of_seen m.links head) (hear_seen k m head ack)
+hear_from_watcher k m head ack = unless_hand m head (links.refusal_of_seen m.links head) (hear_seen k m head ack)
 
 abbrev pub hear_from : Rules → Told → KnownValue → Memory → Packet → Option ℕ → Outcome
 hear_from rules t k m p (Some ack) = hear_from_watcher k m p.head ack
-hear_from rules t k m p None = unless_hand m (links.refusal m.links p.head) (hear_message rules t k m p.head p.message)
+hear_from rules t k m p None = unless_hand m p.head (links.refusal m.links p.head) (hear_message rules t k m p.head p.news p.message)
 
 abbrev pub hear : Rules → Told → KnownValue → Memory → Packet → Outcome
 hear rules t k m p = if is_of_other_wire rules p.head then refused m refusals.OtherWire else hear_from rules t k m p (seen_in p.message)

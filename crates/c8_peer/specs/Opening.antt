@@ -1,10 +1,11 @@
 -- What an opening does: its record, its answer, and the state after it.
-use Rattle.std.specs.Prelude.{ℕ, ◌+◌, ◌<◌, ◌≤◌, List, [], ◌∷◌, ◌++◌, map, Option, Some, None, Ok, Err, Bool, if◌then◌else◌, option_to_list}
+use Rattle.std.specs.Prelude.{◌≡◌, ◌≢◌, ℕ, ◌+◌, ◌^◌, ◌<◌, ◌≤◌, List, [], ◌∷◌, ◌++◌, map, Option, Some, None, Ok, Err, Bool, if◌then◌else◌, option_to_list, true}
 use Rattle.c8_game.specs.Rules.{Rules, id_of}
+use Rattle.c8_wire.specs.Format.{has_lives}
 use Rattle.c8_disk.specs.declared.error.DiskError.{DiskError}
 use Rattle.c8_known.specs.Journal.{Record, Head, Epoch, epoch}
 use Rattle.c8_record.specs.Body.{body_of}
-use Rattle.c8_record.specs.Allowed.{IsJournal}
+use Rattle.c8_record.specs.Allowed.{IsJournal, form_of}
 use Rattle.c8_record.specs.Replay.{IsRefusal}
 use Rattle.c8_record.specs.declared.error.ReplayError.{ReplayError}
 use Rattle.c8_record.specs.declared.error.ReplayError.TheVariants as replays
@@ -21,14 +22,17 @@ last_epoch = 4294967295
 abbrev pub found : State → Bool → List Record
 found s with_pending = if with_pending then s.journal ++ option_to_list s.pending else s.journal
 
--- the form of the records that are written
-abbrev pub second_form : ℕ
-second_form = 2
+-- The caller of an opening draws a number for a new life. In version 3 it is not 0. Versions 1 and 2 do not use it.
+abbrev pub MayDraw : Rules → ℕ → Type 0
+MayDraw rules drawn = has_lives rules.wire ≡ true → (drawn ≢ 0) × (drawn < 2 ^ 64)
 
--- an empty journal gets a HEAD, any other an EPOCH with the next number
-abbrev pub opening_record : Rules → ℕ → ℕ → List Record → Record
-opening_record rules room me [] = Head me second_form (id_of rules) room
-opening_record rules room me (r ∷ rest) = Epoch me (epoch (r ∷ rest) + 1) second_form
+abbrev pub life_drawn : Rules → ℕ → ℕ
+life_drawn rules drawn = if has_lives rules.wire then drawn else 0
+
+-- An empty journal gets a HEAD with the life that was drawn, any other an EPOCH with the next number.
+abbrev pub opening_record : Rules → ℕ → ℕ → ℕ → List Record → Record
+opening_record rules room me drawn [] = Head me (form_of rules) (id_of rules) room (life_drawn rules drawn)
+opening_record rules room me drawn (r ∷ rest) = Epoch me (epoch (r ∷ rest) + 1) (form_of rules)
 
 -- How an opening ends.
 --
@@ -58,23 +62,23 @@ unfit (replays.BadRecord n) = opens.BadRecord n
 unfit (replays.Disk why) = opens.Disk why
 
 -- the answer and the next state of an opening that found these records
-abbrev pub opened : Rules → ℕ → ℕ → State → List Record → Opening → Stepped
-opened rules room me s found Stands = record {
-  reply = Opened (Ok (epoch (found ++ opening_record rules room me found ∷ [])));
+abbrev pub opened : Rules → ℕ → ℕ → ℕ → State → List Record → Opening → Stepped
+opened rules room me drawn s found Stands = record {
+  reply = Opened (Ok (epoch (found ++ opening_record rules room me drawn found ∷ [])));
   state = record {
-    journal = found ++ opening_record rules room me found ∷ [];
+    journal = found ++ opening_record rules room me drawn found ∷ [];
     pending = None;
     mode = Open;
-    memory = fresh_memory rules room me (epoch (found ++ opening_record rules room me found ∷ []));
+    memory = fresh_memory rules room me (found ++ opening_record rules room me drawn found ∷ []);
   };
 }
-opened rules room me s found (NotWritten why) =
-    record { reply = Opened (Err (opens.Disk why)); state = away s found (Some (opening_record rules room me found)) }
-opened rules room me s found NoPlayer = record { reply = Opened (Err opens.WrongPlayer); state = away s s.journal s.pending }
-opened rules room me s found NoMemory = record { reply = Opened (Err opens.Memory); state = away s s.journal s.pending }
-opened rules room me s found (NotRead why) = record { reply = Opened (Err (opens.Disk why)); state = away s s.journal s.pending }
-opened rules room me s found (Unfit error) = record { reply = Opened (Err (unfit error)); state = away s found None }
-opened rules room me s found Spent = record { reply = Opened (Err opens.EpochsSpent); state = away s found None }
+opened rules room me drawn s found (NotWritten why) =
+    record { reply = Opened (Err (opens.Disk why)); state = away s found (Some (opening_record rules room me drawn found)) }
+opened rules room me drawn s found NoPlayer = record { reply = Opened (Err opens.WrongPlayer); state = away s s.journal s.pending }
+opened rules room me drawn s found NoMemory = record { reply = Opened (Err opens.Memory); state = away s s.journal s.pending }
+opened rules room me drawn s found (NotRead why) = record { reply = Opened (Err (opens.Disk why)); state = away s s.journal s.pending }
+opened rules room me drawn s found (Unfit error) = record { reply = Opened (Err (unfit error)); state = away s found None }
+opened rules room me drawn s found Spent = record { reply = Opened (Err opens.EpochsSpent); state = away s found None }
 
 -- How an opening may end. A record is written, or tried, only over a journal of this match and player whose epochs are
 -- not spent. A journal is refused only for a fault in its bodies. Only NoPlayer is for a player that the game does not
@@ -85,7 +89,7 @@ MayBecome rules room me found Stands = IsJournal rules me room found × (epoch f
 MayBecome rules room me found (NotWritten why) = IsJournal rules me room found × (epoch found < last_epoch) × (me ≤ rules.players)
 MayBecome rules room me found NoMemory = me ≤ rules.players
 MayBecome rules room me found (NotRead why) = me ≤ rules.players
-MayBecome rules room me found (Unfit error) = IsRefusal rules me room (map body_of found) error × (me ≤ rules.players)
+MayBecome rules room me found (Unfit error) = IsRefusal rules me room (map (body_of rules.width) found) error × (me ≤ rules.players)
 MayBecome rules room me found Spent = IsJournal rules me room found × (last_epoch ≤ epoch found) × (me ≤ rules.players)
 
 -- neither the disk nor the memory refused

@@ -53,11 +53,11 @@ pub record PeerValue (D : Type 0) : Type 0 where
 abbrev pub mode_of : Bool → Mode
 mode_of is_down = if is_down then Down else Open
 
--- the state of a peer whose journal keeps these bodies, with the pending body if the disk refused one
-abbrev pub state_of : List (List ℕ) → Option (List ℕ) → Bool → Memory → State
-state_of bodies pending is_down m = record {
-  journal = records_of bodies;
-  pending = option_map record_of pending;
+-- the state of a peer whose journal keeps these bodies, in a game with inputs of a width, with the pending body if the disk refused one
+abbrev pub state_of : ℕ → List (List ℕ) → Option (List ℕ) → Bool → Memory → State
+state_of width bodies pending is_down m = record {
+  journal = records_of width bodies;
+  pending = option_map (record_of width) pending;
   mode = mode_of is_down;
   memory = m;
 }
@@ -91,6 +91,7 @@ disk_outcome_of_tick (Err ticks.End) = Works
 disk_outcome_of_tick (Err ticks.Dropped) = Works
 disk_outcome_of_tick (Err (ticks.Disk why)) = Refuses why
 disk_outcome_of_tick (Err ticks.Down) = Works
+disk_outcome_of_tick (Err ticks.Wide) = Works
 
 abbrev pub disk_outcome_of_refusal : Refused → DiskOutcome
 disk_outcome_of_refusal (refusals.Wire error) = Works
@@ -161,7 +162,7 @@ added p call = added_at p.state.mode (outcome p.rules (told_by p) (known_by p) p
 
 -- the most frames that a call runs: a window, in a tick one more, and none for a checkpoint
 abbrev pub most_run : Rules → Call → ℕ
-most_run rules (Tick keys) = rules.window + 1
+most_run rules (Tick input) = rules.window + 1
 most_run rules (Deliver told) = rules.window
 most_run rules (Say to what) = rules.window
 most_run rules (Show watcher) = rules.window
@@ -185,13 +186,13 @@ abbrev pub TellsFrames : {D : Type 0} → PeerValue D → Call → Reply → Pee
 TellsFrames old call reply new = IsLastRun (added old call) (disk_outcome_of reply) (most_run old.rules call) (known_by old) (known_by new)
     old.last_run new.last_run
 
--- the image keeps exactly these records
-abbrev pub Keeps : List Record → List ℕ → Type 0
-Keeps journal image = kept image ≡ map body_of journal
+-- the image keeps exactly these records, whose inputs have this width
+abbrev pub Keeps : ℕ → List Record → List ℕ → Type 0
+Keeps width journal image = kept image ≡ map (body_of width) journal
 
 -- the image keeps the records of the journal, with one more or without
-abbrev pub KeepsWithOrWithout : List Record → Option Record → List ℕ → Type 0
-KeepsWithOrWithout journal more image = Keeps journal image ⊎ Keeps (journal ++ option_to_list more) image
+abbrev pub KeepsWithOrWithout : ℕ → List Record → Option Record → List ℕ → Type 0
+KeepsWithOrWithout width journal more image = Keeps width journal image ⊎ Keeps width (journal ++ option_to_list more) image
 
 -- the record if there is one, else the pending one
 abbrev pub or_pending : Option Record → Option Record → Option Record
@@ -201,11 +202,11 @@ or_pending None pending = pending
 -- What a crash inside a call may leave: the journal as it was, with the record that the call adds or without; if it
 -- adds none, with the pending record or without.
 abbrev pub MayLeave : {D : Type 0} → PeerValue D → Call → List ℕ → Type 0
-MayLeave p call = KeepsWithOrWithout p.state.journal (or_pending (added p call) p.state.pending)
+MayLeave p call = KeepsWithOrWithout p.rules.width p.state.journal (or_pending (added p call) p.state.pending)
 
 -- What a crash now leaves: the journal, with the pending record or without. An open peer has no pending record.
 abbrev pub LeavesJournal : {D : Type 0} → Ghosts D → PeerValue D → Type 0
-LeavesJournal {D} disk p = (image : List ℕ) → disk.may_leave p.disk image → KeepsWithOrWithout p.state.journal p.state.pending image
+LeavesJournal {D} disk p = (image : List ℕ) → disk.may_leave p.disk image → KeepsWithOrWithout p.rules.width p.state.journal p.state.pending image
 
 -- Why the disk refuses a record. Failed: it has room for one more slot and the gate after it, and it failed in the
 -- call. Full: it has no room, and was not called.
@@ -240,7 +241,7 @@ pub record IsAnswered {D : Type 0} (disk : Ghosts D) (old : PeerValue D) (call :
   pub any_moment : LeavesOnly disk old.disk new.disk (MayLeave old call)
   pub journal : LeavesJournal disk new
   pub asks : (r : Record) → added old call ≡ Some r
-      → Asks disk (AppendWithin (disk.capacity old.disk) (length old.state.journal) (body_of r)) (disk_answer (disk_outcome_of reply))
+      → Asks disk (AppendWithin (disk.capacity old.disk) (length old.state.journal) (body_of old.rules.width r)) (disk_answer (disk_outcome_of reply))
       old.disk new.disk
   pub untouched : added old call ≡ None → new.disk ≡ old.disk
   pub changes : disk.changes new.disk ≤ disk.changes old.disk + 4
@@ -266,7 +267,7 @@ pub record IsSound {D : Type 0} (disk : Ghosts D) (p : PeerValue D) : Type 0 whe
   pub held : (p.state.mode ≡ Open) ⊎ (p.state.mode ≡ Down)
   pub none_pending : p.state.mode ≡ Open → p.state.pending ≡ None
   pub leaves : LeavesJournal disk p
-  pub still : LeavesOnly disk p.disk p.disk (KeepsWithOrWithout p.state.journal p.state.pending)
+  pub still : LeavesOnly disk p.disk p.disk (KeepsWithOrWithout p.rules.width p.state.journal p.state.pending)
 
 -- The bytes that a peer says spell a packet. The packet is the answer to the call, and true of the journal. DATA
 -- carries a mark, so it is true if the journal's checkpoints are.

@@ -5,13 +5,15 @@ use Rattle.c8_game.specs.Rules.{Rules}
 use Rattle.c8_game.specs.declared.wire.WireVersion.TheVariants as versions
 use Rattle.c8_wire.specs.Packet.{Packet}
 use Rattle.c8_hand.specs.Links.{no_link}
+use Rattle.c8_hand.specs.Lives.{lives_at_first}
 use Rattle.c8_known.specs.Known.{KnownValue, known_of}
 use Rattle.c8_window.specs.Window.{first_window}
 use Rattle.c8_round.specs.Round.{no_reports, no_haves}
+use Rattle.c8_news.specs.News.{no_news}
 use Rattle.c8_peer.specs.State.{Away, State, none_seen, Call, Reply, Opened, Said}
 use Rattle.c8_peer.specs.State as states
 use Rattle.c8_peer.specs.Steps.{DiskOutcome, Stepped, step}
-use Rattle.c8_peer.specs.Opening.{Opening, found, opened, away, MayBecome}
+use Rattle.c8_peer.specs.Opening.{Opening, found, opened, away, MayDraw, MayBecome}
 use Rattle.c8_disk.specs.declared.disk.Disk.{Ghosts}
 use Rattle.c8_refusals.specs.declared.error.OpenError.{OpenError}
 use Rattle.c8_peer.specs.Peer.{Keeps}
@@ -30,18 +32,21 @@ never_opened = record {
       me = 0;
       players = 0;
       version = versions.One;
+      width = 2;
       session = 0;
       epoch = 0;
       one = no_link;
       two = no_link;
       three = no_link;
       four = no_link;
+      lives = lives_at_first 0 0 0 0 0;
     };
     acks = first_window 0;
     chair = no_reports;
     stayer = no_haves;
     alarm = false;
     seen = none_seen;
+    news = no_news;
   };
 }
 
@@ -50,16 +55,17 @@ never_opened = record {
 -- What can happen to a peer. A disk may refuse in any deed; that it had a cause stands in the contracts of the calls.
 --
 -- - `Does`: a call, and what the disk does with its record.
--- - `Opens`: an opening. `finds`: whether its read finds the pending record. `opening`: how it ends.
+-- - `Opens`: an opening. `finds`: whether its read finds the pending record. `drawn`: the life that the caller drew for a new journal.
+--   `opening`: how it ends.
 -- - `Closes`: a close.
 -- - `Stops`, `StopsOpening`: a call or an opening, then a crash. `leaves`: whether the crash leaves the record that is
 --   pending then.
 pub data Deed : Type 0 where
   Does : (call : Call) → (on_disk : DiskOutcome) → Deed
-  Opens : (finds : Bool) → (opening : Opening) → Deed
+  Opens : (finds : Bool) → (drawn : ℕ) → (opening : Opening) → Deed
   Closes : Deed
   Stops : (call : Call) → (on_disk : DiskOutcome) → (leaves : Bool) → Deed
-  StopsOpening : (finds : Bool) → (opening : Opening) → (leaves : Bool) → Deed
+  StopsOpening : (finds : Bool) → (drawn : ℕ) → (opening : Opening) → (leaves : Bool) → Deed
 
 -- the answer, if there is one, and the state after it
 pub record After : Type 0 where
@@ -76,22 +82,22 @@ crashed s leaves = away s (found s leaves) None
 -- The answer and the state after a deed. A stop does the whole call or opening and then crashes, without an answer.
 abbrev pub after : Rules → ℕ → ℕ → State → Deed → After
 after rules room me s (Does call on_disk) = as_answered (step rules me s call on_disk)
-after rules room me s (Opens finds opening) = as_answered (opened rules room me s (found s finds) opening)
+after rules room me s (Opens finds drawn opening) = as_answered (opened rules room me drawn s (found s finds) opening)
 after rules room me s Closes = record { answer = None; state = away s s.journal s.pending }
 after rules room me s (Stops call on_disk leaves) = record { answer = None; state = crashed (step rules me s call on_disk).state leaves }
-after rules room me s (StopsOpening finds opening leaves) =
-    record { answer = None; state = crashed (opened rules room me s (found s finds) opening).state leaves }
+after rules room me s (StopsOpening finds drawn opening leaves) =
+    record { answer = None; state = crashed (opened rules room me drawn s (found s finds) opening).state leaves }
 
--- only a peer that is down or away is opened, and the opening ends in a possible way
-abbrev pub MayOpen : Rules → ℕ → ℕ → State → Bool → Opening → Type 0
-MayOpen rules room me s finds opening = (s.mode ≢ states.Open) × MayBecome rules room me (found s finds) opening
+-- only a peer that is down or away is opened, a life is drawn, and the opening ends in a possible way
+abbrev pub MayOpen : Rules → ℕ → ℕ → ℕ → State → Bool → Opening → Type 0
+MayOpen rules room me drawn s finds opening = (s.mode ≢ states.Open) × MayDraw rules drawn × MayBecome rules room me (found s finds) opening
 
 abbrev pub MayDo : Rules → ℕ → ℕ → State → Deed → Type 0
 MayDo rules room me s (Does call on_disk) = IsCall call
-MayDo rules room me s (Opens finds opening) = MayOpen rules room me s finds opening
+MayDo rules room me s (Opens finds drawn opening) = MayOpen rules room me drawn s finds opening
 MayDo rules room me s Closes = Unit {0}
 MayDo rules room me s (Stops call on_disk leaves) = IsCall call
-MayDo rules room me s (StopsOpening finds opening leaves) = MayOpen rules room me s finds opening
+MayDo rules room me s (StopsOpening finds drawn opening leaves) = MayOpen rules room me drawn s finds opening
 
 -- the deed is possible, and has this answer and this next state
 pub record IsDone (rules : Rules) (room me : ℕ) (s : State) (deed : Deed) (answer : Option Reply) (t : State) : Type 0 where
@@ -135,20 +141,20 @@ known_at rules me s = known_of rules me s.journal
 -- ---- what a crash leaves on a disk
 
 -- An image that a crash inside an opening left: it keeps what a stop in a run finds.
-pub record IsStoppedOpening (rules : Rules) (room me : ℕ) (s : State) (image : List ℕ) : Type 0 where
+pub record IsStoppedOpening (rules : Rules) (room me drawn : ℕ) (s : State) (image : List ℕ) : Type 0 where
   pub finds : Bool
   pub opening : Opening
   pub leaves : Bool
-  pub may : MayDo rules room me s (StopsOpening finds opening leaves)
-  pub keeps : Keeps (found (opened rules room me s (found s finds) opening).state leaves) image
+  pub may : MayDo rules room me s (StopsOpening finds drawn opening leaves)
+  pub keeps : Keeps rules.width (found (opened rules room me drawn s (found s finds) opening).state leaves) image
 
 module _ {D : Type 0} (disk : Ghosts D) where
   -- each image that a crash of the disk may leave now keeps the journal of a state, with its pending record or without
-  abbrev pub Tells : State → D → Type 0
-  Tells s d = (image : List ℕ) → disk.may_leave d image → (finds : Bool) × Keeps (found s finds) image
+  abbrev pub Tells : ℕ → State → D → Type 0
+  Tells width s d = (image : List ℕ) → disk.may_leave d image → (finds : Bool) × Keeps width (found s finds) image
 
   -- A refused opening. It is a deed with this answer, and the disk that is left has the journal of the state after it.
-  pub record IsRefusedDeed (rules : Rules) (room me : ℕ) (s : State) (finds : Bool) (error : OpenError) (left : D) : Type 0 where
+  pub record IsRefusedDeed (rules : Rules) (room me drawn : ℕ) (s : State) (finds : Bool) (error : OpenError) (left : D) : Type 0 where
     pub opening : Opening
-    pub deed : IsDone rules room me s (Opens finds opening) (Some (Opened (Err error))) (opened rules room me s (found s finds) opening).state
-    pub tells : Tells (opened rules room me s (found s finds) opening).state left
+    pub deed : IsDone rules room me s (Opens finds drawn opening) (Some (Opened (Err error))) (opened rules room me drawn s (found s finds) opening).state
+    pub tells : Tells rules.width (opened rules room me drawn s (found s finds) opening).state left

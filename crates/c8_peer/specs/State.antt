@@ -4,7 +4,8 @@ use Rattle.c8_game.specs.Rules.{Rules}
 use Rattle.c8_wire.specs.declared.error.WireError.{WireError}
 use Rattle.c8_wire.specs.Packet.{Packet}
 use Rattle.c8_hand.specs.Links.{LinksValue, no_links}
-use Rattle.c8_known.specs.Journal.{Record}
+use Rattle.c8_hand.specs.Lives.{LivesValue, lives_at_first}
+use Rattle.c8_known.specs.Journal.{Record, epoch, life_of, met_of}
 use Rattle.c8_window.specs.Window.{WindowValue, first_window}
 use Rattle.c8_round.specs.Round.{ChairValue, no_reports, StayerValue, no_haves}
 use Rattle.c8_refusals.specs.declared.error.OpenError.{OpenError}
@@ -16,6 +17,8 @@ use Rattle.c8_refusals.specs.declared.error.DecideError.{DecideError}
 use Rattle.c8_refusals.specs.declared.error.CheckError.{CheckError}
 use Rattle.c8_peer.specs.declared.check.Check.{Check}
 use Rattle.c8_peer.specs.declared.heard.Heard.{Heard}
+use Rattle.c8_news.specs.declared.news.Signs.{Signs}
+use Rattle.c8_news.specs.News.{AllNewsValue, no_news}
 
 -- ---- the state
 
@@ -33,8 +36,9 @@ seen_by s watcher = if watcher == 5 then s.five else (if watcher == 6 then s.six
 abbrev pub with_seen : SeenValue → ℕ → ℕ → SeenValue
 with_seen s watcher rows = record { five = if watcher == 5 then rows else s.five; six = if watcher == 6 then rows else s.six }
 
--- What a peer loses with each opening: the links, how many own inputs each player has acknowledged, the answers of drop
--- rounds, whether another peer's machine differed, and how many rows each watcher has acknowledged.
+-- What a peer loses with each opening: the links and what is known of lives, how many own inputs each player has acknowledged,
+-- the answers of drop rounds, whether another peer's machine differed, how many rows each watcher has acknowledged, and what the
+-- DATA of each player have told.
 pub record Memory : Type 0 where
   pub links : LinksValue
   pub acks : WindowValue
@@ -42,6 +46,7 @@ pub record Memory : Type 0 where
   pub stayer : StayerValue
   pub alarm : Bool
   pub seen : SeenValue
+  pub news : AllNewsValue
 
 -- open; down, after the disk refused a record; or away
 pub data Mode : Type 0 where
@@ -57,32 +62,40 @@ pub record State : Type 0 where
   pub mode : Mode
   pub memory : Memory
 
--- the memory of a peer right after its opening, in an epoch
-abbrev pub fresh_memory : Rules → ℕ → ℕ → ℕ → Memory
-fresh_memory rules room me epoch = record {
-  links = no_links rules me room epoch;
+-- what is known of lives at first: what the journal says
+abbrev pub lives_of : List Record → LivesValue
+lives_of journal = lives_at_first (life_of journal) (met_of 1 journal) (met_of 2 journal) (met_of 3 journal) (met_of 4 journal)
+
+-- the memory of a peer right after the opening that ends this journal
+abbrev pub fresh_memory : Rules → ℕ → ℕ → List Record → Memory
+fresh_memory rules room me journal = record {
+  links = no_links rules me room (epoch journal) (lives_of journal);
   acks = first_window rules.delay;
   chair = no_reports;
   stayer = no_haves;
   alarm = false;
   seen = none_seen;
+  news = no_news;
 }
 
 -- ---- calls and answers
 
--- what a peer can be asked to say; a leaver is a player's number
+-- What a peer can be asked to say. A leaver is a player's number. In version 3 a DATA has the signs that the caller gives. Version 3
+-- alone has the last two: inputs of a third player, and that a life of the addressee was refused.
 pub data Saying : Type 0 where
   Hello : Saying
   Welcome : Saying
-  Data : Saying
+  Data : (signs : Signs) → Saying
   Freeze : (leaver : ℕ) → Saying
   Frozen : (leaver : ℕ) → Saying
   Cut : (leaver : ℕ) → Saying
+  Pass : (player : ℕ) → Saying
+  RefusedLife : Saying
 
 -- The calls. A delivery has what the bytes spell: a packet, or the refusal of the wire format. Each checkpoint call
 -- records one piece.
 pub data Call : Type 0 where
-  Tick : (keys : ℕ) → Call
+  Tick : (input : ℕ) → Call
   Deliver : (told : Result Packet WireError) → Call
   Say : (to : ℕ) → (what : Saying) → Call
   -- says rows to a watcher

@@ -2,6 +2,7 @@
 use Rattle.std.specs.Prelude.{◌≢◌, ℕ, [], ◌∷◌, ◌++◌, Option, Some, None, Err, IsErr, IsErrAnd}
 use Rattle.c8_game.specs.Rules.{Rules}
 use Rattle.c8_disk.specs.declared.error.DiskError.{DiskError}
+use Rattle.c8_hand.specs.declared.error.HandError.TheVariants as hands
 use Rattle.c8_known.specs.Journal.{Record}
 use Rattle.c8_known.specs.Known.{KnownValue, known_of}
 use Rattle.c8_refusals.specs.declared.error.TickError.TheVariants as ticks
@@ -19,7 +20,7 @@ use Rattle.c8_peer.specs.Saying.{say, show}
 
 -- what a call of an open peer does, given what its journal tells
 abbrev pub outcome : Rules → Told → KnownValue → Memory → Call → Outcome
-outcome rules t k m (Tick keys) = tick rules k m keys
+outcome rules t k m (Tick input) = tick rules k m input
 outcome rules t k m (Deliver told) = deliver rules t k m told
 outcome rules t k m (Say to what) = say rules t k m to what
 outcome rules t k m (Show watcher) = show k m watcher
@@ -34,7 +35,7 @@ pub data DiskOutcome : Type 0 where
 
 -- the answer if the disk refused the record; a saying records nothing, so its answer is never used
 abbrev pub refused_by_disk : Call → DiskError → Reply
-refused_by_disk (Tick keys) why = Ticked (Err (ticks.Disk why))
+refused_by_disk (Tick input) why = Ticked (Err (ticks.Disk why))
 refused_by_disk (Deliver told) why = Delivered (Err (refusals.Disk why))
 refused_by_disk (Say to what) why = Said (Err unsayables.Down)
 refused_by_disk (Show watcher) why = Said (Err unsayables.Down)
@@ -44,7 +45,7 @@ refused_by_disk Checkpoint why = Checked (Err (checks.Disk why))
 
 -- the answer of a peer that is down
 abbrev pub when_down : Call → Reply
-when_down (Tick keys) = Ticked (Err ticks.Down)
+when_down (Tick input) = Ticked (Err ticks.Down)
 when_down (Deliver told) = Delivered (Err refusals.Down)
 when_down (Say to what) = Said (Err unsayables.Down)
 when_down (Show watcher) = Said (Err unsayables.Down)
@@ -75,11 +76,11 @@ step rules me s call on_disk = at_mode s call (outcome rules (told_of rules me s
 
 -- ---- refusals
 
--- The answer refuses a call, but not with Disk or Desync. An opening is no call.
+-- The answer refuses a call, but not with Disk, Desync or Restarted. An opening is no call.
 abbrev pub IsPlainRefusal : Reply → Type 0
 IsPlainRefusal (Opened result) = ⊥
 IsPlainRefusal (Ticked result) = IsErrAnd result (λ error. (why : DiskError) → error ≢ ticks.Disk why)
-IsPlainRefusal (Delivered result) = IsErrAnd result (λ error. (error ≢ refusals.Desync) × ((why : DiskError) → error ≢ refusals.Disk why))
+IsPlainRefusal (Delivered result) = IsErrAnd result (λ error. (error ≢ refusals.Desync) × (error ≢ refusals.Hand hands.Restarted) × ((why : DiskError) → error ≢ refusals.Disk why))
 IsPlainRefusal (Said result) = IsErr result
 IsPlainRefusal (Left result) = IsErrAnd result (λ error. (why : DiskError) → error ≢ leaves.Disk why)
 IsPlainRefusal (Decided result) = IsErrAnd result (λ error. (why : DiskError) → error ≢ decides.Disk why)

@@ -4,7 +4,7 @@ use Rattle.std.specs.List.{list_all}
 use Rattle.c8_game.specs.Rules.{Rules}
 use Rattle.c8_machine.specs.Serial.{serial}
 use Rattle.c8_digest.specs.Origin.{Origin}
-use Rattle.c8_known.specs.Journal.{Record, Head, Epoch, Own, Got, Freeze, Leave, Cut, State, Check}
+use Rattle.c8_known.specs.Journal.{Record, Head, Epoch, Own, Got, Freeze, Leave, Cut, State, Check, Met}
 use Rattle.c8_known.specs.Known.{KnownValue, known_of}
 use Rattle.c8_known.specs.Confirmed.{confirmed, rows_below}
 use Rattle.c8_record.specs.Checks.{Pieces, checks_of, begun_at, save_bytes, before_piece}
@@ -21,7 +21,7 @@ pub record AreTruePieces (rules : Rules) (k : KnownValue) (p : Pieces) : Type 0 
 
 -- the record is not one of a checkpoint
 abbrev pub is_no_check : Record → Bool
-is_no_check (Head player form id room) = true
+is_no_check (Head player form id room life) = true
 is_no_check (Epoch player number form) = true
 is_no_check (Own player start word) = true
 is_no_check (Got player start words) = true
@@ -30,6 +30,7 @@ is_no_check (Leave player) = true
 is_no_check (Cut player length start words) = true
 is_no_check (State player frames piece bytes) = false
 is_no_check (Check player frames digest) = false
+is_no_check (Met player life) = true
 
 abbrev pub SaysNoCheck : List Record → Type 0
 SaysNoCheck journal = list_all is_no_check journal ≡ true

@@ -1,4 +1,6 @@
 pub mod Held
+pub mod LivesLemmas
+pub mod OutcomeLemmas
 pub mod OpenedParts
 pub mod TruthLaws
 pub mod TrueCheckLaws

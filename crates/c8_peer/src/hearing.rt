@@ -3,33 +3,35 @@ ghost use Rattle.std.specs.Prelude.{◌≡◌, ℕ, ◌+◌, ◌≤◌, ◌<◌,
 ghost use Rattle.c8_game.specs.Rules.{Rules};
 ghost use Rattle.c8_wire.specs.Packet.{HeadValue};
 ghost use Rattle.c8_wire.specs.Packet as packets;
-ghost use Rattle.c8_wire.specs.Lent.{words, ack_of, data_of, freeze_of, frozen_of, cut_of, packet_of};
-ghost use Rattle.c8_known.specs.Known.{Plays, player_in, count_in};
+ghost use Rattle.c8_wire.specs.Lent.{words, ack_of, data_of, news_of, freeze_of, frozen_of, cut_of, pass_of, refused_of, packet_of};
+ghost use Rattle.c8_wire.specs.declared.datagram.Datagram.TheVariants as datagrams;
+ghost use Rattle.c8_hand.specs.Links.{meeting};
+ghost use Rattle.c8_known.specs.Known.{KnownValue, Plays, player_in, count_in};
 ghost use Rattle.c8_known.specs.Confirmed.{confirmed};
 ghost use Rattle.c8_known.specs.Fresh.{differ, is_from_leaver, misfit, fresh_words};
 ghost use Rattle.c8_digest.specs.Marks.{mark_at};
-ghost use Rattle.c8_window.specs.Window.{acked_more};
 ghost use Rattle.c8_round.specs.Round.{with_report, with_have};
 ghost use Rattle.c8_peer.specs.Told.{Told};
 ghost use Rattle.c8_peer.specs.State.{Memory, Outcome, with_seen};
-ghost use Rattle.c8_peer.specs.Hearing.{refused, taken, hear_seen, unless_misfit, got, differs_from, hear_data, hear_welcome, hear_freeze, hear_frozen, hear_end, hear_cut, cut_or_got, hear_message, seen_in};
+ghost use Rattle.c8_peer.specs.Hearing.{refused, taken, hear_seen, unless_misfit, got, differs_from, after_data, hear_data, hear_pass, met, hear_welcome, hear_refused, hear_freeze, hear_frozen, hear_end, hear_cut, cut_or_got, hear_message, seen_in};
 ghost use Rattle.c8_peer.specs.Steps.{Works};
 ghost use Rattle.c8_peer.specs.Peer.{disk_outcome_of_refusal};
-ghost use Rattle.c8_peer.specs.checked.Verdicts.{AcksWithin, IsLater, by_verdict, Judges, memory_after};
+ghost use Rattle.c8_peer.specs.checked.Verdicts.{IsNotable, IsLater, by_verdict, Judges, memory_after};
 
 use crate::heard::Heard;
 use crate::verdict::Verdict;
 use c8_digest::{MARK_LENGTH, Marks};
 use c8_game::Player;
-use c8_hand::HandError;
+use c8_hand::{HandError, Links, Meeting};
 use c8_known::{Known, KnownError};
 use c8_record::Record;
 use c8_refusals::Refused;
-use c8_wire::{Cut, Data, Datagram, Freeze, Frozen, Run, Welcome};
+use c8_wire::{Cut, Data, Datagram, Freeze, Frozen, Pass, Run, Welcome};
 
 /// Judges an admitted datagram of a player.
 pub(crate) fn judge<'a>(
     known: &Known,
+    links: &Links,
     marks: &Marks,
     sender: Player,
     datagram: &Datagram<'a>,
@@ -37,18 +39,21 @@ pub(crate) fn judge<'a>(
     requires plays { Plays known.now sender.number }
     requires from { sender.number ≡ (packet_of datagram.now).head.from }
     ensures judged { (rules : Rules) (t : Told) (m : Memory) → marks.now ≡ t.marks
+        → links.now ≡ m.links
         → Judges (hear_message rules t known.now m (packet_of datagram.now).head
-        (packet_of datagram.now).message)
-        m (memory_after m (packet_of datagram.now)) result }
-    ensures acks { OnOk result (AcksWithin known.now (packet_of datagram.now).message) }
+        (packet_of datagram.now).news (packet_of datagram.now).message)
+        m (memory_after known.now m (packet_of datagram.now)) result }
+    ensures notable { OnOk result (IsNotable known.now links.now (packet_of datagram.now)) }
 {
     match datagram {
-        Datagram::Hello(_) => Ok(Verdict::Nothing),
-        Datagram::Welcome(welcome) => judge_welcome(known, welcome),
+        Datagram::Hello(_) => Ok(met(links, datagram)),
+        Datagram::Welcome(welcome) => judge_welcome(known, links, welcome),
         Datagram::Data(data) => judge_data(known, marks, sender, data),
         Datagram::Freeze(freeze) => judge_freeze(known, sender, freeze),
         Datagram::Frozen(frozen) => judge_frozen(known, sender, frozen),
         Datagram::Cut(cut) => judge_cut(known, sender, cut),
+        Datagram::Pass(pass) => judge_pass(known, sender, pass),
+        Datagram::Refused(refused) => judge_refused(links, refused),
         Datagram::Show(_) | Datagram::Seen(_) => Err(Refused::Hand(HandError::NotMine)),
     }
 }
@@ -65,7 +70,9 @@ pub(crate) fn rows_seen(datagram: &Datagram<'_>) -> Option<u32>
         | Datagram::Freeze(_)
         | Datagram::Frozen(_)
         | Datagram::Cut(_)
-        | Datagram::Show(_) => None,
+        | Datagram::Show(_)
+        | Datagram::Pass(_)
+        | Datagram::Refused(_) => None,
     }
 }
 
@@ -85,18 +92,70 @@ pub(crate) fn judge_seen(known: &Known, rows: u32) -> Result<(), Refused>
     Ok(())
 }
 
+/// Records the life that a HELLO or a WELCOME makes this peer meet, if it does.
+fn met<'a>(links: &Links, datagram: &Datagram<'a>) -> Verdict<'a>
+    ensures value { (m noted : Memory) → by_verdict result m noted
+        ≡ met noted (meeting links.now (packet_of datagram.now).head) }
+    ensures later { IsLater result }
+{
+    match links.meeting(datagram) {
+        Some(Meeting { player, life }) => {
+            Verdict::Keep(Record::Met { player, life }, Heard::Kept)
+        }
+        None => Verdict::Nothing,
+    }
+}
+
 #[tactic(auto, unfolding(crate::specs::Hearing::hear_welcome))]
-fn judge_welcome<'a>(known: &Known, welcome: &Welcome<'a>) -> Result<Verdict<'a>, Refused>
-    ensures judged { (m : Memory) (head : HeadValue)
-        → Judges (hear_welcome known.now m head (ack_of welcome.now)) m
-        (memory_after m (record { head = head; message = packets.Welcome (ack_of welcome.now) }))
-        result }
-    ensures acks { OnOk result (ack_of welcome.now ≤ count_in known.now known.now.me) }
+fn judge_welcome<'a>(
+    known: &Known,
+    links: &Links,
+    welcome: &Welcome<'a>,
+) -> Result<Verdict<'a>, Refused>
+    ensures judged { (m : Memory) → links.now ≡ m.links
+        → Judges (hear_welcome known.now m (packet_of (datagrams.Welcome welcome.now)).head
+        (ack_of welcome.now)) m
+        (memory_after known.now m (packet_of (datagrams.Welcome welcome.now))) result }
+    ensures notable { OnOk result (ack_of welcome.now ≤ count_in known.now known.now.me) }
 {
     if welcome.ack() > known.count(known.me()) {
         return Err(Refused::BadAck);
     }
-    Ok(Verdict::Nothing)
+    Ok(met(links, &Datagram::Welcome(*welcome)))
+}
+
+/// Judges a REFUSED: another life of this player or of player one plays, or another life of its sender was refused.
+fn judge_refused<'a>(links: &Links, refused: &c8_wire::Refused<'a>) -> Result<Verdict<'a>, Refused>
+    ensures judged { (k : KnownValue) (m : Memory) → links.now ≡ m.links
+        → Judges (hear_refused m (packet_of (datagrams.Refused refused.now)).head (refused_of refused.now))
+        m (memory_after k m (packet_of (datagrams.Refused refused.now))) result }
+    ensures notable { (k : KnownValue)
+        → OnOk result (IsNotable k links.now (packet_of (datagrams.Refused refused.now))) }
+{
+    match links.judge_word(refused) {
+        Ok(()) => Ok(Verdict::Nothing),
+        Err(error) => Err(Refused::Hand(error)),
+    }
+}
+
+/// Judges a PASS: player one passes on inputs of a third player.
+#[tactic(auto, unfolding(crate::specs::Hearing::hear_pass))]
+fn judge_pass<'a>(known: &Known, sender: Player, pass: &Pass<'a>) -> Result<Verdict<'a>, Refused>
+    ensures { (m : Memory)
+        → Judges (hear_pass known.now m sender.number (pass_of pass.now)) m m result }
+{
+    let player = pass.player();
+    if sender.number != 1 {
+        return Err(Refused::NotChair);
+    }
+    if player.number == known.me().number || player.number > known.players() {
+        return Err(Refused::WrongLeaver);
+    }
+    if known.frozen(player) {
+        return Err(Refused::Known(KnownError::FromLeaver));
+    }
+    let fresh = fresh_part(known, player, sender, pass.start(), pass.run())?;
+    Ok(got(known, player, fresh))
 }
 
 /// Judges the sender's inputs, its acknowledgement and its mark.
@@ -109,9 +168,9 @@ fn judge_data<'a>(
 ) -> Result<Verdict<'a>, Refused>
     requires { Plays known.now sender.number }
     ensures judged { (t : Told) (m : Memory) → marks.now ≡ t.marks
-        → Judges (hear_data t known.now m sender.number (data_of data.now)) m
-        (record m { acks = acked_more m.acks sender.number (data_of data.now).ack }) result }
-    ensures acks { OnOk result ((data_of data.now).ack ≤ count_in known.now known.now.me) }
+        → Judges (hear_data t known.now m sender.number (news_of data.now) (data_of data.now)) m
+        (after_data known.now m sender.number (news_of data.now) (data_of data.now)) result }
+    ensures notable { OnOk result ((data_of data.now).ack ≤ count_in known.now known.now.me) }
 {
     if known.frozen(sender) {
         return Err(Refused::Known(KnownError::FromLeaver));

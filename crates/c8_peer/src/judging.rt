@@ -1,5 +1,5 @@
 //! Decides whether an open peer refuses a call, and why. Nothing here changes the peer.
-ghost use Rattle.std.specs.Prelude.{◌≡◌, ℕ, [], MatchResult, IfErr, Ok, Err};
+ghost use Rattle.std.specs.Prelude.{◌≡◌, [], MatchResult, IfErr, Ok, Err};
 ghost use Rattle.c8_known.specs.Journal.{Own, Leave, Cut};
 ghost use Rattle.c8_known.specs.Known.{count_in};
 ghost use Rattle.c8_peer.specs.State as states;
@@ -9,17 +9,18 @@ ghost use Rattle.c8_peer.specs.Steps.{Works};
 ghost use Rattle.c8_peer.specs.Peer.{disk_outcome_of_tick, disk_outcome_of_leave, disk_outcome_of_decision};
 
 use crate::memory::Memory;
-use c8_game::{Game, Player};
+use c8_game::{Game, Input, Player};
 use c8_known::Known;
 use c8_refusals::{DecideError, LeaveError, TickError};
 
-/// Checks whether the own player may tick. The refusals are found in the order `Dropped`, `End`, `Threshold`.
+/// Checks whether the own player may enter an input. The refusals are found in the order `Dropped`, `End`, `Threshold`,
+/// `Wide`.
 #[tactic(auto, unfolding(crate::specs::Calls::tick))]
-pub(crate) fn judge_tick(game: &Game, known: &Known) -> Result<(), TickError>
-    ensures judged { (m : states.Memory) (keys : ℕ) → MatchResult result
-        (λ _. tick game.now known.now m keys ≡ recorded m (Ticked (Ok tt))
-        (Own known.now.me (count_in known.now known.now.me) keys))
-        (λ error. tick game.now known.now m keys ≡ answered m (Ticked (Err error))) }
+pub(crate) fn judge_tick(game: &Game, known: &Known, input: Input) -> Result<(), TickError>
+    ensures judged { (m : states.Memory) → MatchResult result
+        (λ _. tick game.now known.now m input ≡ recorded m (Ticked (Ok tt))
+        (Own known.now.me (count_in known.now known.now.me) input))
+        (λ error. tick game.now known.now m input ≡ answered m (Ticked (Err error))) }
     ensures plain { IfErr result (λ error. disk_outcome_of_tick (Err error) ≡ Works) }
 {
     if known.leaving(known.me()) {
@@ -30,6 +31,9 @@ pub(crate) fn judge_tick(game: &Game, known: &Known) -> Result<(), TickError>
     }
     if known.ticks() >= known.confirmed() + u32::from(game.window()) {
         return Err(TickError::Threshold);
+    }
+    if !input.fits(game.width()) {
+        return Err(TickError::Wide);
     }
     Ok(())
 }

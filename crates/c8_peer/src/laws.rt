@@ -1,11 +1,12 @@
 //! Laws of peers: facts about whole runs that no single call can promise. Each is the contract of a
 //! function that does nothing.
-ghost use Rattle.std.specs.Prelude.{◌≡◌, ℕ, ◌^◌, ◌<◌, ◌≤◌, List, [], ◌∷◌, ◌++◌, map, Bool, true, Option, Ok, Err, Some};
+ghost use Rattle.std.specs.Prelude.{◌≡◌, ℕ, ◌^◌, ◌<◌, ◌≤◌, List, [], ◌∷◌, ◌++◌, map, Bool, true, Option, Ok, Err, Some, None};
 ghost use Rattle.c8_game.specs.Rules.{Rules, AreInRange};
 ghost use Rattle.c8_wire.specs.Packet.{AreBytes, Packet, IsPacket};
 ghost use Rattle.c8_wire.specs.checked.Read.{read};
 ghost use Rattle.c8_disk.specs.Disk.{Only};
-ghost use Rattle.c8_known.specs.Journal.{Record, epoch};
+ghost use Rattle.c8_hand.specs.Links.{shunned};
+ghost use Rattle.c8_known.specs.Journal.{Record, Met, epoch};
 ghost use Rattle.c8_known.specs.Known.{known_of};
 ghost use Rattle.c8_known.specs.Confirmed.{confirmed, rows_below};
 ghost use Rattle.c8_log.specs.Slots.{kept};
@@ -16,16 +17,17 @@ ghost use Rattle.c8_peer.specs.State.{Memory, Open, State, Call, Deliver, Reply,
 ghost use Rattle.c8_peer.specs.Told.{told_of};
 ghost use Rattle.c8_peer.specs.Steps.{DiskOutcome, Works, outcome, step, IsPlainRefusal};
 ghost use Rattle.c8_disk.specs.declared.error.DiskError.{DiskError};
-ghost use Rattle.c8_peer.specs.Opening.{Opening, NotWritten, Stands, opened, MayBecome, IsServed, last_epoch, opening_record, found};
+ghost use Rattle.c8_peer.specs.Opening.{Opening, NotWritten, Stands, opened, MayDraw, MayBecome, IsServed, last_epoch, opening_record, found};
 ghost use Rattle.c8_peer.specs.Replies.{mode_told};
 ghost use Rattle.c8_peer.specs.Truth.{IsTrue, CarriesMark};
 ghost use Rattle.c8_peer.specs.TrueChecks.{SaysNoCheck, HasTrueChecks, HasTrueLast};
-ghost use Rattle.c8_peer.specs.Lawful.{IsMemory, IsCall};
+ghost use Rattle.c8_peer.specs.Lawful.{IsMemory, IsMeeting, IsCall};
 ghost use Rattle.c8_peer.specs.Peer.{PeerValue, IsSound, IsAnswered, IsSaid, IsStep, Keeps, MayLeave, disk_outcome_of};
 ghost use Rattle.c8_peer.specs.Runs.{Deed, Does, Opens, IsDone, IsRun, IsLawful, TellsTruly, IsReached, IsAmong, Tells, IsRefusedDeed, IsStoppedOpening, never_opened, known_at};
 ghost use Rattle.c8_peer.specs.Opened.{IsOpened, IsRefusedOpening, OpeningLeaves};
 
 use c8_disk::Disk;
+use c8_hand::HandError;
 use c8_refusals::{OpenError, Refused, Unsayable};
 use c8_wire::laws::what_is_read_is_spelled;
 
@@ -51,28 +53,28 @@ pub fn what_is_confirmed_stays()
         ≡ rows_below (known_of rules me journal) n }
 {}
 
-/// An opening adds a record that the rules allow, and begins with a memory that is in order. If the
+/// An opening adds a record that the rules allow, whichever life is drawn, and begins with a memory that is in order. If the
 /// last checkpoint found is true, the checkpoints of the opened journal are true. Pieces without a
 /// CHECK do not matter, since the opening discards them.
 pub fn openings_are_lawful()
-    ensures keeps { (rules : Rules) (me room : ℕ) (found : List Record)
-        → AreInRange rules → 1 ≤ me → me ≤ rules.players → room < 2 ^ 64
+    ensures keeps { (rules : Rules) (me room drawn : ℕ) (found : List Record)
+        → AreInRange rules → 1 ≤ me → me ≤ rules.players → room < 2 ^ 64 → MayDraw rules drawn
         → IsJournal rules me room found → epoch found < last_epoch
-        → IsAllowed rules me room found (opening_record rules room me found) }
-    ensures memory { (rules : Rules) (me room : ℕ) (found : List Record)
-        → AreInRange rules → 1 ≤ me → me ≤ rules.players
+        → IsAllowed rules me room found (opening_record rules room me drawn found) }
+    ensures memory { (rules : Rules) (me room drawn : ℕ) (found : List Record)
+        → AreInRange rules → 1 ≤ me → me ≤ rules.players → room < 2 ^ 64 → MayDraw rules drawn
         → IsJournal rules me room found → epoch found < last_epoch
-        → IsMemory rules room me (found ++ opening_record rules room me found ∷ [])
-        (fresh_memory rules room me (epoch (found ++ opening_record rules room me found ∷ []))) }
-    ensures checks { (rules : Rules) (me room : ℕ) (found : List Record)
-        → AreInRange rules → 1 ≤ me → me ≤ rules.players → room < 2 ^ 64
+        → IsMemory rules room me (found ++ opening_record rules room me drawn found ∷ [])
+        (fresh_memory rules room me (found ++ opening_record rules room me drawn found ∷ [])) }
+    ensures checks { (rules : Rules) (me room drawn : ℕ) (found : List Record)
+        → AreInRange rules → 1 ≤ me → me ≤ rules.players → room < 2 ^ 64 → MayDraw rules drawn
         → IsJournal rules me room found → epoch found < last_epoch
         → HasTrueLast rules me found
-        → HasTrueChecks rules me (found ++ opening_record rules room me found ∷ []) }
+        → HasTrueChecks rules me (found ++ opening_record rules room me drawn found ∷ []) }
 {}
 
 /// The steps of an open peer follow the rules. `keeps`: the rules allow what it records. `memory`, `grows`: its
-/// memory stays in order, also with that record. `checks`: true checkpoints stay true. `says`, `spelled`: what it
+/// memory stays in order, with the record if there is one. `checks`: true checkpoints stay true. `meets`: only a datagram that the links admit makes it record a life. `says`, `spelled`: what it
 /// says is true of its journal and has a spelling. DATA needs true checkpoints for this, since it carries a mark.
 pub fn steps_are_lawful()
     ensures keeps { (rules : Rules) (me room : ℕ) (journal : List Record) (m : Memory)
@@ -85,6 +87,7 @@ pub fn steps_are_lawful()
         (call : Call)
         → AreInRange rules → 1 ≤ me → me ≤ rules.players → IsJournal rules me room journal
         → IsMemory rules room me journal m → IsCall call
+        → (outcome rules (told_of rules me journal) (known_of rules me journal) m call).keeps ≡ None
         → IsMemory rules room me journal (outcome rules (told_of rules me journal) (known_of rules me journal) m call).memory }
     ensures grows { (rules : Rules) (me room : ℕ) (journal : List Record) (m : Memory)
         (call : Call) (r : Record)
@@ -99,6 +102,10 @@ pub fn steps_are_lawful()
         → IsMemory rules room me journal m → IsCall call → HasTrueChecks rules me journal
         → (outcome rules (told_of rules me journal) (known_of rules me journal) m call).keeps
         ≡ Some r → HasTrueChecks rules me (journal ++ r ∷ []) }
+    ensures meets { (rules : Rules) (me : ℕ) (journal : List Record) (m : Memory) (call : Call)
+        (player life : ℕ)
+        → (outcome rules (told_of rules me journal) (known_of rules me journal) m call).keeps
+        ≡ Some (Met player life) → IsMeeting m call player life }
     ensures says { (rules : Rules) (me room : ℕ) (journal : List Record) (m : Memory)
         (call : Call) (p : Packet)
         → AreInRange rules → 1 ≤ me → me ≤ rules.players → IsJournal rules me room journal
@@ -114,8 +121,9 @@ pub fn steps_are_lawful()
         → IsPacket p }
 {}
 
-/// A refused call changes nothing (`plain`), unless the disk refuses or the answer is `Desync`.
-/// `desync`: `Desync` raises the alarm and changes nothing else.
+/// A refused call changes nothing (`plain`), unless the disk refuses or the answer is `Desync` or `Restarted`.
+/// `desync`: `Desync` raises the alarm and changes nothing else. `restarted`: `Restarted` notes the other life of the
+/// datagram's sender and changes nothing else.
 pub fn refusals_change_nothing()
     ensures plain { (rules : Rules) (me : ℕ) (s : State) (call : Call) (on_disk : DiskOutcome)
         → IsPlainRefusal (step rules me s call on_disk).reply
@@ -124,6 +132,11 @@ pub fn refusals_change_nothing()
         → (step rules me s call on_disk).reply ≡ Delivered (Err Refused.Desync)
         → (step rules me s call on_disk).state
         ≡ record s { memory = record s.memory { alarm = true } } }
+    ensures restarted { (rules : Rules) (me : ℕ) (s : State) (p : Packet) (on_disk : DiskOutcome)
+        → (step rules me s (Deliver (Ok p)) on_disk).reply
+        ≡ Delivered (Err (Refused.Hand HandError.Restarted))
+        → (step rules me s (Deliver (Ok p)) on_disk).state
+        ≡ record s { memory = record s.memory { links = shunned s.memory.links p.head } } }
 {}
 
 /// What a peer has said stays true, in every run from before its first opening: over openings,
@@ -169,9 +182,9 @@ pub fn answers_tell_modes()
     ensures calls { (rules : Rules) (me : ℕ) (s : State) (call : Call) (on_disk : DiskOutcome)
         → s.mode ≡ Open → (step rules me s call on_disk).state.mode
         ≡ mode_told (step rules me s call on_disk).reply }
-    ensures openings { (rules : Rules) (room me : ℕ) (s : State) (found : List Record)
-        (opening : Opening) → (opened rules room me s found opening).state.mode
-        ≡ mode_told (opened rules room me s found opening).reply }
+    ensures openings { (rules : Rules) (room me drawn : ℕ) (s : State) (found : List Record)
+        (opening : Opening) → (opened rules room me drawn s found opening).state.mode
+        ≡ mode_told (opened rules room me drawn s found opening).reply }
 {}
 
 /// If the disk and the memory serve an opening to its end, what a read of the disk finds decides its
@@ -185,9 +198,9 @@ pub fn an_opening_has_one_answer()
         → MayBecome rules room me found one → MayBecome rules room me found other
         → IsServed one → IsServed other → one ≡ other }
     ensures answer { (rules : Rules) (room me : ℕ) (s t u : State) (finds : Bool)
-        (one other : Opening) (answer second : Option Reply)
-        → IsDone rules room me s (Opens finds one) answer t
-        → IsDone rules room me s (Opens finds other) second u
+        (drawn : ℕ) (one other : Opening) (answer second : Option Reply)
+        → IsDone rules room me s (Opens finds drawn one) answer t
+        → IsDone rules room me s (Opens finds drawn other) second u
         → IsServed one → IsServed other → (answer ≡ second) × (t ≡ u) }
     ensures refused { (rules : Rules) (room me : ℕ) (found : List Record) (why : DiskError)
         (other : Opening)
@@ -291,16 +304,16 @@ pub fn calls_are_deeds<D: Disk>()
 /// - `inside`: a crash inside a call leaves an image that keeps what a stop in a run finds.
 pub fn what_disks_tell<D: Disk>()
     ensures reading { (p : PeerValue D) → IsSound D.Disk p
-        → (finds : Bool) × Keeps (found p.state finds) (D.seen p.disk) }
+        → (finds : Bool) × Keeps p.rules.width (found p.state finds) (D.seen p.disk) }
     ensures bodies { (p : PeerValue D) (image : List ℕ)
         → IsSound D.Disk p → D.may_leave p.disk image
-        → (finds : Bool) × Keeps (found p.state finds) image }
+        → (finds : Bool) × Keeps p.rules.width (found p.state finds) image }
     ensures records { (p : PeerValue D) (image : List ℕ)
         → IsSound D.Disk p → D.may_leave p.disk image
-        → (finds : Bool) × (records_of (kept image) ≡ found p.state finds) }
+        → (finds : Bool) × (records_of p.rules.width (kept image) ≡ found p.state finds) }
     ensures inside { (p : PeerValue D) (call : Call) (image : List ℕ) → MayLeave p call image
         → (on_disk : DiskOutcome) × (leaves : Bool)
-        × Keeps (found (step p.rules p.me p.state call on_disk).state leaves) image }
+        × Keeps p.rules.width (found (step p.rules p.me p.state call on_disk).state leaves) image }
 {}
 
 /// Each opening that meets its contract is a deed of a run, if a read of its disk gives the journal of
@@ -312,26 +325,29 @@ pub fn what_disks_tell<D: Disk>()
 /// - `refused`: so is one that is refused, and the disk that it leaves has the journal of the state after it.
 /// - `inside`: a crash inside an opening leaves an image that keeps what a stop in a run finds.
 pub fn openings_are_deeds<D: Disk>()
-    ensures settled { (disk : D) (s : State) (finds : Bool)
-        → Only (D.seen disk) (D.may_leave disk) → Keeps (found s finds) (D.seen disk)
-        → Tells D.Disk s disk }
-    ensures opened { (disk : D) (rules : Rules) (room me : ℕ) (s : State) (finds : Bool)
+    ensures settled { (disk : D) (width : ℕ) (s : State) (finds : Bool)
+        → Only (D.seen disk) (D.may_leave disk) → Keeps width (found s finds) (D.seen disk)
+        → Tells D.Disk width s disk }
+    ensures opened { (disk : D) (rules : Rules) (room me drawn : ℕ) (s : State) (finds : Bool)
         (p : PeerValue D)
-        → IsOpened D.Disk disk rules room me p → (s.mode ≡ Open → ⊥)
-        → records_of (kept (D.seen disk)) ≡ found s finds
-        → IsDone rules room me s (Opens finds Stands)
+        → IsOpened D.Disk disk rules room me drawn p → (s.mode ≡ Open → ⊥) → MayDraw rules drawn
+        → records_of rules.width (kept (D.seen disk)) ≡ found s finds
+        → IsDone rules room me s (Opens finds drawn Stands)
         (Some (Opened (Ok (epoch p.state.journal)))) p.state }
-    ensures refused { (disk left : D) (rules : Rules) (room me : ℕ) (s : State) (finds : Bool)
+    ensures refused { (disk left : D) (rules : Rules) (room me drawn : ℕ) (s : State) (finds : Bool)
         (error : OpenError)
-        → IsRefusedOpening D.Disk disk rules room me error left → (s.mode ≡ Open → ⊥)
-        → Keeps (found s finds) (D.seen disk) → records_of (kept (D.seen disk)) ≡ found s finds
-        → Tells D.Disk s disk
-        → IsRefusedDeed D.Disk rules room me s finds error left }
-    ensures inside { (disk : D) (rules : Rules) (room me : ℕ) (s : State) (finds : Bool)
+        → IsRefusedOpening D.Disk disk rules room me drawn error left → (s.mode ≡ Open → ⊥)
+        → MayDraw rules drawn
+        → Keeps rules.width (found s finds) (D.seen disk)
+        → records_of rules.width (kept (D.seen disk)) ≡ found s finds
+        → Tells D.Disk rules.width s disk
+        → IsRefusedDeed D.Disk rules room me drawn s finds error left }
+    ensures inside { (disk : D) (rules : Rules) (room me drawn : ℕ) (s : State) (finds : Bool)
         (image : List ℕ)
-        → OpeningLeaves D.Disk disk rules room me image → me ≤ rules.players
-        → (s.mode ≡ Open → ⊥)
-        → Keeps (found s finds) (D.seen disk) → records_of (kept (D.seen disk)) ≡ found s finds
-        → Tells D.Disk s disk
-        → IsStoppedOpening rules room me s image }
+        → OpeningLeaves D.Disk disk rules room me drawn image → me ≤ rules.players
+        → (s.mode ≡ Open → ⊥) → MayDraw rules drawn
+        → Keeps rules.width (found s finds) (D.seen disk)
+        → records_of rules.width (kept (D.seen disk)) ≡ found s finds
+        → Tells D.Disk rules.width s disk
+        → IsStoppedOpening rules room me drawn s image }
 {}

@@ -23,6 +23,7 @@ mod saying;
 mod verdict;
 mod watchers;
 
+pub use c8_news::{News, Signs};
 pub use c8_refusals::{
     CheckError, DecideError, LeaveError, OpenError, Refused, TickError, Unsayable,
 };

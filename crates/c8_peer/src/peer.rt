@@ -1,5 +1,5 @@
 //! The peer, and how it adds a record to its journal.
-ghost use Rattle.std.specs.Prelude.{◌≡◌, ◌≤◌, ◌<◌, ◌+◌, ◌*◌, [], ◌∷◌, ◌++◌, length, true, Some, Ok, Err, MatchResult, OnOk, OnErr, IsErrOf};
+ghost use Rattle.std.specs.Prelude.{◌≡◌, ◌≤◌, ◌<◌, ◌+◌, ◌*◌, [], ◌∷◌, ◌++◌, length, true, Some, option_map, Ok, Err, MatchOption, MatchResult, OnOk, OnErr, IsErrOf};
 ghost use Rattle.c8_disk.specs.Disk.{AddsNone};
 ghost use Rattle.c8_disk.specs.Runs.{LeavesOnly, IsSameDisk};
 ghost use Rattle.c8_disk.specs.Asks.{Asks};
@@ -13,7 +13,10 @@ ghost use Rattle.c8_roll.specs.Roll.{GrowsTo};
 ghost use Rattle.c8_roll.specs.Seen.{value_of as seen, rows_run, last_run_of};
 ghost use Rattle.c8_roll.specs.Rollback.{IsWithinWindow, KeepsRows, RunsFromWhatWasKnown};
 ghost use Rattle.c8_peer.specs.State.{Open, Down};
-ghost use Rattle.c8_peer.specs.checked.Held.{is_play, most_run_with, WasRoll};
+ghost use Rattle.c8_wire.specs.Lent.{packet_of};
+ghost use Rattle.c8_peer.specs.Lawful.{IsMemory};
+ghost use Rattle.c8_peer.specs.checked.Held.{is_play, HasNoLife, most_run_with, WasRoll};
+ghost use Rattle.c8_peer.specs.checked.Verdicts.{IsHeard, memory_after, noted_by};
 
 mod calls;
 mod checkpoint;
@@ -25,12 +28,13 @@ mod say;
 
 use crate::memory::Memory;
 use c8_disk::{Arm, Disk, DiskError};
-use c8_game::Game;
+use c8_game::{Game, Player};
 use c8_known::Known;
 use c8_log::Journal;
 use c8_record::laws::journals_stay_within_the_window;
 use c8_record::{Checks, Record, body_of, make_known};
 use c8_roll::Roll;
+use c8_wire::Datagram;
 pub use rows::Rows;
 use std::fmt;
 use std::marker::Model;
@@ -70,15 +74,15 @@ impl<'g, D: Disk> Model for Peer<'g, D> {
       room = p.room;
       me = p.known.me;
       disk = p.journal.disk;
-      state = state_of p.journal.bodies p.journal.pending p.journal.is_down p.memory;
+      state = state_of p.game.now.width p.journal.bodies p.journal.pending p.journal.is_down p.memory;
       last_run = last_run_of p.roll;
     } };
 
     ghost invariant = { λ p. IsPeer p.game.now p.room p.journal p.known p.memory
-        × IsRolled p.game.now (records_of p.journal.bodies) p.known (checked p.checks)
+        × IsRolled p.game.now (records_of p.game.now.width p.journal.bodies) p.known (checked p.checks)
         (value_of p.roll) (last_run_of p.roll)
         × KeepsRows p.game.now.window p.known (rows_run p.roll)
-        × IsPlanned p.game.now p.known.me (records_of p.journal.bodies) p.checks };
+        × IsPlanned p.game.now p.known.me (records_of p.game.now.width p.journal.bodies) p.checks };
 }
 
 /// Shows the player, the epoch, the ticks, the confirmed frames, and whether the peer is down.
@@ -125,7 +129,7 @@ impl<'g, D: Disk> Peer<'g, D> {
         ensures crash { AddsNone (D.may_leave self.old.disk) (D.may_leave self.new.disk) }
         ensures crash_keeps { AddsNone (D.may_leave self.new.disk) (D.may_leave self.old.disk) }
         ensures any_moment { LeavesOnly D.Disk self.old.disk self.new.disk
-            (KeepsWithOrWithout self.old.state.journal self.old.state.pending) }
+            (KeepsWithOrWithout self.old.rules.width self.old.state.journal self.old.state.pending) }
     {
         self.journal.arm(arm);
     }
@@ -147,17 +151,29 @@ impl<'g, D: Disk> Peer<'g, D> {
         self.journal.close()
     }
 
-    /// Appends a record of what players do, then updates what is known and the machine. If the disk
-    /// refuses the record, the peer is down with the record pending, and nothing else has changed.
-    fn keep(&mut self, lent: &Record<'_>) -> Result<(), DiskError>
+    /// Appends a record of what players do, then updates what is known and the machine, and notes in memory the datagram that
+    /// brought it, if one did. If the disk refuses the record, the peer is down with the record pending, and
+    /// nothing else has changed.
+    fn keep(
+        &mut self,
+        lent: &Record<'_>,
+        heard: Option<(Player, &Datagram<'_>)>,
+    ) -> Result<(), DiskError>
         requires up { self.old.state.mode ≡ Open }
         requires allowed { IsAllowed self.old.rules self.old.me self.old.room
             self.old.state.journal (value_of lent.now) }
         requires play { is_play (value_of lent.now) ≡ true }
+        requires heard { MatchOption heard (HasNoLife (value_of lent.now)) (λ heard.
+            IsHeard (known_by self.old) self.old.state.memory heard.0.number (packet_of heard.1.now)
+            × IsMemory self.old.rules self.old.room self.old.me
+            (self.old.state.journal ++ value_of lent.now ∷ [])
+            (memory_after (known_by self.old) self.old.state.memory (packet_of heard.1.now))) }
         ensures ok { OnOk result (self.new ≡ record self.old {
           disk = self.new.disk;
           state = record self.old.state {
             journal = self.old.state.journal ++ value_of lent.now ∷ [];
+            memory = noted_by (known_by self.old) self.old.state.memory
+                (option_map (λ heard. packet_of heard.1.now) heard.entry);
           };
           last_run = self.new.last_run;
         }) }
@@ -170,7 +186,7 @@ impl<'g, D: Disk> Peer<'g, D> {
           state = record self.old.state { pending = Some (value_of lent.now); mode = Down };
         }) }
         ensures any_moment { LeavesOnly D.Disk self.old.disk self.new.disk
-            (KeepsWithOrWithout self.old.state.journal (Some (value_of lent.now))) }
+            (KeepsWithOrWithout self.old.rules.width self.old.state.journal (Some (value_of lent.now))) }
         ensures failed { IsErrOf result DiskError.Failed
             → (slot_length * (length self.old.state.journal + 1) + 1 ≤ D.capacity self.old.disk)
             × (D.failures self.old.disk < D.failures self.new.disk) }
@@ -181,18 +197,19 @@ impl<'g, D: Disk> Peer<'g, D> {
         ensures same { IsSameDisk D.Disk self.old.disk self.new.disk }
         ensures asks { MatchResult result
             (λ _. Asks D.Disk (AppendWithin (D.capacity self.old.disk)
-            (length self.old.state.journal) (body_of (value_of lent.now))) (Ok tt)
+            (length self.old.state.journal) (body_of self.old.rules.width (value_of lent.now))) (Ok tt)
             self.old.disk self.new.disk)
             (λ why. Asks D.Disk (AppendWithin (D.capacity self.old.disk)
-            (length self.old.state.journal) (body_of (value_of lent.now))) (Err why)
+            (length self.old.state.journal) (body_of self.old.rules.width (value_of lent.now))) (Err why)
             self.old.disk self.new.disk) }
         ensures journal { LeavesJournal D.Disk self.new }
     {
         // For the proof: a journal that is up has no pending body, and no peer is too far ahead.
         let _up = self.journal.is_down();
         journals_stay_within_the_window();
-        match self.journal.append(&body_of(lent)) {
+        match self.journal.append(&body_of(lent, self.game.width())) {
             Ok(()) => {
+                self.memory.note_heard(&self.known, heard);
                 make_known(&mut self.known, lent);
                 go_on(&mut self.roll, &self.known);
                 self.is_sound();

@@ -50,7 +50,7 @@ module _ {D W C : Type 0} (disk : DiskGhosts D) (wire : WireGhosts W) (console :
     same = same_chain console old rested new waited.same same;
   }
 
-  -- if the turn entered no key set, none was taken
+  -- if the turn entered no input, none was taken
   pub none_taken : (taken : Bool) (p q : PeerValue D) (before after : W) → HasHandedIn disk wire None taken p q before after → taken ≡ false
   none_taken true p q before after handed = absurd handed.ticked
   none_taken false p q before after handed = refl

@@ -1,8 +1,7 @@
 -- How a person plays alone.
-use Rattle.std.specs.Prelude.{◌≡◌, ◌⊎◌, ◌≤◌, ℕ, zero, suc, min, true, List, [], ◌∷◌, ◌++◌, length, replicate}
+use Rattle.std.specs.Prelude.{◌≡◌, ◌⊎◌, ◌≤◌, ◌<◌, ◌^◌, ℕ, zero, suc, min, true, List, [], ◌∷◌, ◌++◌, length, replicate}
 use Rattle.c8_game.specs.Rules.{Rules}
 use Rattle.c8_game.specs.declared.row.Row.{Row}
-use Rattle.c8_game.specs.declared.row.Keys.{Keys}
 use Rattle.c8_machine.specs.State.{state}
 use Rattle.c8_machine.specs.Serial.{serial}
 use Rattle.c8_texts.specs.declared.lines.Played.{Played}
@@ -15,11 +14,12 @@ use Rattle.c8_play.specs.Desk.{typing, drawn_at, IsSameDesk, MayForget, HasShown
 -- held, the frame is counted, and the machine's screen is painted.
 pub record IsFrameAlone {C : Type 0} (console : Ghosts C) (rules : Rules) (before : List Row) (row : Row) (old new : Desk C) : Type 0 where
   pub read : Typing
-  pub keys : Keys
+  pub keys : ℕ
   pub counted : Desk C
   pub reads : HasRead (typing console old) read
-  pub held : AreHeld read keys.0
-  pub of_one : row.sets ≡ replicate 4 keys
+  pub held : AreHeld read keys
+  pub no_more : keys < 2 ^ 16
+  pub of_one : row.inputs ≡ replicate 4 keys
   pub counts : HasCounted read (typing console counted)
   pub forgets : MayForget old counted
   pub drawn : drawn_at console counted ≡ drawn_at console old

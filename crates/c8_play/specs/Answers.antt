@@ -21,7 +21,7 @@ HasReportedAlone old new =
 
 -- done only after a game alone, or a match, with its report
 abbrev pub EndsPlay : Option (List ℕ) → Option (List ℕ) → Status → Type 0
-EndsPlay old new status = status ≡ Done → HasReportedAlone old new ⊎ HasReported old new
+EndsPlay old new status = status ≡ Done → HasReportedAlone old new ⊎ HasReported false old new
 
 -- the value of the option `--report`, if the command line has one
 abbrev pub report_in : ArgMatches → Option (List ℕ)

@@ -1,6 +1,5 @@
 -- The frames of a match at a desk: the keys that are held are entered, and what the peer shows is painted.
-use Rattle.std.specs.Prelude.{◌≡◌, ◌⊎◌, ◌≤◌, ℕ, zero, suc, Bool, true, false, Option, None, Some}
-use Rattle.c8_game.specs.declared.row.Keys.{Keys}
+use Rattle.std.specs.Prelude.{◌≡◌, ◌⊎◌, ◌≤◌, ◌<◌, ◌%◌, ◌^◌, ℕ, zero, suc, Bool, true, false, Option, None, Some}
 use Rattle.c8_disk.specs.declared.disk.Disk.{Ghosts as DiskGhosts}
 use Rattle.c8_digest.specs.Origin.{run_since}
 use Rattle.c8_known.specs.Confirmed.{best_rows, confirmed}
@@ -8,7 +7,7 @@ use Rattle.c8_peer.specs.Peer.{PeerValue, known_by, begun_by}
 use Rattle.c8_screen.specs.Points.{Points}
 use Rattle.c8_transport.specs.declared.wire.Wire.{Ghosts as WireGhosts}
 use Rattle.c8_live.specs.Entered.{HasHandedIn}
-use Rattle.c8_session.specs.Rest.{IsOver}
+use Rattle.c8_session.specs.Ending.{IsOver}
 use Rattle.c8_live.specs.Turns.{HasHeard}
 use Rattle.c8_session.specs.declared.session.Session.{Session}
 use Rattle.c8_net.specs.declared.arguments.Asked.{Asked}
@@ -22,10 +21,10 @@ use Rattle.c8_play.specs.Desk.{typing, drawn_at, IsSameDesk, MayForget, HasShown
 abbrev pub points_shown : {D : Type 0} → PeerValue D → Points
 points_shown p = (run_since p.rules (begun_by p) (best_rows (known_by p))).screen
 
--- what a turn enters: these keys, or none if the tick is left out
-abbrev pub unless_left_out : Bool → Keys → Option Keys
-unless_left_out true keys = None
-unless_left_out false keys = Some keys
+-- what a turn enters: this input, or none if the tick is left out
+abbrev pub unless_left_out : Bool → ℕ → Option ℕ
+unless_left_out true input = None
+unless_left_out false input = Some input
 
 -- a frame whose keys were taken is counted
 abbrev pub IsCountedIf : Bool → Typing → Typing → Type 0
@@ -45,18 +44,19 @@ pub record HasWaited {D W C : Type 0} (disk : DiskGhosts D) (wire : WireGhosts W
   pub same : IsSameDesk console old new
 
 module _ {D W C : Type 0} (disk : DiskGhosts D) (wire : WireGhosts W) (console : ConsoleGhosts C) (window patience : ℕ) where
-  -- The desk reads the bytes of the keys, and the peer makes one turn. The turn enters the held keys, unless the tick
-  -- is left out; `HasLed` says when, by the counts before and after the frame. Nothing is written at the desk. The desk
+  -- The desk reads the bytes of the keys, and the peer makes one turn. The turn enters the held keys that inputs have a bit
+  -- for, unless the tick is left out; `HasLed` says when, by the counts before and after the frame. Nothing is written at the desk. The desk
   -- may forget what its screen shows, when the person asks to repaint it.
   pub record HasPlayed (p q : PeerValue D) (before after : W) (old new : Desk C) (led leads : ℕ) : Type 0 where
     pub read : Typing
-    pub keys : Keys
+    pub keys : ℕ
     pub out : Bool
     pub taken : Bool
     pub reads : HasRead (typing console old) read
-    pub held : AreHeld read keys.0
+    pub held : AreHeld read keys
+    pub no_more : keys < 2 ^ 16
     pub lead : HasLed window patience p out taken led leads
-    pub handed_in : HasHandedIn disk wire (unless_left_out out keys) taken p q before after
+    pub handed_in : HasHandedIn disk wire (unless_left_out out (keys % 256 ^ p.rules.width)) taken p q before after
     pub counted : IsCountedIf taken read (typing console new)
     pub forgets : MayForget old new
     pub drawn : drawn_at console new ≡ drawn_at console old
@@ -82,9 +82,14 @@ abbrev pub IsEnough : {D : Type 0} → Option ℕ → PeerValue D → Type 0
 IsEnough None p = ⊥
 IsEnough (Some enough) p = enough ≤ confirmed (known_by p)
 
--- why a match ended: all its turns are made, its session is over, enough frames are confirmed, the person has left, or the
--- journal was lost
+-- at least so many turns are made as a match waits for the others, if a number is given
+abbrev pub HasWaitedFor : Option ℕ → ℕ → Type 0
+HasWaitedFor None made = ⊥
+HasWaitedFor (Some wait) made = wait ≤ made
+
+-- why a match ended: all its turns are made, its session is over, enough frames are confirmed, the person has left, it has
+-- waited for as long as it was to, or the journal was lost
 abbrev pub IsEndOfPlay : {D C : Type 0} → Asked → ℕ → Session D → Desk C → Type 0
 IsEndOfPlay asked made session desk =
     (made ≡ asked.turns) ⊎ IsOver session ⊎ IsEnough asked.stop session.peer ⊎ (desk.has_left ≡ true)
-    ⊎ (session.schedule.is_lost ≡ true)
+    ⊎ HasWaitedFor asked.wait made ⊎ (session.schedule.is_lost ≡ true)

@@ -1,6 +1,6 @@
 -- What a person holds down, by the bytes that a keyboard sends.
 use Rattle.std.specs.Prelude.{◌≡◌, ◌⊎◌, ◌↔◌, ◌<◌, ℕ, List, [], ◌∷◌, ◌++◌, IsTrue}
-use Rattle.c8_game.specs.Rules.{HasKey}
+use Rattle.c8_game.specs.Rules.{HasBit}
 use Rattle.c8_terminal.specs.declared.signal.Signal.{Signal}
 use Rattle.c8_terminal.specs.Decoding.{Decoding, step, pause}
 use Rattle.c8_terminal.specs.Sent.{told_by}
@@ -44,7 +44,7 @@ HasRead old new = ((bytes : List ℕ) × HasCome bytes old new) ⊎ HasPaused ol
 
 -- these keys are held in the frame that begins
 abbrev pub AreHeld : Typing → ℕ → Type 0
-AreHeld t keys = (key : ℕ) → key < 16 → HasKey keys key ↔ IsTrue (is_held (t.press key))
+AreHeld t keys = (key : ℕ) → key < 16 → HasBit keys key ↔ IsTrue (is_held (t.press key))
 
 -- the frame that began is counted
 pub record HasCounted (old new : Typing) : Type 0 where

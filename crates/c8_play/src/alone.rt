@@ -7,7 +7,7 @@ ghost use Rattle.c8_play.specs.Desk.{IsSameDesk};
 use crate::console::Console;
 use crate::desk::Desk;
 use c8_game::{Game, Row};
-use c8_machine::Machine;
+use c8_machine::{Keys, Machine};
 use c8_terminal::{Chime, KeyRow};
 use c8_texts::Played;
 use std::time::Duration;
@@ -39,8 +39,8 @@ pub fn play_alone<C: Console>(
         desk.sit_out();
         let keys = desk.begin();
         desk.entered();
-        let held = Row { sets: [keys; 4] };
-        played.machine.frame(game, game.joined(&held));
+        let held = Row { inputs: [keys; 4] };
+        played.machine.frame(game, Keys::from(game.joined(&held)));
         played.frames = frame + 1;
         let bell = chime.bell(played.machine.tone());
         desk.show(played.machine.screen(), below.row(now, bell));
@@ -54,7 +54,6 @@ fn heed<C: Console>(desk: &mut Desk<C>, row: &mut KeyRow) -> Duration
 {
     if desk.take_spoilt() {
         row.forget();
-        row.remind();
     }
     if desk.take_wants_help() {
         row.remind();

@@ -5,14 +5,13 @@ ghost use Rattle.c8_command.specs.declared.status.Status.TheVariants as statuses
 ghost use Rattle.c8_net.specs.Answers.{EndsMatch};
 ghost use Rattle.c8_play.specs.Answers.{HasReportedAlone, EndsPlay, IsSilent, WantsReport, WantsNoReport};
 
-use crate::again::Drawn;
 use crate::alone::play_alone;
 use crate::arguments::{Who, pace_of, wants_report, who_of};
 use crate::desk::{Desk, Tempo};
 use crate::ending::{Ending, tell_ending};
 use crate::live::{Live, tell_lateness};
 use crate::terminal::Terminal;
-use c8_command::{Status, System, Terminals, is_explained, read_file, word_of};
+use c8_command::{Drawn, Status, System, Terminals, is_explained, read_file, word_of};
 use c8_game::Player;
 use c8_net::{Asked, asked_for, game_at, number_of, perform_given, refuse};
 use c8_terminal::{Chime, KeyRow, KeyWords};

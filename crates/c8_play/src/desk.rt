@@ -1,6 +1,6 @@
 //! A console, with its held keys, painter and frame clock.
 
-ghost use Rattle.std.specs.Prelude.{◌≡◌, ◌≤◌, ◌<◌, ◌++◌, ℕ, true, false, List, []};
+ghost use Rattle.std.specs.Prelude.{◌≡◌, ◌≤◌, ◌<◌, ◌^◌, ◌++◌, ℕ, true, false, List, []};
 ghost use Rattle.c8_screen.specs.Points.{points_of};
 ghost use Rattle.c8_terminal.specs.Decoder.{IsOfKeypad, read_by};
 ghost use Rattle.c8_terminal.specs.Held.{press_at, hold_of};
@@ -12,7 +12,7 @@ ghost use Rattle.c8_play.specs.Desk.{typing, seen_at, drawn_at, IsSameDesk, MayF
 
 use crate::below::write_lines;
 use crate::console::{Console, KEY_BYTES};
-use c8_game::Keys;
+use c8_game::Input;
 use c8_screen::Screen;
 use c8_terminal::{Beat, Decoder, FIRST_ROW, Held, Lateness, Painter, Signal};
 use mio::event::Source;
@@ -29,6 +29,10 @@ const LOOK: u64 = 50;
 /// An escape without a next byte for this many milliseconds is the key itself. Otherwise it may start a sequence that a
 /// read has split.
 const SILENCE: u64 = 25;
+
+/// How many frames begin between two whole pictures. A terminal does not say that its size has changed, and it may have lost
+/// a part of the picture then.
+const PART: u8 = 60;
 
 /// How fast a game goes, and how long a stroke counts if the keyboard reports no release.
 #[derive(Clone, Copy, Debug, PartialEq, Eq)]
@@ -55,9 +59,11 @@ pub struct Desk<C> {
     has_left: bool,
     /// Whether something else may have been written on the screen.
     is_spoilt: bool,
+    /// How many frames have begun since the last whole picture.
+    since_whole: u8,
     /// Whether the person has asked by control-D to give another player up.
     gives_up: bool,
-    /// Whether the person has asked by F1 for the own keys.
+    /// Whether the person has asked by F1 or control-L for the own keys.
     wants_help: bool,
 }
 
@@ -76,6 +82,7 @@ impl<C: Console> Desk<C> {
             last: now,
             has_left,
             is_spoilt: false,
+            since_whole: 0,
             gives_up: false,
             wants_help: false,
         }
@@ -129,19 +136,36 @@ impl<C: Console> Desk<C> {
         }
     }
 
-    /// Begins the next frame, and returns the keys that are held in it. Unless `entered` follows, they stay held in the
-    /// next frame too.
-    pub fn begin(&mut self) -> Keys
+    /// Begins the next frame, and returns the keys that are held in it: key `k` is bit `k`. Unless `entered` follows, they
+    /// stay held in the next frame too.
+    pub fn begin(&mut self) -> Input
         ensures read { HasRead (typing C.Console self.old) (typing C.Console self.new) }
-        ensures held { AreHeld (typing C.Console self.new) result.0 }
+        ensures held { AreHeld (typing C.Console self.new) result }
+        ensures no_more { result < 2 ^ 16 }
         ensures seen { MayForget self.old self.new }
         ensures drawn { drawn_at C.Console self.new ≡ drawn_at C.Console self.old }
     {
         let now = self.console.now();
         self.beat.begin(now);
+        self.renew();
         self.read(now);
         let mut held = self.held;
         held.frame()
+    }
+
+    /// Forgets once a second what the screen shows.
+    fn renew(&mut self)
+        ensures typing { typing C.Console self.new ≡ typing C.Console self.old }
+        ensures seen { MayForget self.old self.new }
+        ensures drawn { drawn_at C.Console self.new ≡ drawn_at C.Console self.old }
+    {
+        if self.since_whole < PART {
+            self.since_whole += 1;
+            return;
+        }
+        self.since_whole = 0;
+        self.painter.forget();
+        self.is_spoilt = true;
     }
 
     /// Notes that the keys of the last frame were entered.
@@ -237,6 +261,7 @@ impl<C: Console> Desk<C> {
             Signal::Repaint => {
                 self.painter.forget();
                 self.is_spoilt = true;
+                self.wants_help = true;
             }
             Signal::GiveUp => self.gives_up = true,
             Signal::Help => self.wants_help = true,

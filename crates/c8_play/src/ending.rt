@@ -1,11 +1,12 @@
 //! How a match ended, in words.
 
-use crate::again::{Drawn, quoted, write_again};
 use crate::status::delay_of;
+use crate::terminal::columns;
+use c8_command::{Drawn, quoted, write_again};
 use c8_disk::Disk;
 use c8_game::Player;
 use c8_net::Asked;
-use c8_session::Session;
+use c8_session::{Session, SessionEnd};
 use c8_transport::Losses;
 use std::alloc::Global;
 use std::io;
@@ -20,6 +21,12 @@ pub enum Cause {
     Over,
     /// Player 1 dropped the player.
     Dropped,
+    /// Player 1 left.
+    ChairLeft,
+    /// Player 1 came back without its journal.
+    ChairLost,
+    /// The others know this player by another journal. A refusal says so.
+    Restarted,
     /// The person left.
     Left,
     /// The person left before anybody was heard.
@@ -28,6 +35,8 @@ pub enum Cause {
     Strange,
     /// The turns or the frames that were asked for are done.
     Stopped,
+    /// Nobody was heard for as long as the match was to wait. A refusal says so.
+    Unanswered,
 }
 
 /// How a match ended, and after how many of its frames.
@@ -49,14 +58,14 @@ impl Ending {
     /// Of a session after its last turn.
     pub(crate) fn of<D: Disk>(session: &Session<'_, D>, has_left: bool, losses: Losses) -> Ending {
         let (confirmed, frames) = (session.peer().confirmed(), session.frames());
-        let cause = if session.peer().dropped() {
-            Cause::Dropped
-        } else if confirmed >= frames {
-            Cause::Over
-        } else if has_left {
-            cause_of_leaving(session, losses)
-        } else {
-            Cause::Stopped
+        let cause = match session.why_over() {
+            Some(SessionEnd::Dropped) => Cause::Dropped,
+            Some(SessionEnd::ChairLost) => Cause::ChairLost,
+            Some(SessionEnd::Refused) => Cause::Restarted,
+            _ if confirmed >= frames => Cause::Over,
+            Some(SessionEnd::ChairLeft) => Cause::ChairLeft,
+            _ if has_left => cause_of_leaving(session, losses),
+            _ => Cause::Stopped,
         };
         Ending {
             cause,
@@ -67,7 +76,15 @@ impl Ending {
 
     /// Whether the player cannot go on in this match.
     pub fn is_final(self) -> bool {
-        matches!(self.cause, Cause::Over | Cause::Dropped)
+        matches!(
+            self.cause,
+            Cause::Over | Cause::Dropped | Cause::ChairLost | Cause::Restarted
+        )
+    }
+
+    /// Whether it ended without the person's wish.
+    pub(crate) fn is_by_others(self) -> bool {
+        self.is_final() || self.cause == Cause::ChairLeft
     }
 
     /// Whether nobody else was there.
@@ -84,7 +101,7 @@ impl Ending {
             frames,
         } = self;
         match cause {
-            Cause::Unbegun => Ok(()),
+            Cause::Unbegun | Cause::Unanswered => Ok(()),
             Cause::Over => write!(out, "the match is over: all {frames} frames are confirmed"),
             Cause::Dropped => {
                 write!(
@@ -92,6 +109,15 @@ impl Ending {
                     "player 1 dropped you after {confirmed} of {frames} frames"
                 )
             }
+            Cause::ChairLeft => write!(
+                out,
+                "player 1 left the match after {confirmed} of {frames} frames"
+            ),
+            Cause::ChairLost => write!(
+                out,
+                "player 1 came back without its journal, so the match is over"
+            ),
+            Cause::Restarted => write!(out, "you began this match with a journal that is not here"),
             Cause::Left => write!(
                 out,
                 "you left the match after {confirmed} of {frames} frames"
@@ -146,9 +172,9 @@ pub fn tell_ending<E: Write>(
     if ending.is_final() {
         return writeln!(out);
     }
-    if !has_journal {
+    if !has_journal && !ending.is_unbegun() {
         return writeln!(out, "; you cannot come back, since you kept no journal");
     }
     writeln!(out, "; to go on:")?;
-    write_again(alloc, out, drawn)
+    write_again(alloc, out, columns(), drawn)
 }

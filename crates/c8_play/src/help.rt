@@ -39,5 +39,6 @@ A player that starts again without its journal cannot play on: the others hold i
 The row says so, and after three seconds the command ends.
 
 A turn is a frame; --rate says how many are made a second. The other options, the refusals and the exit
-statuses are those of the command peer, and one more refusal; standard input is not read:
-  open 7 Lost         the others hold inputs that the journal does not have";
+statuses are those of the command peer, and two more refusals; standard input is not read:
+  open 7 Lost         the others hold inputs that the journal does not have
+  open 8 Nobody       nobody answered for as long as --wait of host and join says";

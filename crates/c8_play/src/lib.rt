@@ -6,7 +6,6 @@
 //! without a network. `arguments` has the options of `play`, and `command` runs it.
 #![tactic(auto)]
 
-mod again;
 mod alone;
 mod arguments;
 mod below;
@@ -21,7 +20,6 @@ mod live;
 mod status;
 mod terminal;
 
-pub use again::{Drawn, quoted};
 pub use alone::play_alone;
 pub use arguments::{HOLD, MUTE, PLAY, REPORT, wants_report};
 pub use command::{keys_at, play_given};

@@ -5,12 +5,12 @@ ghost use Rattle.c8_session.specs.Runs.{HasRunOn};
 ghost use Rattle.c8_live.specs.Ends.{IsEnd};
 ghost use Rattle.c8_net.specs.Match.{HasEnded};
 ghost use Rattle.c8_play.specs.Desk.{IsSameDesk};
-ghost use Rattle.c8_play.specs.Frames.{IsFrame, IsSeen, HasPlayed, HasWaited, AreFrames, IsEnough, IsEndOfPlay};
+ghost use Rattle.c8_play.specs.Frames.{IsFrame, IsSeen, HasPlayed, HasWaited, AreFrames, IsEnough, HasWaitedFor, IsEndOfPlay};
 ghost use Rattle.c8_play.specs.Lead.{window_of, patience_of, frames_of};
 
 use crate::console::Console;
 use crate::desk::{Desk, Tempo};
-use crate::ending::Ending;
+use crate::ending::{Cause, Ending};
 use crate::lead::{Lead, hindmost};
 use crate::status::StatusRow;
 use arrayvec::ArrayVec;
@@ -24,6 +24,7 @@ use c8_session::Session;
 use c8_session::laws::peers_run_on;
 use c8_terminal::{CLEAR_ROW, Chime, KeyWords, LONGEST_ROW, Lateness};
 use c8_transport::{Losses, Sealed, Wire};
+use c8_wire::has_lives;
 use std::io;
 use std::io::Write;
 use std::net::Net;
@@ -106,7 +107,13 @@ fn play_over<'g, D: Disk, W: Wire + Drop, C: Console + Drop, E: Write>(
     let (mut session, mut wire, mut desk) = (session, wire, desk);
     let turns = play_frames(&mut session, &mut wire, &mut desk, game, rate, asked, keys);
     *ending = Ending::of(&session, desk.has_left(), wire.losses());
-    if ending.is_final() && turns.is_ok() {
+    if let Ok(made) = &turns
+        && ending.cause == Cause::Stopped
+        && is_unanswered(&session, asked.wait, *made)
+    {
+        ending.cause = Cause::Unanswered;
+    }
+    if ending.is_by_others() && turns.is_ok() {
         linger(&mut desk, *ending);
     }
     let lateness = desk.end();
@@ -114,7 +121,11 @@ fn play_over<'g, D: Disk, W: Wire + Drop, C: Console + Drop, E: Write>(
         let _ = tell_lateness(progress, &lateness);
         let _ = tell_turned_away(progress, wire.losses());
     }
-    Ended { session, turns }
+    Ended {
+        session,
+        turns,
+        is_unanswered: ending.cause == Cause::Unanswered,
+    }
 }
 
 /// Shows for two seconds how a match ended, or until the person leaves.
@@ -155,7 +166,8 @@ fn tell_turned_away<E: Write>(out: &mut E, losses: Losses) -> io::Result<()> {
 }
 
 /// Plays a session of this game at a desk, one turn a frame. It ends when the session is over, its turns are made,
-/// `--stop` frames are confirmed, the person leaves, or three seconds after it showed that the journal was lost. Between
+/// `--stop` frames are confirmed, the person has left and, in version 3, six turns have said so, nobody was heard for as long as it was to wait, or three seconds after it
+/// showed that the journal was lost. Between
 /// two frames the peer listens. A player that was ahead for a second, `rate` frames, leaves out a tick. The row below the
 /// picture names the own keys by `keys`. Returns how many turns were made. The error is the disk's or the wire's.
 pub fn play_frames<D: Disk, W: Wire, C: Console>(
@@ -188,7 +200,10 @@ pub fn play_frames<D: Disk, W: Wire, C: Console>(
     let mut made: u64 = 0;
     let mut lost: u16 = 0;
     for turn in 0..asked.turns {
-        if session.is_over() || is_enough(session.peer(), asked.stop) || desk.has_left() {
+        if session.is_over() || is_enough(session.peer(), asked.stop) || has_gone(session, desk) {
+            break;
+        }
+        if is_unanswered(session, asked.wait, made) {
             break;
         }
         if session.is_lost() {
@@ -202,6 +217,37 @@ pub fn play_frames<D: Disk, W: Wire, C: Console>(
         made = turn + 1;
     }
     Ok(made)
+}
+
+/// Returns whether the person has left, and no turn says so. In version 3 some do, and then the session is over.
+fn has_gone<D: Disk, C: Console>(session: &Session<'_, D>, desk: &Desk<C>) -> bool
+    ensures { result ≡ true → desk.now.has_left ≡ true }
+{
+    desk.has_left() && !has_lives(session.peer().wire())
+}
+
+/// Returns whether nobody was heard in as many turns as a match was to wait for; false without a number.
+fn is_unanswered<D: Disk>(session: &Session<'_, D>, wait: Option<u64>, made: u64) -> bool
+    ensures { result ≡ true → HasWaitedFor wait made }
+{
+    match wait {
+        Some(wait) => made >= wait && is_alone(session, made),
+        None => false,
+    }
+}
+
+/// Returns whether no other player was heard in all the turns of a session, of which so many were made.
+fn is_alone<D: Disk>(session: &Session<'_, D>, made: u64) -> bool {
+    let peer = session.peer();
+    let mut is_alone = true;
+    for number in 1..peer.players() + 1 {
+        if let Some(player) = Player::new(number)
+            && player != peer.me()
+        {
+            is_alone = is_alone && session.silent(player) >= made;
+        }
+    }
+    is_alone
 }
 
 /// Returns whether at least `enough` frames are confirmed; false without a number.
@@ -275,7 +321,8 @@ enum Entry {
     Refused,
 }
 
-/// Makes the turn of a frame. It enters the held keys, unless this player leaves out a tick.
+/// Makes the turn of a frame. It enters the held keys, unless this player leaves out a tick. Inputs of 1 byte have no bit
+/// for keys 8 to F.
 fn enter<D: Disk, W: Wire, C: Console>(
     session: &mut Session<'_, D>,
     wire: &mut W,
@@ -294,7 +341,8 @@ fn enter<D: Disk, W: Wire, C: Console>(
         let _taken = make_turn(session, None, wire)?;
         return Ok(Entry::LeftOut);
     }
-    if make_turn(session, Some(keys), wire)? {
+    let input = keys.cut(session.peer().width());
+    if make_turn(session, Some(input), wire)? {
         desk.entered();
         Ok(Entry::Taken)
     } else {
@@ -320,7 +368,6 @@ fn show<D: Disk, C: Console>(
     }
     if desk.take_spoilt() {
         status.forget();
-        status.remind();
     }
     if desk.take_wants_help() {
         status.remind();
@@ -351,7 +398,8 @@ fn sound<D: Disk>(session: &Session<'_, D>, status: &mut StatusRow) {
     status.sound(session.peer().shown().tone());
 }
 
-/// Gives up the player for whom the match waits, once the person has asked for it twice; and who was silent for too long.
+/// Gives up the player for whom the match waits, once the person has asked for it twice; and who was silent for too long. If the
+/// person has left, the next turns say so.
 fn consider<D: Disk, C: Console>(
     session: &mut Session<'_, D>,
     desk: &mut Desk<C>,
@@ -361,6 +409,9 @@ fn consider<D: Disk, C: Console>(
     ensures desk { IsSameDesk C.Console desk.old desk.new }
     ensures peer { session.new.peer ≡ session.old.peer }
 {
+    if desk.has_left() {
+        let _says = session.bye();
+    }
     lose_patience(session, status);
     if desk.take_gives_up()
         && let Some(player) = status.give_up(waits)

@@ -13,6 +13,9 @@ use c8_transport::{Losses, Relaying};
 use std::io::Write;
 use std::time::Duration;
 
+/// For how many seconds a second control-D drops the player.
+const AGAIN: u64 = 5;
+
 /// The numbers of the row.
 #[derive(Clone, Copy, Default)]
 struct Numbers {
@@ -34,14 +37,18 @@ pub struct StatusRow {
     relaying: Relaying,
     /// Whether the journal lacks inputs that the others hold.
     is_lost: bool,
-    /// By place: whether each player is dropped, and whether the journal has its keys.
+    /// By place: whether each player is dropped, whether the journal has its keys, and whether it came back without its own.
     dropped: [bool; MOST_PLAYERS],
     known: [bool; MOST_PLAYERS],
+    restarted: [bool; MOST_PLAYERS],
     /// How many columns the terminal has.
     columns: usize,
     numbers: Numbers,
-    /// The player that one more control-D drops.
+    /// The player that one more control-D drops, and until when.
     asked: Option<Player>,
+    until: Duration,
+    /// The time of the last row.
+    now: Duration,
     chime: Chime,
     /// After how many silent turns player 1 drops a player that was here; `None` for never.
     patience: Option<u64>,
@@ -72,9 +79,12 @@ impl StatusRow {
             is_lost: false,
             dropped: [false; MOST_PLAYERS],
             known: [false; MOST_PLAYERS],
+            restarted: [false; MOST_PLAYERS],
             columns: NARROWEST,
             numbers: Numbers::default(),
             asked: None,
+            until: now,
+            now,
             chime: Chime::new(true),
             patience: None,
             keys: KeyWords::none(),
@@ -137,8 +147,8 @@ impl StatusRow {
         self.counters.note(session, 0);
     }
 
-    /// Notes for each player whether it is dropped, and whether the journal has its keys. Those of the frames of the delay
-    /// are there before anybody came.
+    /// Notes for each player whether it is dropped, whether the journal has its keys, and whether another journal of it was heard
+    /// of. The keys of the frames of the delay are there before anybody came.
     pub fn follow<D: Disk>(&mut self, peer: &Peer<'_, D>) {
         self.delay = delay_of(peer);
         for number in 1..peer.players() + 1 {
@@ -146,6 +156,7 @@ impl StatusRow {
                 let place = player.place();
                 self.dropped[place] = peer.cut_of(player).is_some();
                 self.known[place] = peer.count(player) > self.delay;
+                self.restarted[place] = peer.other(player) != 0;
             }
         }
     }
@@ -155,15 +166,31 @@ impl StatusRow {
         player != self.me && (self.gauge.has_heard(player) || self.known[player.place()])
     }
 
-    /// Whether player 1 may drop a player: one that was here, or for whom another waits too.
-    pub(crate) fn may_drop(&self, player: Player) -> bool {
-        let mut was_here = self.was_here(player);
+    /// Whether another player was here.
+    pub(crate) fn has_company(&self) -> bool {
+        let mut has_company = false;
         for number in 1..self.players.saturating_add(1) {
-            if let Some(other) = Player::new(number) {
-                was_here = was_here || self.was_here(other);
+            if let Some(player) = Player::new(number) {
+                has_company = has_company || self.was_here(player);
             }
         }
-        self.me.is_chair() && was_here
+        has_company
+    }
+
+    /// Whether the match has begun: another player was here, or is dropped.
+    pub(crate) fn has_begun(&self) -> bool {
+        self.has_company() || self.dropped.contains(&true)
+    }
+
+    /// Whether the relay does not carry, so that nothing is known of the others.
+    pub(crate) fn is_cut_off(&self) -> bool {
+        !matches!(self.relaying, Relaying::Direct | Relaying::Joined)
+    }
+
+    /// Whether player 1 may drop somebody: one that was here, or for whom another waits too; and nobody while the relay does not
+    /// carry.
+    pub(crate) fn may_drop(&self) -> bool {
+        self.me.is_chair() && self.has_company() && !self.is_cut_off()
     }
 
     /// Whether player 1 drops a player by itself: the player was here, and has been silent for as many turns as the
@@ -180,15 +207,19 @@ impl StatusRow {
         self.shown.clear();
     }
 
-    /// Takes a control-D while the match waits for a player. If player 1 may drop that player, the second control-D returns
-    /// it.
+    /// Takes a control-D while the match waits for a player. If player 1 may drop that player, the second control-D within
+    /// five seconds returns it.
     pub fn give_up(&mut self, waits: Option<Player>) -> Option<Player> {
-        let player = waits.filter(|player| self.may_drop(*player))?;
+        if !self.may_drop() {
+            return None;
+        }
+        let player = waits?;
         if self.asked == Some(player) {
             self.asked = None;
             return Some(player);
         }
         self.asked = Some(player);
+        self.until = self.now.saturating_add(Duration::from_secs(AGAIN));
         None
     }
 
@@ -202,18 +233,19 @@ impl StatusRow {
     /// Returns the bytes of the row for a peer that is this far. The text is like
     /// `423/421  waits for 2  2: 16 ms  back 3, longest 5`. Its parts, the most important first:
     ///
-    /// - how many frames are ticked and confirmed;
+    /// - how many frames are ticked and confirmed; before anybody came `Escape ends`;
     /// - `your journal lacks inputs that the others hold`, and then nothing else, if that is so;
-    /// - `relay: no answer for 4 s`, `seat 2 is taken` or `relay is full`, while that is so;
+    /// - `relay: no answer for 4 s`, `seat 2 is taken` or `relay is full`, while that is so, and then nothing of the others;
     /// - `the machines differ`, while the alarm stands;
     /// - the own keys, as `you are player 2: 4 up, r down, f serve`, for ten seconds after F1 or control-L;
-    /// - the player for whom the match waits, with whole seconds of its silence, as `waits for 2: 12 s`; this part
-    ///   changes at once. If no datagram of that player ever came, it says after ten seconds what may be wrong, or at once
-    ///   that packets come with another secret;
+    /// - the player for whom the match waits, with whole seconds of its silence, as `waits for 2: 12 s`, or at player 1 that
+    ///   it `came back without its journal`; this part changes at once. If no datagram of that player ever came, it says after ten seconds who may not have started, or at
+    ///   once that packets come with another secret;
     /// - how player 1 drops that player, if it was here before, or if somebody else was;
     /// - the own keys also before the match goes on, and for ten seconds from then on; where they do not fit, `F1: keys`;
-    /// - how long each other player has been silent; or, for three seconds after a first datagram that was waited for,
-    ///   `2 is here`; or, for good, `2 dropped`;
+    /// - what else may be wrong where nobody answers;
+    /// - how long each other player who was here has been silent; or, for three seconds after a first datagram that was waited
+    ///   for, `2 is here`; or, for good, `2 dropped`;
     /// - how often the peer rolled back in the last second, and the most frames that one rollback simulated again.
     ///
     /// A part that does not fit the columns of the terminal is left out as a whole.
@@ -232,7 +264,8 @@ impl StatusRow {
                 is_alarmed: standing.is_alarmed,
             };
         }
-        if self.asked != waits {
+        self.now = now;
+        if self.asked != waits || now >= self.until || self.is_cut_off() {
             self.asked = None;
         }
         let first = self.first.unwrap_or(confirmed.max(self.delay));

@@ -47,6 +47,8 @@ pub struct Terminal<'r, R> {
     events: Events,
     /// The last time of the clock.
     last: Duration,
+    /// A byte of the keys that is read once more.
+    again: Option<u8>,
     exchange: Exchange,
 }
 
@@ -68,13 +70,21 @@ where
             rt,
             keys,
             screen,
-            columns: number_in(COLUMNS, NARROWEST),
+            columns: columns(),
             rows: number_in(LINES, LOWEST),
             poll,
             events,
             last: Duration::from_secs(0),
+            again: None,
             exchange: Exchange::new(),
         })
+    }
+}
+
+impl<'r, R> Terminal<'r, R> {
+    /// Gives back a byte of the keys: the next read begins with it.
+    pub fn put_back(&mut self, byte: u8) {
+        self.again = Some(byte);
     }
 }
 
@@ -100,6 +110,11 @@ impl<'r, R: Clock> Console for Terminal<'r, R> {
     }
 
     fn keys(&mut self, bytes: &mut [u8; KEY_BYTES]) -> Result<usize, Gone> {
+        if let Some(byte) = self.again.take() {
+            bytes[0] = byte;
+            self.exchange.sent(&bytes[..1]);
+            return Ok(1);
+        }
         match self.keys.read(bytes) {
             // The end of a terminal's input means that it has hung up.
             Ok(0) => Err(Gone),
@@ -142,6 +157,11 @@ impl<'r, R: Clock> Console for Terminal<'r, R> {
     fn sleep(&mut self, time: Duration) {
         thread::sleep(self.rt, time);
     }
+}
+
+/// How many columns the terminal of the process has.
+pub(crate) fn columns() -> usize {
+    number_in(COLUMNS, NARROWEST)
 }
 
 /// Returns the number in an environment variable; `default` without one.

@@ -1,15 +1,16 @@
 //! How a match ended, in words.
 
 use crate::asked::ASKED;
+use c8_command::{Drawn, quoted};
 use c8_net::Asked;
-use c8_play::{Cause, Drawn, Ending, quoted, tell_ending};
+use c8_play::{Cause, Ending, tell_ending};
 use std::alloc::Global;
 
 /// What ended a match after how many of 36,000 frames, and the words.
 type Row = (Cause, u32, &'static str);
 
 #[rattlefmt::skip]
-static ROWS: [Row; 7] = [
+static ROWS: [Row; 11] = [
     (Cause::Unbegun, 0, ""),
     (Cause::Over, 36_000, "the match is over: all 36000 frames are confirmed"),
     (Cause::Dropped, 665, "player 1 dropped you after 665 of 36000 frames"),
@@ -17,6 +18,10 @@ static ROWS: [Row; 7] = [
     (Cause::Alone, 2, "you left before anybody came"),
     (Cause::Strange, 2, "you left: packets came with another secret, game or room"),
     (Cause::Stopped, 5, "5 of 36000 frames are confirmed"),
+    (Cause::Unanswered, 2, ""),
+    (Cause::ChairLeft, 665, "player 1 left the match after 665 of 36000 frames"),
+    (Cause::ChairLost, 665, "player 1 came back without its journal, so the match is over"),
+    (Cause::Restarted, 2, "you began this match with a journal that is not here"),
 ];
 
 fn rows() -> &'static [Row] {
@@ -65,12 +70,17 @@ type Told = (&'static str, Cause, u32, &'static str, &'static str);
 
 /// The lines after a match that ended early and can go on, and after one that cannot. The words of the process stand between.
 #[rattlefmt::skip]
-static TOLD: [Told; 5] = [
-    ("one.journal", Cause::Left, 5, "to see it again: ./c8play replay 'my rally.game' one.journal --screen\nyou left the match after 5 of 36000 frames; to go on:\n  ./c8play", " --room 77\n"),
+static TOLD: [Told; 8] = [
+    ("one.journal", Cause::Left, 5, "to see it again: ./c8play replay 'my rally.game' one.journal --screen\nyou left the match after 5 of 36000 frames; to go on:\n  ./c8play", "77\n"),
     // nobody was there: nothing is to be seen
-    ("one.journal", Cause::Alone, 2, "you left before anybody came; to go on:\n  ./c8play", " --room 77\n"),
+    ("one.journal", Cause::Alone, 2, "you left before anybody came; to go on:\n  ./c8play", "77\n"),
     ("one.journal", Cause::Over, 36_000, "to see it again: ./c8play replay 'my rally.game' one.journal --screen\n", "\nthe match is over: all 36000 frames are confirmed\n"),
     ("-", Cause::Over, 36_000, "the match is over", "the match is over: all 36000 frames are confirmed\n"),
+    // player 1 may go on
+    ("one.journal", Cause::ChairLeft, 5, "to see it again: ./c8play replay 'my rally.game' one.journal --screen\nplayer 1 left the match after 5 of 36000 frames; to go on:\n  ./c8play", "77\n"),
+    ("one.journal", Cause::ChairLost, 5, "to see it again: ./c8play replay 'my rally.game' one.journal --screen\n", "\nplayer 1 came back without its journal, so the match is over\n"),
+    // without a journal too, as long as nobody was there
+    ("-", Cause::Alone, 2, "you left before anybody came; to go on:\n  ./c8play", "77\n"),
     ("-", Cause::Left, 5, "you left the match", "you left the match after 5 of 36000 frames; you cannot come back, since you kept no journal\n"),
 ];
 

@@ -1,12 +1,11 @@
 //! What `host` shows to a friend, and what `join` reads.
 
 use crate::console::{Log, Still, Written};
-use c8_files::secret_in;
+use c8_files::{card_in, secret_in};
 use c8_host::{
     Holder, Invited, Ticket, card_text, digits_in, filled, invitation, link_name, long_link,
     own_addresses, short_link, typed,
 };
-use c8_net::card_in;
 use c8_play::{Desk, Tempo};
 use c8_terminal::rows_of;
 use c8_transport::Secret;

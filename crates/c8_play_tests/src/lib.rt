@@ -2,9 +2,9 @@
 //! `tools/programs`.
 //!
 //! `console` has consoles with scripted keys, `asked` what a match asks for. `alone` plays a game at a console, `waits` and
-//! `three` matches whose others are absent. `rows` has the row below the screen,
-//! `endings` the words after a match, `friends` what `host` and `join` show and read, `pauses` the sleeps of a peer's threads,
-//! `disks` disks that are too slow. `drawing` has the pictures of a watched match, and `stop` its end after enough frames.
+//! `three` matches whose others are absent. `rows` has the row below the screen, `endings` the words after a match, `friends` what
+//! `host` and `join` show and read, `pauses` the sleeps of a peer's threads. `drawing` has the pictures of a watched match, and
+//! `stop` its end after enough frames.
 //! `answers` and `refusals` have lines of refusals. Functions without contracts lend the tables, so that a proof holds for any
 //! rows.
 #![tactic(auto)]
@@ -17,8 +17,6 @@ mod answers;
 mod asked;
 #[cfg(test)]
 mod console;
-#[cfg(test)]
-mod disks;
 #[cfg(test)]
 mod drawing;
 #[cfg(test)]

@@ -103,6 +103,7 @@ where
         &[remote],
         none,
         None,
+        0,
         b"".as_slice(),
     ) else {
         return None;

@@ -47,6 +47,7 @@ fn tell_all(out: &mut Vec<u8>) -> bool {
         && tell_peer(out, PeerError::Open(OpenError::Memory))
         && tell_peer(out, PeerError::Open(OpenError::Disk(DiskError::Full)))
         && tell_peer(out, PeerError::Disk(DiskError::Full))
+        && tell_peer(out, PeerError::Restarted)
         && tell(out, Refusal::MEMORY, &TextError::Memory)
         && tell_text(out, TextsError::FirstMemory)
         && tell_text(out, TextsError::SecondMemory)
@@ -74,6 +75,8 @@ refused: disk 2 Full
 the disk refused a call
 refused: disk 2 Full
 the disk is full
+refused: hand 6 Restarted
+this player began the match with a journal that is not here
 refused: open 5 Memory
 out of memory
 one: out of memory for the first text

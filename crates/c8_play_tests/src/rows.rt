@@ -11,17 +11,17 @@ use std::time::Duration;
 type Told = (u64, Option<u8>, &'static [u8]);
 
 /// The last row that is written.
-const LAST: &[u8] = b"\x1b[17;1H\x1b[K0/7  2: 1500 ms  back 0, longest 0";
+const LAST: &[u8] = b"\x1b[17;1H\x1b[KEscape ends";
 
 /// Seven frames are confirmed, and nothing else has happened.
 #[rattlefmt::skip]
 static ROWS: [Told; 8] = [
-    (500, None, b"\x1b[17;1H\x1b[K0/7  2: 500 ms  back 0, longest 0"),
+    (500, None, LAST),
     (600, None, b""),
-    (700, Some(2), b"\x1b[17;1H\x1b[K0/7  waits for 2  2: 500 ms  back 0, longest 0"),
+    (700, Some(2), b"\x1b[17;1H\x1b[KEscape ends  waits for 2"),
     (800, Some(2), b""),
     (1_499, Some(2), b""),
-    (1_500, Some(2), b"\x1b[17;1H\x1b[K0/7  waits for 2: 1 s  2: 1500 ms  back 0, longest 0"),
+    (1_500, Some(2), b"\x1b[17;1H\x1b[KEscape ends  waits for 2: 1 s"),
     (1_600, None, LAST),
     (2_400, None, b""),
 ];
@@ -80,24 +80,24 @@ static OF_TWO: [Look; 5] = [
 /// Player 3 of four, on 80 columns.
 #[rattlefmt::skip]
 static OF_FOUR: [Look; 3] = [
-    Look { millis: 200, confirmed: 18, ticked: 21, rollbacks: 4, longest: 5, heard: [2, 0, 9, 1], is_alarmed: false, waits: None, wanted: b"\x1b[17;1H\x1b[K21/18  1: 0 ms  2: 100 ms  4: 0 ms  back 4, longest 5" },
-    Look { millis: 1_300, confirmed: 88, ticked: 99, rollbacks: 15, longest: 7, heard: [2, 0, 9, 2], is_alarmed: false, waits: Some(2), wanted: b"\x1b[17;1H\x1b[K99/88  waits for 2: 1 s  1: 1100 ms  2: 1200 ms  4: 0 ms  back 11, longest 7" },
+    Look { millis: 200, confirmed: 18, ticked: 21, rollbacks: 4, longest: 5, heard: [2, 0, 9, 1], is_alarmed: false, waits: None, wanted: b"\x1b[17;1H\x1b[K21/18  1: 0 ms  4: 0 ms  back 4, longest 5" },
+    Look { millis: 1_300, confirmed: 88, ticked: 99, rollbacks: 15, longest: 7, heard: [2, 0, 9, 2], is_alarmed: false, waits: Some(2), wanted: b"\x1b[17;1H\x1b[K99/88  waits for 2: 1 s  1: 1100 ms  4: 0 ms  back 11, longest 7" },
     // 109 characters; what does not fit is left out as a whole
-    Look { millis: 123_456_989, confirmed: 262_136, ticked: 262_144, rollbacks: 138, longest: 45, heard: [2, 0, 9, 2], is_alarmed: false, waits: Some(2), wanted: b"\x1b[17;1H\x1b[K262144/262136  no answer for 123456 s: same game, room and secret?" },
+    Look { millis: 123_456_989, confirmed: 262_136, ticked: 262_144, rollbacks: 138, longest: 45, heard: [2, 0, 9, 2], is_alarmed: false, waits: Some(2), wanted: b"\x1b[17;1H\x1b[K262144/262136  2 has not answered for 123456 s: has player 2 started?" },
 ];
 
 /// The same on 64 columns.
 #[rattlefmt::skip]
 static OF_FOUR_NARROW: [Look; 3] = [
-    Look { millis: 200, confirmed: 18, ticked: 21, rollbacks: 4, longest: 5, heard: [2, 0, 9, 1], is_alarmed: false, waits: None, wanted: b"\x1b[17;1H\x1b[K21/18  1: 0 ms  2: 100 ms  4: 0 ms  back 4, longest 5" },
-    Look { millis: 1_300, confirmed: 88, ticked: 99, rollbacks: 15, longest: 7, heard: [2, 0, 9, 2], is_alarmed: false, waits: Some(2), wanted: b"\x1b[17;1H\x1b[K99/88  waits for 2: 1 s  1: 1100 ms  2: 1200 ms  4: 0 ms" },
-    Look { millis: 123_456_989, confirmed: 262_136, ticked: 262_144, rollbacks: 138, longest: 45, heard: [2, 0, 9, 2], is_alarmed: false, waits: Some(2), wanted: b"\x1b[17;1H\x1b[K262144/262136  no answer for 123456 s  1: 123456789 ms" },
+    Look { millis: 200, confirmed: 18, ticked: 21, rollbacks: 4, longest: 5, heard: [2, 0, 9, 1], is_alarmed: false, waits: None, wanted: b"\x1b[17;1H\x1b[K21/18  1: 0 ms  4: 0 ms  back 4, longest 5" },
+    Look { millis: 1_300, confirmed: 88, ticked: 99, rollbacks: 15, longest: 7, heard: [2, 0, 9, 2], is_alarmed: false, waits: Some(2), wanted: b"\x1b[17;1H\x1b[K99/88  waits for 2: 1 s  1: 1100 ms  4: 0 ms" },
+    Look { millis: 123_456_989, confirmed: 262_136, ticked: 262_144, rollbacks: 138, longest: 45, heard: [2, 0, 9, 2], is_alarmed: false, waits: Some(2), wanted: b"\x1b[17;1H\x1b[K262144/262136  2 has not answered for 123456 s  1: 123456789 ms" },
 ];
 
 /// On 200.
 #[rattlefmt::skip]
 static OF_FOUR_WIDE: [Look; 1] = [
-    Look { millis: 123_456_989, confirmed: 262_136, ticked: 262_144, rollbacks: 138, longest: 45, heard: [0, 0, 0, 0], is_alarmed: false, waits: Some(2), wanted: b"\x1b[17;1H\x1b[K262144/262136  no answer for 123456 s: same game, room and secret?  1: 123456889 ms  2: 123456889 ms  4: 123456889 ms  back 138, longest 45" },
+    Look { millis: 123_456_989, confirmed: 262_136, ticked: 262_144, rollbacks: 138, longest: 45, heard: [0, 0, 0, 0], is_alarmed: false, waits: Some(2), wanted: b"\x1b[17;1H\x1b[KEscape ends  2 has not answered for 123456 s: has player 2 started?  same game, room and secret?" },
 ];
 
 /// A peer that heard the players this often, and has not ticked yet.
@@ -160,7 +160,11 @@ const DROPS: &[u8] = b"\x1b[17;1H\x1b[K0/7  waits for 2: 3 s  control-D drops 2 
 
 const AGAIN: &[u8] = b"\x1b[17;1H\x1b[K0/7  waits for 2: 3 s  control-D again drops 2  2: 3500 ms";
 
-const NEVER_HERE: &[u8] = b"\x1b[17;1H\x1b[K0/7  waits for 2: 3 s  2: 3500 ms  back 0, longest 0";
+const GOES_ON: &[u8] = b"\x1b[17;1H\x1b[K0/7  2: 3500 ms  back 0, longest 0";
+
+const OFFERED: &[u8] = b"\x1b[17;1H\x1b[K0/7  waits for 2: 9 s  control-D drops 2  2: 9000 ms";
+
+const NEVER_HERE: &[u8] = b"\x1b[17;1H\x1b[KEscape ends  waits for 2: 3 s";
 
 /// A peer that heard player 2 alone, this often.
 fn who_heard(two: u64) -> Standing {
@@ -225,12 +229,10 @@ fn drops_at_the_second() -> bool {
         && status.give_up(Some(two)) == Some(two)
         && status.give_up(Some(two)).is_none()
         // the match goes on meanwhile
-        && is_row(
-            &mut status,
-            3_700,
-            None,
-            b"\x1b[17;1H\x1b[K0/7  2: 3500 ms  back 0, longest 0",
-        )
+        && status.row_of(Duration::from_millis(3_700), 7, &who_heard(1), None) == GOES_ON
+        && status.give_up(Some(two)).is_none()
+        // the offer ends after five seconds
+        && is_told(&mut status, 9_000, 1, OFFERED)
         && status.give_up(Some(two)).is_none()
 }
 
@@ -242,13 +244,29 @@ fn only_player_one_drops() -> bool {
         &mut status,
         3_500,
         Some(1),
-        b"\x1b[17;1H\x1b[K0/7  waits for 1: 3 s  1: 3500 ms  back 0, longest 0",
+        b"\x1b[17;1H\x1b[KEscape ends  waits for 1: 3 s",
     ) && status.give_up(Some(one)).is_none()
         && status.give_up(Some(one)).is_none()
 }
 
+/// Whether the row speaks of the relay alone while it is away, and nobody is dropped then.
+fn waits_for_the_relay() -> bool {
+    let two = Player { number: 2 };
+    let mut status = StatusRow::new(Duration::from_secs(0), Player::CHAIR, 2);
+    let _greeted = status.row_of(Duration::from_secs(0), 7, &who_heard(1), None);
+    status.relay(Relaying::Silent(4));
+    let is_alone = is_told(
+        &mut status,
+        4_000,
+        1,
+        b"\x1b[17;1H\x1b[K0/7  relay: no answer for 4 s",
+    );
+    is_alone && status.give_up(Some(two)).is_none() && status.give_up(Some(two)).is_none()
+}
+
 #[test]
 fn control_d_drops_a_player(rt: HostRuntime) {
+    assert!(rt; waits_for_the_relay());
     assert!(rt; drops_at_the_second());
     assert!(rt; drops_no_stranger() && drops_for_another());
     assert!(rt; is_patient());
@@ -259,9 +277,9 @@ fn control_d_drops_a_player(rt: HostRuntime) {
 /// sealed with the match's key, and the text.
 #[rattlefmt::skip]
 static FIRST_WORDS: [(u64, u64, u64, &[u8]); 6] = [
-    (9_999, 0, 0, b"\x1b[17;1H\x1b[K0/0  waits for 2: 9 s  2: 9999 ms  back 0, longest 0"),
-    (12_000, 0, 0, b"\x1b[17;1H\x1b[K0/0  no answer for 12 s: same game, room and secret?"),
-    (13_000, 0, 1, b"\x1b[17;1H\x1b[K0/0  packets come with another secret, game or room  2: 13000 ms"),
+    (9_999, 0, 0, b"\x1b[17;1H\x1b[KEscape ends  waits for 2: 9 s"),
+    (12_000, 0, 0, b"\x1b[17;1H\x1b[KEscape ends  no answer for 12 s: has your friend started?"),
+    (13_000, 0, 1, b"\x1b[17;1H\x1b[KEscape ends  packets come with another secret, game or room"),
     (14_000, 1, 1, b"\x1b[17;1H\x1b[K0/0  waits for 2  2 is here  back 0, longest 0"),
     (16_999, 2, 1, b"\x1b[17;1H\x1b[K0/0  waits for 2  2 is here  back 0, longest 0"),
     (18_000, 2, 1, b"\x1b[17;1H\x1b[K0/0  waits for 2: 1 s  2: 1001 ms  back 0, longest 0"),
@@ -324,7 +342,7 @@ fn shows_keys() -> bool {
         }
         status.forget();
         let row = status.row(now, *confirmed, None);
-        let text = b"  you are player 2: 4 up, r down, f serve  1: ";
+        let text = b"  you are player 2: 4 up, r down, f serve";
         if row.windows(text.len()).any(|part| part == text.as_slice()) != *wanted {
             return false;
         }
@@ -339,15 +357,16 @@ fn the_row_names_the_own_keys(rt: HostRuntime) {
 
 /// What a player 1 with keys reads who waits for long: how they are shown, and then the keys first.
 const HINT: &[u8] =
-    b"\x1b[17;1H\x1b[K0/0  no answer for 12 s: same game, room and secret?  F1: keys";
+    b"\x1b[17;1H\x1b[KEscape ends  no answer for 12 s: has your friend started?  F1: keys";
 
 const ASKED: &[u8] =
-    b"\x1b[17;1H\x1b[K0/0  you are player 1: 1 up, q down, a serve  no answer for 12 s";
+    b"\x1b[17;1H\x1b[KEscape ends  you are player 1: 1 up, q down, a serve  no answer for 12 s";
 
 /// Whether the row names F1 where the keys do not fit, and shows the keys before all else once the person has pressed it.
 fn names_the_key_for_keys() -> bool {
     let mut status = StatusRow::new(Duration::from_secs(0), Player::CHAIR, 2);
     status.name_keys(KeyWords::in_text(TEXT, Player::CHAIR));
+    status.widen(80);
     let (now, standing) = (Duration::from_secs(12), who_heard(0));
     let hint = status.row_of(now, 0, &standing, Player::new(2)) == HINT;
     status.remind();
@@ -365,7 +384,7 @@ fn rings_so() -> bool {
     status.begin(Chime::new(false));
     let now = Duration::from_millis(500);
     status.sound(3);
-    let first = status.row(now, 7, None).ends_with(b"longest 0\x07");
+    let first = status.row(now, 7, None).ends_with(b"Escape ends\x07");
     status.sound(2);
     let second = status.row(now, 7, None).is_empty();
     status.sound(0);

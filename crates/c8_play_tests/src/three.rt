@@ -5,8 +5,8 @@ ghost use Rattle.std.specs.Prelude.{[]};
 use crate::console::{Log, Still, Written};
 use crate::waits::asked_for;
 use c8_disk::MemDisk;
-use c8_game::{Game, Keys, Player};
-use c8_peer::{Kind, Peer};
+use c8_game::{Game, Input, Player};
+use c8_peer::{Kind, Peer, Signs};
 use c8_play::{Desk, Tempo, play_frames};
 use c8_session::Session;
 use c8_terminal::KeyWords;
@@ -21,9 +21,9 @@ const GAME: &[u8] =
 const RATE: u8 = 60;
 
 /// The row if player 2 is present, and if player 3 is. Its numbers are those of the first frame.
-const WAITS_FOR_3: &[u8] = b"\x1b[17;1H\x1b[K1/0  waits for 3  2: 0 ms  3: 0 ms  back 0, longest 0";
+const WAITS_FOR_3: &[u8] = b"\x1b[17;1H\x1b[K1/0  waits for 3  2: 0 ms  back 0, longest 0";
 
-const WAITS_FOR_2: &[u8] = b"\x1b[17;1H\x1b[K1/0  waits for 2  2: 0 ms  3: 0 ms  back 0, longest 0";
+const WAITS_FOR_2: &[u8] = b"\x1b[17;1H\x1b[K1/0  waits for 2  3: 0 ms  back 0, longest 0";
 
 /// A wire to a peer that ticks and answers whenever it hears something.
 #[derive(Drop)]
@@ -38,7 +38,7 @@ struct Way<'g> {
 fn after(kind: Kind) -> Option<Kind> {
     match kind {
         Kind::Hello => Some(Kind::Welcome),
-        Kind::Welcome => Some(Kind::Data),
+        Kind::Welcome => Some(Kind::Data(Signs::none())),
         _ => None,
     }
 }
@@ -51,7 +51,7 @@ impl<'g> Wire for Way<'g> {
     fn send(&mut self, to: Seat, datagram: &[u8]) -> Result<(), WireFailed> {
         if to.number == self.peer.me().number {
             let _heard = self.peer.deliver(datagram);
-            let _ticked = self.peer.tick(Keys(0));
+            let _ticked = self.peer.tick(Input(0));
             self.next = Some(Kind::Hello);
         }
         Ok(())
@@ -75,7 +75,7 @@ impl<'g> Wire for Way<'g> {
 /// The peer of a player on a new disk.
 fn opened<'g>(alloc: Global, game: &'g Game, me: Player) -> Option<Peer<'g, MemDisk>> {
     let disk = MemDisk::new(alloc, 100_000, 4_000).ok()?;
-    match Peer::open(alloc, disk, game, me, 0) {
+    match Peer::open(alloc, disk, game, me, 0, 1) {
         Ok(peer) => Some(peer),
         Err(_) => None,
     }
@@ -102,7 +102,7 @@ fn ends_with(alloc: Global, number: u8, row: &[u8]) -> bool {
     let Ok(disk) = MemDisk::new(alloc, 100_000, 4_000) else {
         return false;
     };
-    let Ok(peer) = Peer::open(alloc, disk, &game, Player::CHAIR, 0) else {
+    let Ok(peer) = Peer::open(alloc, disk, &game, Player::CHAIR, 0, 1) else {
         return false;
     };
     let mut session = Session::new(peer, &game, None, 0);

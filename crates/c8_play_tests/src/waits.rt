@@ -22,9 +22,9 @@ use std::time::Duration;
 const RATE: u8 = 60;
 
 /// The row under the picture, after the first frame and at the window's limit.
-const FIRST: &[u8] = b"\x1b[17;1H\x1b[K1/0  2: 0 ms  back 0, longest 0";
+const FIRST: &[u8] = b"\x1b[17;1H\x1b[KEscape ends";
 
-const WAITS: &[u8] = b"\x1b[17;1H\x1b[K1/0  waits for 2  2: 0 ms  back 0, longest 0";
+const WAITS: &[u8] = b"\x1b[17;1H\x1b[KEscape ends  waits for 2";
 
 /// At which microseconds ten frames begin.
 static TIMES: [u64; 10] = [
@@ -120,7 +120,7 @@ fn played(
     log: &mut Log,
 ) -> Option<(u64, u32, u32)> {
     let disk = MemDisk::new(alloc, 100_000, 4_000).ok()?;
-    let Ok(peer) = Peer::open(alloc, disk, game, Player::CHAIR, 0) else {
+    let Ok(peer) = Peer::open(alloc, disk, game, Player::CHAIR, 0, 1) else {
         return None;
     };
     let mut session = Session::new(peer, game, row.patience, 0);

@@ -1,5 +1,5 @@
 -- Each acknowledgement that a peer keeps was said to it, so DATA meets no gap; for ExchangeLemmas and SeenLemmas.
-use Rattle.std.proofs.Common.{◌≡◌, ◌≢◌, ℕ, zero, suc, ◌+◌, ◌≤◌, ◌⊎◌, inl, inr, ⊎_elim, List, [], ◌∷◌, ◌++◌, length, Bool, true, false, Option}
+use Rattle.std.proofs.Common.{◌≡◌, ◌≢◌, ℕ, zero, suc, ◌+◌, ◌^◌, ◌≤◌, ◌⊎◌, inl, inr, ⊎_elim, List, [], ◌∷◌, ◌++◌, length, Bool, true, false, Option}
 use Rattle.std.proofs.Common.{Some, None, Ok, Err, refl, sym, ap, subst, ◌∙◌, arith}
 use Rattle.std.specs.Prelude.{Result, ◌==◌, ◌||◌, not, nat_le, nat_lt, is_some, max, if◌then◌else◌}
 use Rattle.std.proofs.lemmas.Bool.{cases_eq, cases_lt, ne_eqb}
@@ -63,12 +63,13 @@ either M false x y is other = other
 abbrev pub Same : Memory → Outcome → Type 0
 Same m o = (o.memory.acks ≡ m.acks) × (o.memory.seen ≡ m.seen)
 
-pub tick_same : (rules : Rules) (k : KnownValue) (m : Memory) (keys : ℕ) → Same m (tick rules k m keys)
+pub tick_same : (rules : Rules) (k : KnownValue) (m : Memory) (input : ℕ) → Same m (tick rules k m input)
 unfolding tick
-tick_same rules k m keys =
+tick_same rules k m input =
     either (Same m) (player_in k k.me).leaving _ _ (refl, refl)
     (either (Same m) (nat_le rules.frames k.ticks) _ _ (refl, refl)
-    (either (Same m) (nat_le (confirmed k + rules.window) k.ticks) _ _ (refl, refl) (refl, refl)))
+    (either (Same m) (nat_le (confirmed k + rules.window) k.ticks) _ _ (refl, refl)
+    (either (Same m) (nat_le (256 ^ rules.width) input) _ _ (refl, refl) (refl, refl))))
 
 pub leave_same : (k : KnownValue) (m : Memory) (leaver : ℕ) → Same m (leave k m leaver)
 unfolding leave
@@ -218,7 +219,7 @@ unfolding checkpoint
 checkpoint_same t k m = either (Same m) (player_in k k.me).leaving _ _ (refl, refl) (piece_same t k m t.checks.under_way)
 
 call_acks : (rules : Rules) (t : Told) (k : KnownValue) (m : Memory) (call : Call) → AckMoves m call (outcome rules t k m call)
-call_acks rules t k m (Tick keys) = inl (tick_same rules k m keys).0
+call_acks rules t k m (Tick input) = inl (tick_same rules k m input).0
 call_acks rules t k m (Deliver told) = either (AckMoves m (Deliver told)) (player_in k k.me).leaving _ _ (inl refl) (told_acks rules t k m told)
 call_acks rules t k m (Say to what) = inl (say_same rules t k m to what).0
 call_acks rules t k m (Show watcher) = inl (show_same k m watcher).0

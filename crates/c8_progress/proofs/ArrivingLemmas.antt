@@ -24,6 +24,7 @@ use Rattle.c8_peer.specs.Hearing.{is_desync}
 use Rattle.c8_peer.specs.Saying as sayings
 use Rattle.c8_world.specs.World as worlds
 use Rattle.c8_world.specs.World.{World, peer_of, journal_of, Do, After, stepped, call_at, give_to, acted, CanHappen}
+use Rattle.c8_news.specs.News.{no_signs}
 use Rattle.c8_world.specs.Agreement.{IsPlayer, IsUndropped}
 use Rattle.c8_progress.specs.Exchange.{works, links_of}
 use Rattle.c8_progress.specs.Meeting.{IsFresh, hailed, welcomed}
@@ -269,6 +270,7 @@ may_tell rules room run goes p q n m one other apart up_to fresh back =
     subst (λ (j : List Record). Begins (held rules p (journal_of w p)) (held rules p j)) (sym journal.is)
     (held_begins rules p (journal_of w p) journal.rest) in
     record {
+      narrow = laws.narrow;
       one = one.plays.from_one;
       one_plays = one.plays.in_game;
       other = other.plays.from_one;
@@ -293,7 +295,7 @@ may_tell rules room run goes p q n m one other apart up_to fresh back =
     }
 
 pub data_arrives : (rules : Rules) (room : ℕ) (run : Run rules room) → Goes rules room run → (p q t u : ℕ) → Stays rules room run p
-    → Stays rules room run q → p ≢ q → Fresh (run.world t) p q → Fresh (run.world t) q p → Arrives rules room run p q Data t u
+    → Stays rules room run q → p ≢ q → Fresh (run.world t) p q → Fresh (run.world t) q p → Arrives rules room run p q (Data no_signs) t u
     → IsTaught rules room run p q t u
 data_arrives rules room run goes p q t u one other apart fresh back a =
     let n : ℕ = a.at in
@@ -309,8 +311,8 @@ data_arrives rules room run goes p q t u one other apart fresh back a =
     let linked : not (link_to (links_of (run.world n) p) q).is_open ≡ false =
     ap not (subst (λ (x : ℕ). (link_to (links_of (run.world n) p) x).is_open ≡ true) its_name fresh_now.is_open) in
     let told : Packet = data_from rules p s q in
-    let said = said_next rules room run p q Data told n one.plays up a.says
-    (λ on_disk. say_on rules p s q Data on_disk one.plays other.plays apart up (own_stays rules room run goes p n one) refl refl linked) in
+    let said = said_next rules room run p q (Data no_signs) told n one.plays up a.says
+    (λ on_disk. say_on rules p s q (Data no_signs) on_disk one.plays other.plays apart up (own_stays rules room run goes p n one) refl refl linked) in
     let is = told_then rules room run n m told (omega (arith, later)) said in
     let may = may_tell rules room run goes p q n m one other apart (omega (arith, later)) fresh_now back_now in
     let done_it = data_is_told rules p s q r may (same_marks rules room run goes p q (length (run.world n).said) m s one other may is) in

@@ -291,7 +291,8 @@ frozen_brought rules room out w L q range laws has frozen uncut have =
     let delay = range.delay in
     let limit = within_limit rules room w L q range laws can.on.reached can.leaver can.plays in
     let fits =
-    answer_fits rules q s t L own can.leaver have begins (here.begins L 1 can.leaver one) (omega (arith, few, fewer, window, delay)) limit in
+    answer_fits rules q s t L own here.narrow can.leaver have begins (here.begins L 1 can.leaver one) (omega (arith, few, fewer, window, delay))
+    limit in
     let by = frozen_taken rules q s t L back can.leaver apart (can.on.leaves L ∙ can.leaves) uncut limit fits.0 in
     let is = frozen_exchange rules room out w L q range laws has frozen in
     let said = frozen_said rules room out w L q range laws has frozen by.0 is in
@@ -378,7 +379,7 @@ cut_told rules room out w L q K range laws has frozen cut uncut reported =
     let window = range.window in
     let delay = range.delay in
     let limit = within_limit rules room w L 1 range laws can.on.reached can.leaver one in
-    let fits = end_fits rules q s t L K own can.leaver cut all reported begins (here.begins L q can.leaver can.plays) below
+    let fits = end_fits rules q s t L K own here.narrow can.leaver cut all reported begins (here.begins L q can.leaver can.plays) below
     (omega (arith, few, fewer, all, window, delay)) (omega (arith, limit, all)) in
     let long = fits.0 in
     let whole = fits.2 in

@@ -30,10 +30,10 @@ use Rattle.c8_world.specs.World as worlds
 use Rattle.c8_world.specs.World.{World, start, is_player, peer_of, journal_of, Act, Event, Do, Stop, player_of, Happening, Answer, After, said_by}
 use Rattle.c8_world.specs.World.{stepped, call_at_mode, call_at, open_at_mode, give_to, hear_at, acted, crashed, after, MayAct, act_inside, Chain}
 use Rattle.c8_world.specs.World.{IsReached}
-use Rattle.c8_world.specs.Agreement.{IsPlayer, IsAmong, IsTrueBy}
+use Rattle.c8_world.specs.Agreement.{IsPlayer, IsAmong}
 use Rattle.c8_progress.proofs.LinkedLemmas.{IsWell, placed, peer_here, peer_there}
 use Rattle.c8_progress.proofs.SteppingLemmas.{IsWorldly, said_nothing}
-use Rattle.c8_progress.proofs.LawLemmas.{HasLaws, Laws}
+use Rattle.c8_progress.proofs.LawLemmas.{IsTrueNow, HasLaws, Laws}
 use Rattle.c8_progress.proofs.ReachedLemmas.{plays_if, if_player, world_if, peer_at_start, reached_well}
 use Rattle.c8_progress.proofs.SayingLemmas.{reached_more}
 use Rattle.c8_progress.proofs.OrderLemmas.{IsCut, IsOrdered, AreOrdered, ordered_more, Keeps, IsBacked, CallIsBacked, call_keeps}
@@ -123,18 +123,18 @@ leaving_told rules room journal (suc L) range is e =
 
 -- a datagram that was said is backed by player 1's journal
 backed_by : (rules : Rules) (w : World) (x : Packet) (what : Message) → AreOrdered (journal_of w 1) 1 (journal_of w 1) → x.message ≡ what
-    → IsTrueBy rules w x (seen_in x.message) → IsBacked (journal_of w 1) what
+    → IsTrueNow rules w x (seen_in x.message) → IsBacked (journal_of w 1) what
 backed_by rules w x packets.Hello all is told = tt
 backed_by rules w x (packets.Welcome ack) all is told = tt
 backed_by rules w x (packets.Data d) all is told = tt
 backed_by rules w x (packets.Freeze f) all is told =
-    let by = subst (λ (heard : Option ℕ). IsTrueBy rules w x heard) (ap seen_in is) told in
+    let by = subst (λ (heard : Option ℕ). IsTrueNow rules w x heard) (ap seen_in is) told in
     let truth : IsTrueMessage rules x.head.from x.head.to (journal_of w x.head.from) (packets.Freeze f) =
     subst (IsTrueMessage rules x.head.from x.head.to (journal_of w x.head.from)) is by.message in
     subst (λ (q : ℕ). has_leave f.leaver (journal_of w q) ≡ true) truth.0 truth.1
 backed_by rules w x (packets.Frozen f) all is told = tt
 backed_by rules w x (packets.Cut c) all is told =
-    let by = subst (λ (heard : Option ℕ). IsTrueBy rules w x heard) (ap seen_in is) told in
+    let by = subst (λ (heard : Option ℕ). IsTrueNow rules w x heard) (ap seen_in is) told in
     let truth : IsTrueMessage rules x.head.from x.head.to (journal_of w x.head.from) (packets.Cut c) =
     subst (IsTrueMessage rules x.head.from x.head.to (journal_of w x.head.from)) is by.message in
     let cut : cut_of c.leaver (journal_of w 1) ≡ Some c.length = subst (λ (q : ℕ). cut_of c.leaver (journal_of w q) ≡ Some c.length) truth.0 truth.1
@@ -285,8 +285,8 @@ unfolding acted
 acted_ordered rules room w (worlds.Open p) h range well laws all =
     if_player (λ (a : After). AreAllOrdered rules a.world) (is_player rules p) _ _
     (λ is. mode_opens rules room w p h (peer_of w p).mode range well all (plays_if rules p is)) all
-acted_ordered rules room w (worlds.Tick p keys) h range well laws all =
-    call_ordered rules room w p (states.Tick keys) h.on_disk range well laws all (λ packet is. absurd cc)
+acted_ordered rules room w (worlds.Tick p input) h range well laws all =
+    call_ordered rules room w p (states.Tick input) h.on_disk range well laws all (λ packet is. absurd cc)
 acted_ordered rules room w (worlds.Say p to what) h range well laws all =
     call_ordered rules room w p (states.Say to what) h.on_disk range well laws all (λ packet is. absurd cc)
 acted_ordered rules room w (worlds.Give number p) h range well laws all =

@@ -48,7 +48,7 @@ pub record CanHear (rules : Rules) (p : ℕ) (s : State) (q : ℕ) (t : State) :
   pub also_up : t.mode ≡ Open
   pub me : s.memory.links.me ≡ p
   pub also_me : t.memory.links.me ≡ q
-  pub version : s.memory.links.version ≡ rules.wire
+  pub version : (s.memory.links.version ≡ rules.wire) × (s.memory.links.width ≡ rules.width)
   pub matched : AreMatched s.memory.links t.memory.links
   pub fresh : IsFresh s.memory.links t.memory.links
   pub back : IsFresh t.memory.links s.memory.links

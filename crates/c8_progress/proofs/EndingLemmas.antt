@@ -1,4 +1,4 @@
--- Rounds of the undropped end a match: all bring their inputs to each other, then each enters a key set; for OpeningLemmas.
+-- Rounds of the undropped end a match: all bring their inputs to each other, then each enters an input; for OpeningLemmas.
 use Rattle.std.proofs.Common.{◌≡◌, ℕ, zero, suc, ◌+◌, ◌≤◌, ◌⊎◌, inl, inr, ⊎_elim, length, Bool, true, false, Some, refl, ap, ◌∙◌, arith}
 use Rattle.std.proofs.lemmas.Bool.{cases_lt, cases_Bool, le-leb}
 use Rattle.std.proofs.lemmas.Option.{slice_get_past}
@@ -50,7 +50,7 @@ cut_later rules room out w v later are L q leaver leaves plays stays =
     let was = are L q leaver leaves plays stays in
     (was.0, cut_begins L was.0 (journal_of w q) (journal_of v q) (later.grows q plays) was.1)
 
--- each undropped player has entered m key sets
+-- each undropped player has entered m inputs
 abbrev HaveEntered : Rules → (ℕ → Bool) → World → ℕ → Type 0
 HaveEntered rules out w m = (p : ℕ) → IsPlayer rules p → out p ≡ false → rules.delay + m ≤ count rules p (journal_of w p)
 
@@ -91,7 +91,7 @@ none_entered rules room out w range laws on p plays stays =
     let same = count_known rules p p (journal_of w p) plays.from_one plays.in_game in
     omega (arith, own, same)
 
--- after n rounds each undropped player has entered n key sets
+-- after n rounds each undropped player has entered n inputs
 record AreAt (rules : Rules) (room : ℕ) (out : ℕ → Bool) (w : World) (n : ℕ) : Type 0 where
   end : World
   later : IsLater rules room out w end

@@ -1,8 +1,9 @@
--- Each undropped player enters a key set, unless its window is full or the game is over; for EndingLemmas.
-use Rattle.std.proofs.Common.{◌≡◌, ◌≢◌, ℕ, zero, suc, ◌+◌, ◌<◌, ◌≤◌, ◌⊎◌, inl, inr, ⊎_elim, List, [], ◌∷◌, ◌++◌, length, Bool, true, false, cond}
+-- Each undropped player enters an input, unless its window is full or the game is over; for EndingLemmas.
+use Rattle.std.proofs.Common.{◌≡◌, ◌≢◌, ℕ, zero, suc, ◌+◌, ◌^◌, ◌<◌, ◌≤◌, ◌⊎◌, inl, inr, ⊎_elim, List, [], ◌∷◌, ◌++◌, length, Bool, true, false, cond}
 use Rattle.std.proofs.Common.{Option, Some, None, refl, sym, ap, subst, ◌∙◌, arith}
+use Rattle.std.proofs.Math.Nat.{one-le-pow}
 use Rattle.std.specs.Prelude.{option_to_list, nat_le}
-use Rattle.std.proofs.lemmas.Bool.{cases_eq, cases_Bool, leb-true, eq-eqb}
+use Rattle.std.proofs.lemmas.Bool.{cases_eq, cases_Bool, leb-true, lt-leb, eq-eqb}
 use Rattle.std.proofs.lemmas.List.{append-nil, length-append}
 use Rattle.c8_game.specs.Rules.{Rules, AreInRange}
 use Rattle.c8_known.specs.Journal.{Record, Own, held, count, words_of}
@@ -38,24 +39,26 @@ whenever : {A : Type 0} (b : Bool) (x y : A) → b ≡ true → cond b x y ≡ x
 whenever true x y e = refl
 whenever false x y e = absurd cc
 
--- a tick is refused only at the end and at the window's limit
+-- a tick with an input of the game's width is refused only at the end and at the window's limit
 abbrev pub TickIs : Rules → KnownValue → ℕ → Outcome → Type 0
-TickIs rules k keys o = ((o.keeps ≡ None) × ((rules.frames ≤ k.ticks) ⊎ (confirmed k + rules.window ≤ k.ticks))) ⊎
-    (o.keeps ≡ Some (Own k.me (count_in k k.me) keys))
+TickIs rules k input o = ((o.keeps ≡ None) × ((rules.frames ≤ k.ticks) ⊎ (confirmed k + rules.window ≤ k.ticks))) ⊎
+    (o.keeps ≡ Some (Own k.me (count_in k k.me) input))
 
-pub tick_is : (rules : Rules) (k : KnownValue) (m : Memory) (keys : ℕ) → (player_in k k.me).leaving ≡ false
-    → TickIs rules k keys (tick rules k m keys)
+pub tick_is : (rules : Rules) (k : KnownValue) (m : Memory) (input : ℕ) → (player_in k k.me).leaving ≡ false → input < 256 ^ rules.width
+    → TickIs rules k input (tick rules k m input)
 unfolding tick
-tick_is rules k m keys stays =
-    subst (TickIs rules k keys) (sym (otherwise (player_in k k.me).leaving _ _ stays))
+tick_is rules k m input stays fits =
+    subst (TickIs rules k input) (sym (otherwise (player_in k k.me).leaving _ _ stays))
     (elim (cases_Bool (nat_le rules.frames k.ticks)) [
-      | inl over ↦ subst (TickIs rules k keys) (sym (whenever (nat_le rules.frames k.ticks) _ _ over))
+      | inl over ↦ subst (TickIs rules k input) (sym (whenever (nat_le rules.frames k.ticks) _ _ over))
           (inl (refl, inl (leb-true rules.frames k.ticks over)))
-      | inr going ↦ subst (TickIs rules k keys) (sym (otherwise (nat_le rules.frames k.ticks) _ _ going))
+      | inr going ↦ subst (TickIs rules k input) (sym (otherwise (nat_le rules.frames k.ticks) _ _ going))
           (elim (cases_Bool (nat_le (confirmed k + rules.window) k.ticks)) [
-            | inl limit ↦ subst (TickIs rules k keys) (sym (whenever (nat_le (confirmed k + rules.window) k.ticks) _ _ limit))
+            | inl limit ↦ subst (TickIs rules k input) (sym (whenever (nat_le (confirmed k + rules.window) k.ticks) _ _ limit))
                 (inl (refl, inr (leb-true (confirmed k + rules.window) k.ticks limit)))
-            | inr free ↦ subst (TickIs rules k keys) (sym (otherwise (nat_le (confirmed k + rules.window) k.ticks) _ _ free)) (inr refl)
+            | inr free ↦ subst (TickIs rules k input) (sym (otherwise (nat_le (confirmed k + rules.window) k.ticks) _ _ free))
+                (subst (TickIs rules k input) (sym (otherwise (nat_le (256 ^ rules.width) input) _ _ (lt-leb (256 ^ rules.width) input fits)))
+                (inr refl))
           ])
     ])
 
@@ -71,21 +74,21 @@ own_entry : (p start word : ℕ) → IsEntry (Own p start word)
 own_entry p start word = record { leaves = λ q. refl; freezes_none = λ q. refl; cuts = λ q. refl }
 
 -- a kept OWN, or nothing, makes a journal longer
-longer_by : (rules : Rules) (k : KnownValue) (keys : ℕ) (o : Outcome) (old new : List Record) → TickIs rules k keys o
+longer_by : (rules : Rules) (k : KnownValue) (input : ℕ) (o : Outcome) (old new : List Record) → TickIs rules k input o
     → new ≡ old ++ option_to_list o.keeps → IsLonger old new
-longer_by rules k keys o old new is longer =
+longer_by rules k input o old new is longer =
     ⊎_elim
     (λ none. inl (longer ∙ ap (λ (x : Option Record). old ++ option_to_list x) none.0 ∙ append-nil old))
     (λ some. inr
-    (Own k.me (count_in k k.me) keys, own_entry k.me (count_in k k.me) keys, longer ∙ ap (λ (x : Option Record). old ++ option_to_list x) some))
+    (Own k.me (count_in k k.me) input, own_entry k.me (count_in k k.me) input, longer ∙ ap (λ (x : Option Record). old ++ option_to_list x) some))
     is
 
--- after a tick the player has entered more than m key sets, if it had confirmed m
-pub entered_count : (rules : Rules) (room p keys : ℕ) (o : Outcome) (old new : List Record) → AreInRange rules → IsPlayer rules p
-    → IsJournal rules p room old → TickIs rules (known_of rules p old) keys o → new ≡ old ++ option_to_list o.keeps
+-- after a tick the player has entered more than m inputs, if it had confirmed m
+pub entered_count : (rules : Rules) (room p input : ℕ) (o : Outcome) (old new : List Record) → AreInRange rules → IsPlayer rules p
+    → IsJournal rules p room old → TickIs rules (known_of rules p old) input o → new ≡ old ++ option_to_list o.keeps
     → (m : ℕ) → m ≤ confirmed (known_of rules p old) → m < rules.frames → rules.delay + m + 1 ≤ count rules p new
 unfolding known_of
-entered_count rules room p keys o old new range plays journal is longer m low less =
+entered_count rules room p input o old new range plays journal is longer m low less =
     let k : KnownValue = known_of rules p old in
     let own = (journal_known rules p room old range plays.from_one plays.in_game journal).own in
     let same = count_known rules p p old plays.from_one plays.in_game in
@@ -97,19 +100,19 @@ entered_count rules room p keys o old new range plays journal is longer m low le
     let counts = ap (count rules p) unchanged in
     ⊎_elim (λ over. omega (arith, own, same, counts, over, less)) (λ limit. omega (arith, own, same, counts, limit, window, low)) none.1)
     (λ some.
-    let more : new ≡ old ++ Own p (count_in k p) keys ∷ [] = longer ∙ ap (λ (x : Option Record). old ++ option_to_list x) some in
-    let added : words_of p (Own p (count_in k p) keys) ≡ keys ∷ [] = rw (eq-eqb p p refl) refl in
+    let more : new ≡ old ++ Own p (count_in k p) input ∷ [] = longer ∙ ap (λ (x : Option Record). old ++ option_to_list x) some in
+    let added : words_of p (Own p (count_in k p) input) ≡ input ∷ [] = rw (eq-eqb p p refl) refl in
     let counts : count rules p new ≡ count rules p old + 1 =
-    ap (count rules p) more ∙ ap length (held_next rules p old (Own p (count_in k p) keys))
-    ∙ length-append (held rules p old) (words_of p (Own p (count_in k p) keys)) ∙ ap (λ (ws : List ℕ). count rules p old + length ws) added in
+    ap (count rules p) more ∙ ap length (held_next rules p old (Own p (count_in k p) input))
+    ∙ length-append (held rules p old) (words_of p (Own p (count_in k p) input)) ∙ ap (λ (ws : List ℕ). count rules p old + length ws) added in
     omega (arith, own, same, counts, low, ticked))
     is
 
--- a player enters an empty key set
+-- a player enters the input 0
 abbrev entered : Rules → ℕ → World → ℕ → World
 entered rules room w p = (acted rules room w (Tick p 0) works).world
 
--- who had confirmed m frames has then entered a set for the frame after them
+-- who had confirmed m frames has then entered an input for the frame after them
 abbrev pub HasEntered : Rules → World → World → ℕ → Type 0
 HasEntered rules w v p = (m : ℕ) → m ≤ confirmed (known_by rules w p) → m < rules.frames → rules.delay + m + 1 ≤ count rules p (journal_of v p)
 
@@ -134,7 +137,8 @@ enters rules room out w p range laws on plays stays =
     let known = player_known rules p p s.journal plays.from_one plays.in_game in
     let in_it : (player_in k p).leaving ≡ false =
     ap (λ (v : PlayerValue). v.leaving) known ∙ (undropped_clean rules room out w p p range laws on stays plays).stays in
-    let told = tick_is rules k s.memory 0 in_it in
+    let some = one-le-pow rules.width 256 (omega arith) in
+    let told = tick_is rules k s.memory 0 in_it (omega (arith, some)) in
     let v : World = entered rules room w p in
     let new = said_by st.reply in
     let v_is : v ≡ placed w p st.state new = ap (λ (a : After). a.world) (call_is rules w p (states.Tick 0) plays up) in

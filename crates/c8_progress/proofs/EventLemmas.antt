@@ -84,7 +84,7 @@ HearsNone call = (packet : Packet) → call ≡ Deliver (Ok packet) → ⊥
 -- what an act may call at player p: to hear a datagram, only if the act gives it that one
 abbrev pub Asks : World → ℕ → Act → Call → Type 0
 Asks w p (worlds.Open r) call = HearsNone call
-Asks w p (worlds.Tick r keys) call = HearsNone call
+Asks w p (worlds.Tick r input) call = HearsNone call
 Asks w p (worlds.Say r to what) call = HearsNone call
 Asks w p (worlds.Give number r) call = (packet : Packet) × (p ≡ r) × (slice_get w.said number ≡ Some packet) × (call ≡ Deliver (Ok packet))
 Asks w p (worlds.Leave leaver) call = HearsNone call
@@ -100,7 +100,7 @@ none_worldly said call none = λ packet is. absurd (none packet is)
 
 asks_worldly : (w : World) (p : ℕ) (act : Act) (call : Call) → Asks w p act call → IsWorldly w.said call
 asks_worldly w p (worlds.Open r) call none = none_worldly w.said call none
-asks_worldly w p (worlds.Tick r keys) call none = none_worldly w.said call none
+asks_worldly w p (worlds.Tick r input) call none = none_worldly w.said call none
 asks_worldly w p (worlds.Say r to what) call none = none_worldly w.said call none
 asks_worldly w p (worlds.Give number r) call gives =
     λ other is. let given = gives.3 in let same : gives.0 ≡ other = cc in subst (IsAmong w.said) same (number, gives.2)
@@ -182,8 +182,8 @@ unfolding acted
 acted_calls rules room w p (worlds.Open r) h nodes plays up =
     if_player (λ (a : After). Calls rules w p HearsNone a.world) (is_player rules r) _ _
     (λ is. mode_opens rules room w p r HearsNone h (peer_of w r).mode plays (plays_if rules r is) up refl) (λ still. inl refl)
-acted_calls rules room w p (worlds.Tick r keys) h nodes plays up =
-    call_calls rules w p r HearsNone (states.Tick keys) h.on_disk nodes plays up (λ same packet is. cc)
+acted_calls rules room w p (worlds.Tick r input) h nodes plays up =
+    call_calls rules w p r HearsNone (states.Tick input) h.on_disk nodes plays up (λ same packet is. cc)
 acted_calls rules room w p (worlds.Say r to what) h nodes plays up =
     call_calls rules w p r HearsNone (states.Say to what) h.on_disk nodes plays up (λ same packet is. cc)
 acted_calls rules room w p (worlds.Give number r) h nodes plays up =
@@ -277,7 +277,7 @@ acted_said : (rules : Rules) (room : ℕ) (w : World) (act : Act) (h : Happening
 unfolding acted
 acted_said rules room w (worlds.Open r) h =
     if_player (λ (a : After). Keeps w a.world) (is_player rules r) _ _ (λ is. opens_said rules room w r h (peer_of w r).mode) (begins_same w.said)
-acted_said rules room w (worlds.Tick r keys) h = at_said rules w r (states.Tick keys) h.on_disk
+acted_said rules room w (worlds.Tick r input) h = at_said rules w r (states.Tick input) h.on_disk
 acted_said rules room w (worlds.Say r to what) h = at_said rules w r (states.Say to what) h.on_disk
 acted_said rules room w (worlds.Give number r) h = given_said rules w r h.on_disk (slice_get w.said number)
 acted_said rules room w (worlds.Leave leaver) h = at_said rules w 1 (states.Leave leaver) h.on_disk

@@ -23,6 +23,7 @@ use Rattle.c8_peer.specs.Steps.{Works, Stepped, step}
 use Rattle.c8_peer.specs.Hearing.{is_desync}
 use Rattle.c8_world.specs.World as worlds
 use Rattle.c8_world.specs.World.{World, peer_of, journal_of, Do, After, stepped, give_to, acted, after, IsReached, Say, Give}
+use Rattle.c8_news.specs.News.{no_signs}
 use Rattle.c8_world.specs.Agreement.{IsPlayer, IsUndropped}
 use Rattle.c8_progress.specs.Meeting.{IsFresh}
 use Rattle.c8_progress.proofs.TellingLemmas.{data_of, data_from, MayTell, IsLonger, count_known, data_is_told, data_differs}
@@ -104,16 +105,16 @@ spoken_reached rules room w p q what is = reached_more rules room w (spoken rule
 })
 
 -- undropped players' marks are the same, since no delivery is answered with Desync
-same_marks : (rules : Rules) (room : ℕ) (w : World) (p q : ℕ) → IsReached rules room w → HasLaws rules room (spoken rules room w p q Data)
+same_marks : (rules : Rules) (room : ℕ) (w : World) (p q : ℕ) → IsReached rules room w → HasLaws rules room (spoken rules room w p q (Data no_signs))
     → length w.peers ≡ rules.players → ArePair rules w p q → MayTell rules p (peer_of w p) q (peer_of w q)
-    → step rules p (peer_of w p) (states.Say q Data) Works ≡ record { reply = Said (Ok (data_from rules p (peer_of w p) q)); state = peer_of w p }
+    → step rules p (peer_of w p) (states.Say q (Data no_signs)) Works ≡ record { reply = Said (Ok (data_from rules p (peer_of w p) q)); state = peer_of w p }
     → is_desync (told_of rules q (journal_of w q)) (data_of rules p (peer_of w p) q) ≡ false
 unfolding acted
 same_marks rules room w p q reached laws nodes are may says =
     let told : Packet = data_from rules p (peer_of w p) q in
     let u : World = placed w p (peer_of w p) (told ∷ []) in
-    let u_is : spoken rules room w p q Data ≡ u =
-    ap (λ (a : After). a.world) (call_is rules w p (states.Say q Data) are.plays are.up ∙ ap (stepped w p) says) in
+    let u_is : spoken rules room w p q (Data no_signs) ≡ u =
+    ap (λ (a : After). a.world) (call_is rules w p (states.Say q (Data no_signs)) are.plays are.up ∙ ap (stepped w p) says) in
     let laws_u : HasLaws rules room u = subst (HasLaws rules room) u_is laws in
     let at_q : peer_of u q ≡ peer_of w q =
     peer_there rules w p (peer_of w p) (told ∷ []) q (apart_places rules p q are.plays are.also (λ e. are.apart (sym e))) in
@@ -148,9 +149,9 @@ record HasTold (rules : Rules) (w v : World) (p q : ℕ) : Type 0 where
   entered : IsEntered rules w v q
 
 data_told : (rules : Rules) (room : ℕ) (w : World) (p q : ℕ) → AreInRange rules → IsReached rules room w → HasLaws rules room w
-    → HasLaws rules room (spoken rules room w p q Data) → ArePair rules w p q → Takes w p q → IsFresh (links_of w p) (links_of w q)
+    → HasLaws rules room (spoken rules room w p q (Data no_signs)) → ArePair rules w p q → Takes w p q → IsFresh (links_of w p) (links_of w q)
     → IsFresh (links_of w q) (links_of w p)
-    → HasTold rules w (exchanged rules room w p q Data) p q
+    → HasTold rules w (exchanged rules room w p q (Data no_signs)) p q
 data_told rules room w p q range reached laws laws_then are takes fresh back =
     let well = reached_well rules room w range reached in
     let p_up = awake_of rules w p q are in
@@ -162,11 +163,12 @@ data_told rules room w p q range reached laws laws_then are takes fresh back =
     let open_there : (link_to (links_of w p) q).is_open ≡ true =
     subst (λ (x : ℕ). (link_to (links_of w p) x).is_open ≡ true) its_name fresh.is_open in
     let linked : not (link_to (links_of w p) q).is_open ≡ false = ap not open_there in
-    let says = say_ok rules p s q Data are.plays are.also are.apart are.up are.stays refl refl linked in
-    let is = exchange_is rules room w p q Data told well.nodes are.plays are.also are.apart are.up are.also_up says in
+    let says = say_ok rules p s q (Data no_signs) are.plays are.also are.apart are.up are.stays refl refl linked in
+    let is = exchange_is rules room w p q (Data no_signs) told well.nodes are.plays are.also are.apart are.up are.also_up says in
     let within = own_within rules room p (journal_of w p) range are.plays (laws.journals p are.plays) in
     let fewer = begins_length (held rules p (journal_of w q)) (held rules p (journal_of w p)) (laws.begins p q are.plays are.also) in
     let may : MayTell rules p s q t = record {
+      narrow = laws.narrow;
       one = are.plays.from_one;
       one_plays = are.plays.in_game;
       other = are.also.from_one;
@@ -197,7 +199,7 @@ data_told rules room w p q range reached laws laws_then are takes fresh back =
       links = ap (λ (x : State). x.memory.links) is.here ∙ done_it.links;
       entered = record {
         modes = λ r plays up. elim (cases_eq r q) [
-          | inl at ↦ ap (λ (x : ℕ). (peer_of (exchanged rules room w p q Data) x).mode) at ∙ ap (λ (x : State). x.mode) is.here ∙ done_it.is_open
+          | inl at ↦ ap (λ (x : ℕ). (peer_of (exchanged rules room w p q (Data no_signs)) x).mode) at ∙ ap (λ (x : State). x.mode) is.here ∙ done_it.is_open
           | inr other ↦ ap (λ (x : State). x.mode) (is.there r plays other) ∙ up
         ];
         here = subst (λ (x : State). IsLonger t.journal x.journal) (sym is.here) done_it.adds;
@@ -225,9 +227,9 @@ pair_gets_on rules room w p q range reached laws are takes =
     let then : IsReached rules room g = greeted_reached rules room w p q reached in
     let are_then = pair_later rules w g p q range greets.kept are in
     let takes_then = takes_later rules w g p q are.also greets.kept takes in
-    let u : World = spoken rules room g p q Data in
-    let v : World = exchanged rules room g p q Data in
-    let told = data_told rules room g p q range then (laws g then) (laws u (spoken_reached rules room g p q Data then)) are_then takes_then
+    let u : World = spoken rules room g p q (Data no_signs) in
+    let v : World = exchanged rules room g p q (Data no_signs) in
+    let told = data_told rules room g p q range then (laws g then) (laws u (spoken_reached rules room g p q (Data no_signs) then)) are_then takes_then
     greets.one greets.other in
     let own : count rules p (journal_of g p) ≡ count rules p (journal_of w p) = ap (count rules p) (greets.kept.journals p are.plays) in
     record {

@@ -24,7 +24,7 @@ IsHeardEpoch said q n = (n ≡ 0) ⊎ ((packet : Packet) × IsAmong said packet 
 pub record IsLinkedWell (rules : Rules) (room : ℕ) (J : ℕ → List Record) (said : List Packet) (p : ℕ) (l : LinksValue) : Type 0 where
   pub me : l.me ≡ p
   pub players : l.players ≡ rules.players
-  pub version : l.version ≡ rules.wire
+  pub version : (l.version ≡ rules.wire) × (l.width ≡ rules.width)
   pub session : l.session ≡ session_of rules room
   pub from_one : 1 ≤ l.epoch
   pub within : l.epoch ≤ epoch (J p)
@@ -127,7 +127,7 @@ AreOf l new = (x : Packet) → IsAmong new x → (to : ℕ) × (kind : DatagramK
 pub record Hears (said : List Packet) (l m : LinksValue) : Type 0 where
   pub me : m.me ≡ l.me
   pub players : m.players ≡ l.players
-  pub version : m.version ≡ l.version
+  pub version : (m.version ≡ l.version) × (m.width ≡ l.width)
   pub session : m.session ≡ l.session
   pub epoch : m.epoch ≡ l.epoch
   pub rises : (q : ℕ) → (link_to l q).known ≤ (link_to m q).known
@@ -196,7 +196,7 @@ moves_well rules room w p s new well plays up same pend hears are =
             (subst (λ (t : State). IsLinkedWell rules room (journal_of v) v.said p t.memory.links) (sym here) (record {
               me = me;
               players = hears.players ∙ was.players;
-              version = hears.version ∙ was.version;
+              version = (hears.version.0 ∙ was.version.0, hears.version.1 ∙ was.version.1);
               session = hears.session ∙ was.session;
               from_one = omega (arith, epoch_same, was.from_one);
               within = let later = epoch_there rules w p s new p well.nodes plays rises in omega (arith, later, epoch_same, was.within);

@@ -135,8 +135,8 @@ unfolding acted
 acted_lasting rules room Q w (worlds.Open p) h lasts well all =
     if_player (λ (a : After). AllHave rules Q a.world) (is_player rules p) _ _
     (λ is. mode_opens rules room Q w p h (peer_of w p).mode lasts well all (plays_if rules p is)) all
-acted_lasting rules room Q w (worlds.Tick p keys) h lasts well all =
-    call_lasting rules room Q w p (states.Tick keys) h.on_disk lasts well all (λ packet is. absurd cc)
+acted_lasting rules room Q w (worlds.Tick p input) h lasts well all =
+    call_lasting rules room Q w p (states.Tick input) h.on_disk lasts well all (λ packet is. absurd cc)
 acted_lasting rules room Q w (worlds.Say p to what) h lasts well all =
     call_lasting rules room Q w p (states.Say to what) h.on_disk lasts well all (λ packet is. absurd cc)
 acted_lasting rules room Q w (worlds.Give number p) h lasts well all =

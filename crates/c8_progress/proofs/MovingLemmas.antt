@@ -1,5 +1,5 @@
 -- What a call does to the links and to the journal's epochs, and what it says; for LinkedLemmas.
-use Rattle.std.proofs.Common.{◌≡◌, ◌⊎◌, inl, inr, ◌+◌, ℕ, List, [], ◌∷◌, length, Bool, true, false, Option, Some, None, Ok, Err, refl}
+use Rattle.std.proofs.Common.{◌≡◌, ◌⊎◌, inl, inr, ◌+◌, ◌^◌, ℕ, List, [], ◌∷◌, length, Bool, true, false, Option, Some, None, Ok, Err, refl}
 use Rattle.std.specs.Prelude.{Result, ◌==◌, ◌||◌, not, nat_le, nat_lt, is_some, if◌then◌else◌}
 use Rattle.c8_game.specs.Rules.{Rules}
 use Rattle.c8_wire.specs.declared.kinds.DatagramKind.{DatagramKind}
@@ -77,12 +77,13 @@ either : (M : Outcome → Type 0) (test : Bool) (x y : Outcome) → M x → M y 
 either M true x y is other = is
 either M false x y is other = other
 
-tick_quiet : (rules : Rules) (k : KnownValue) (m : Memory) (keys : ℕ) → IsQuiet m (tick rules k m keys)
+tick_quiet : (rules : Rules) (k : KnownValue) (m : Memory) (input : ℕ) → IsQuiet m (tick rules k m input)
 unfolding tick
-tick_quiet rules k m keys =
+tick_quiet rules k m input =
     either (IsQuiet m) (player_in k k.me).leaving _ _ (quiet m _ refl refl refl)
     (either (IsQuiet m) (nat_le rules.frames k.ticks) _ _ (quiet m _ refl refl refl)
-    (either (IsQuiet m) (nat_le (confirmed k + rules.window) k.ticks) _ _ (quiet m _ refl refl refl) (quiet m _ refl refl refl)))
+    (either (IsQuiet m) (nat_le (confirmed k + rules.window) k.ticks) _ _ (quiet m _ refl refl refl)
+    (either (IsQuiet m) (nat_le (256 ^ rules.width) input) _ _ (quiet m _ refl refl refl) (quiet m _ refl refl refl))))
 
 leave_quiet : (k : KnownValue) (m : Memory) (leaver : ℕ) → IsQuiet m (leave k m leaver)
 unfolding leave
@@ -230,7 +231,7 @@ unfolding checkpoint
 checkpoint_quiet t k m = either (IsQuiet m) (player_in k k.me).leaving _ _ (quiet m _ refl refl refl) (piece_quiet t k m t.checks.under_way)
 
 pub call_moves : (rules : Rules) (t : Told) (k : KnownValue) (m : Memory) (call : Call) → IsMoved m call (outcome rules t k m call)
-call_moves rules t k m (Tick keys) = moved m _ _ (tick_quiet rules k m keys)
+call_moves rules t k m (Tick input) = moved m _ _ (tick_quiet rules k m input)
 call_moves rules t k m (Deliver told) =
     either (IsMoved m (Deliver told)) (player_in k k.me).leaving _ _ (moved m _ _ (quiet m _ refl refl refl)) (told_moves rules t k m told)
 call_moves rules t k m (Say to what) = say_moves rules t k m to what

@@ -128,7 +128,7 @@ unfolding acted
 acted_adds rules room w (worlds.Open p) h well =
     if_player (λ (a : After). Adds rules room w (worlds.Open p) a.world) (is_player rules p) _ _
     (λ is. opens_adds rules room w (worlds.Open p) p h (peer_of w p).mode) (adds_none rules room w (worlds.Open p) w refl)
-acted_adds rules room w (worlds.Tick p keys) h well = call_adds rules room w (worlds.Tick p keys) p (states.Tick keys) h.on_disk well
+acted_adds rules room w (worlds.Tick p input) h well = call_adds rules room w (worlds.Tick p input) p (states.Tick input) h.on_disk well
 acted_adds rules room w (worlds.Say p to what) h well = call_adds rules room w (worlds.Say p to what) p (states.Say to what) h.on_disk well
 acted_adds rules room w (worlds.Give number p) h well =
     given_adds rules room w (worlds.Give number p) p h.on_disk (slice_get w.said number) well

@@ -70,7 +70,7 @@ unfolding acted
 acted_one rules room w p q (worlds.Open r) h plays also apart =
     if_player (λ (a : After). OneMoves w p q a.world) (is_player rules r) _ _
     (λ is. opens_one rules room w p q r h (peer_of w r).mode plays also (plays_if rules r is) apart) (inl refl)
-acted_one rules room w p q (worlds.Tick r keys) h plays also apart = call_one rules w p q r (states.Tick keys) h.on_disk plays also apart
+acted_one rules room w p q (worlds.Tick r input) h plays also apart = call_one rules w p q r (states.Tick input) h.on_disk plays also apart
 acted_one rules room w p q (worlds.Say r to what) h plays also apart = call_one rules w p q r (states.Say to what) h.on_disk plays also apart
 acted_one rules room w p q (worlds.Give number r) h plays also apart =
     given_one rules w p q r h.on_disk (slice_get w.said number) plays also apart

@@ -1,5 +1,6 @@
 -- The records that a call keeps freeze, drop and cut nobody whom player 1 has not dropped; for DroppedLemmas.
-use Rattle.std.proofs.Common.{◌≡◌, ◌≢◌, ℕ, ◌+◌, ◌-◌, ◌⊎◌, inl, inr, ⊎_elim, List, [], ◌∷◌, ◌++◌, length, Bool, true, false, cond, Option, Some, None}
+use Rattle.std.proofs.Common.{◌≡◌, ◌≢◌, ℕ, ◌+◌, ◌^◌, ◌-◌, ◌⊎◌, inl, inr, ⊎_elim, List, [], ◌∷◌, ◌++◌, length, Bool, true, false}
+use Rattle.std.proofs.Common.{cond, Option, Some, None}
 use Rattle.std.proofs.Common.{Ok, Err, refl, sym, subst, ◌∙◌}
 use Rattle.std.specs.Prelude.{◌==◌, ◌||◌, not, nat_le, nat_lt, is_some}
 use Rattle.std.specs.List.{slice_get}
@@ -142,14 +143,15 @@ by_test : (M : Outcome → Type 0) (b : Bool) (x y : Outcome) → M x → (b ≡
 by_test M true x y is other = is
 by_test M false x y is other = other refl
 
-tick_keeps : (one : List Record) (rules : Rules) (k : KnownValue) (m : Memory) (keys : ℕ) → Keeps one k.me (tick rules k m keys)
+tick_keeps : (one : List Record) (rules : Rules) (k : KnownValue) (m : Memory) (input : ℕ) → Keeps one k.me (tick rules k m input)
 unfolding tick
-tick_keeps one rules k m keys =
+tick_keeps one rules k m input =
     let M : Outcome → Type 0 = Keeps one k.me in
     by_test M (player_in k k.me).leaving _ _ (nothing one k.me _ refl)
     (λ a. by_test M (nat_le rules.frames k.ticks) _ _ (nothing one k.me _ refl)
     (λ b. by_test M (nat_le (confirmed k + rules.window) k.ticks) _ _ (nothing one k.me _ refl)
-    (λ c. this_one one k.me _ (records.Own k.me (count_in k k.me) keys) refl (plain_own one k.me k.me (count_in k k.me) keys))))
+    (λ c. by_test M (nat_le (256 ^ rules.width) input) _ _ (nothing one k.me _ refl)
+    (λ d. this_one one k.me _ (records.Own k.me (count_in k k.me) input) refl (plain_own one k.me k.me (count_in k k.me) input)))))
 
 leave_keeps : (one : List Record) (k : KnownValue) (m : Memory) (L : ℕ) → Keeps one k.me (leave k m L)
 unfolding leave
@@ -321,7 +323,7 @@ CallIsBacked one call = (p : Packet) → call ≡ Deliver (Ok p) → IsBacked on
 pub call_keeps : (one : List Record) (rules : Rules) (t : Told) (k : KnownValue) (m : Memory) (call : Call)
     → ((L : ℕ) → k.me ≡ 1 → (player_in k L).leaving ≡ true → has_leave L one ≡ true) → CallIsBacked one call
     → Keeps one k.me (outcome rules t k m call)
-call_keeps one rules t k m (Tick keys) own backed = tick_keeps one rules k m keys
+call_keeps one rules t k m (Tick input) own backed = tick_keeps one rules k m input
 call_keeps one rules t k m (Deliver (Ok p)) own backed =
     by_test (Keeps one k.me) (player_in k k.me).leaving _ _ (nothing one k.me _ refl)
     (λ a. by_test (Keeps one k.me) (is_of_other_wire rules p.head) _ _ (nothing one k.me _ refl)

@@ -192,7 +192,7 @@ pub record IsAnswered (rules : Rules) (room : ℕ) (run : Run rules room) (L q t
       → cut_of L (journal_of (run.world u) 1) ≡ None
       → count rules L (journal_of (run.world t) q) ≤ count rules L (journal_of (run.world u) 1)
 
--- every list has the empty sets of the delay
+-- every list has the inputs of 0 of the delay
 some_held : (rules : Rules) (L : ℕ) (journal : List Record) → rules.delay ≤ count rules L journal
 unfolding held
 some_held rules L journal =
@@ -266,7 +266,7 @@ frozen_heard rules room run L q n m None d up_to can uncut =
     (delay_known rules q L s.journal r.journal)
     (λ b e. let low = have_true rules room w L b laws (memory.haves L b d.leaver.from_one e) in omega (arith, low, more)) in
     let limit = within_limit rules room w L q d.goes.range d.goes.laws (reached_at rules room run d.goes n) d.leaver d.stays.plays in
-    let fits = answer_starts rules q s r L own d.leaver one (laws_then.begins L 1 d.leaver first.plays) gap limit in
+    let fits = answer_starts rules q s r L own laws_then.narrow d.leaver one (laws_then.begins L 1 d.leaver first.plays) gap limit in
     let by = frozen_taken rules q s r L can d.leaver (apart_from rules room run L q d) (leaves_at rules room run L q m d) uncut limit fits.fits in
     let counts = by.1 in
     record {
@@ -337,7 +337,7 @@ cut_done rules room run L q n m K h None d up_to can frozen cut told few here un
     (cut_begins L K (journal_of w 1) (journal_of v 1) grown cut) in
     let limit = within_limit rules room w L 1 d.goes.range d.goes.laws reached d.leaver first.plays in
     let enough = told.2 in
-    let fits = end_starts rules q s r L K told.0 own d.leaver cut all told.1 (omega (arith, low, more)) one
+    let fits = end_starts rules q s r L K told.0 own laws_then.narrow d.leaver cut all told.1 (omega (arith, low, more)) one
     (laws_then.begins L q d.leaver d.stays.plays) below (omega (arith, few, enough)) (omega (arith, limit, all)) in
     let long = fits.0 in
     let whole = fits.2 in

@@ -151,7 +151,7 @@ unfolding acted
 acted_well rules room w (Open p) h few well =
     if_player (λ (a : After). IsWell rules room a.world) (is_player rules p) _ _
     (λ is. mode_opens rules room w p h (peer_of w p).mode well (plays_if rules p is)) well
-acted_well rules room w (Tick p keys) h few well = call_well rules room w p (states.Tick keys) h.on_disk few well (λ packet is. absurd cc)
+acted_well rules room w (Tick p input) h few well = call_well rules room w p (states.Tick input) h.on_disk few well (λ packet is. absurd cc)
 acted_well rules room w (Say p to what) h few well = call_well rules room w p (states.Say to what) h.on_disk few well (λ packet is. absurd cc)
 acted_well rules room w (Give number p) h few well = given_well rules room w p number h.on_disk (slice_get w.said number) few well refl
 acted_well rules room w (Leave leaver) h few well = call_well rules room w 1 (states.Leave leaver) h.on_disk few well (λ packet is. absurd cc)

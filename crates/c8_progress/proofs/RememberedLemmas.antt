@@ -14,8 +14,8 @@ use Rattle.c8_peer.specs.Steps.{outcome}
 use Rattle.c8_peer.specs.Hearing.{seen_in}
 use Rattle.c8_peer.specs.Truth.{IsTrueMessage}
 use Rattle.c8_world.specs.World.{World, IsReached, peer_of, journal_of}
-use Rattle.c8_world.specs.Agreement.{IsPlayer, IsAmong, IsTrueBy}
-use Rattle.c8_progress.proofs.LawLemmas.{HasLaws}
+use Rattle.c8_world.specs.Agreement.{IsPlayer, IsAmong}
+use Rattle.c8_progress.proofs.LawLemmas.{IsTrueNow, HasLaws}
 use Rattle.c8_progress.proofs.LinkedLemmas.{among_more}
 use Rattle.c8_progress.proofs.SteppingLemmas.{IsWorldly}
 use Rattle.c8_progress.proofs.MemoryLemmas.{IsLasting, reached_lasting}
@@ -281,8 +281,8 @@ reached_remembers rules room w p range reached plays up =
 pub have_true : (rules : Rules) (room : ℕ) (w : World) (L n : ℕ) → HasLaws rules room w → IsHave w.said L n → n ≤ count rules L (journal_of w 1)
 have_true rules room w L n laws is =
     let x : Packet = is.packet in
-    let by : IsTrueBy rules w x (seen_in (packets.Freeze is.told)) =
-    subst (λ (m : Message). IsTrueBy rules w x (seen_in m)) is.is (laws.said x is.among) in
+    let by : IsTrueNow rules w x (seen_in (packets.Freeze is.told)) =
+    subst (λ (m : Message). IsTrueNow rules w x (seen_in m)) is.is (laws.said x is.among) in
     let truth : IsTrueMessage rules x.head.from x.head.to (journal_of w x.head.from) (packets.Freeze is.told) =
     subst (IsTrueMessage rules x.head.from x.head.to (journal_of w x.head.from)) is.is by.message in
     let low : is.told.have ≤ count rules is.told.leaver (journal_of w 1) =
@@ -296,8 +296,8 @@ pub report_true : (rules : Rules) (room : ℕ) (w : World) (L q n : ℕ) → Has
     → n ≤ count rules L (journal_of w q)
 report_true rules room w L q n laws is =
     let x : Packet = is.packet in
-    let by : IsTrueBy rules w x (seen_in (packets.Frozen is.told)) =
-    subst (λ (m : Message). IsTrueBy rules w x (seen_in m)) is.is (laws.said x is.among) in
+    let by : IsTrueNow rules w x (seen_in (packets.Frozen is.told)) =
+    subst (λ (m : Message). IsTrueNow rules w x (seen_in m)) is.is (laws.said x is.among) in
     let truth : IsTrueMessage rules x.head.from x.head.to (journal_of w x.head.from) (packets.Frozen is.told) =
     subst (IsTrueMessage rules x.head.from x.head.to (journal_of w x.head.from)) is.is by.message in
     let low : is.told.length ≤ count rules is.told.leaver (journal_of w q) =

@@ -1,5 +1,5 @@
 -- What a call does to what a peer remembers of drop rounds; for RememberedLemmas.
-use Rattle.std.proofs.Common.{◌≡◌, ℕ, ◌+◌, ◌≤◌, ◌⊎◌, inl, inr, List, [], ◌∷◌, length, Bool, true, false, cond, Option, Some, None, Ok, Err, refl}
+use Rattle.std.proofs.Common.{◌≡◌, ℕ, ◌+◌, ◌^◌, ◌≤◌, ◌⊎◌, inl, inr, List, [], ◌∷◌, length, Bool, true, false, cond, Option, Some, None, Ok, Err, refl}
 use Rattle.std.specs.Prelude.{Result, ◌==◌, ◌||◌, not, nat_le, nat_lt, is_some, if◌then◌else◌}
 use Rattle.std.proofs.lemmas.Bool.{eqb-true, not-false, leb-true, and_parts}
 use Rattle.c8_game.specs.Rules.{Rules}
@@ -64,11 +64,12 @@ by_test : (M : Outcome → Type 0) (b : Bool) (x y : Outcome) → M x → (b ≡
 by_test M true x y is other = is
 by_test M false x y is other = other refl
 
-tick_same : (rules : Rules) (k : KnownValue) (m : Memory) (keys : ℕ) → Same m (tick rules k m keys)
+tick_same : (rules : Rules) (k : KnownValue) (m : Memory) (input : ℕ) → Same m (tick rules k m input)
 unfolding tick
-tick_same rules k m keys =
+tick_same rules k m input =
     either (Same m) (player_in k k.me).leaving _ _ (refl, refl) (either (Same m) (nat_le rules.frames k.ticks) _ _ (refl, refl)
-    (either (Same m) (nat_le (confirmed k + rules.window) k.ticks) _ _ (refl, refl) (refl, refl)))
+    (either (Same m) (nat_le (confirmed k + rules.window) k.ticks) _ _ (refl, refl)
+    (either (Same m) (nat_le (256 ^ rules.width) input) _ _ (refl, refl) (refl, refl))))
 
 leave_same : (k : KnownValue) (m : Memory) (leaver : ℕ) → Same m (leave k m leaver)
 unfolding leave
@@ -233,7 +234,7 @@ unfolding checkpoint
 checkpoint_same t k m = either (Same m) (player_in k k.me).leaving _ _ (refl, refl) (piece_same t k m t.checks.under_way)
 
 pub call_rounds : (rules : Rules) (t : Told) (k : KnownValue) (m : Memory) (call : Call) → MovesRound m call (outcome rules t k m call)
-call_rounds rules t k m (Tick keys) = inl (tick_same rules k m keys)
+call_rounds rules t k m (Tick input) = inl (tick_same rules k m input)
 call_rounds rules t k m (Deliver told) =
     either (MovesRound m (Deliver told)) (player_in k k.me).leaving _ _ (inl (refl, refl)) (told_moves rules t k m told)
 call_rounds rules t k m (Say to what) = inl (say_same rules t k m to what)

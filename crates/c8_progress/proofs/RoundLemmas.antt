@@ -1,5 +1,6 @@
 -- Three fair rounds bring each undropped player a frame further; for the laws of rounds.
-use Rattle.std.proofs.Common.{◌≡◌, ◌≢◌, ℕ, zero, suc, ◌+◌, ◌-◌, ◌*◌, ◌≤◌, ◌<◌, inl, inr, ⊎_elim, List, ◌++◌, true, false, sym, ap, subst, ◌∙◌, arith}
+use Rattle.std.proofs.Common.{◌≡◌, ◌≢◌, ℕ, zero, suc, ◌+◌, ◌^◌, ◌-◌, ◌*◌, ◌≤◌, ◌<◌, inl, inr, ⊎_elim, List, ◌++◌, true, false, sym}
+use Rattle.std.proofs.Common.{ap, subst, ◌∙◌, arith}
 use Rattle.std.specs.Prelude.{option_to_list}
 use Rattle.std.proofs.lemmas.Bool.{cases_eq, cases_Bool}
 use Rattle.c8_game.specs.Rules.{Rules}
@@ -18,6 +19,7 @@ use Rattle.c8_peer.specs.Steps.{DiskOutcome, Works, Stepped, step}
 use Rattle.c8_peer.specs.Calls.{tick}
 use Rattle.c8_world.specs.World as worlds
 use Rattle.c8_world.specs.World.{World, peer_of, journal_of, known_by, Do, After, call_at, acted, CanHappen}
+use Rattle.c8_news.specs.News.{no_signs}
 use Rattle.c8_world.specs.Agreement.{IsPlayer}
 use Rattle.c8_progress.specs.Exchange.{links_of}
 use Rattle.c8_progress.specs.Rounds.{Run, FairRounds, DropsAreOver}
@@ -64,7 +66,7 @@ teaches rules room run goes n more p q r less one other apart =
     let is_open : (link_to (links_of (run.world t) p) q).is_open ≡ true =
     subst (λ (x : ℕ). (link_to (links_of (run.world t) p) x).is_open ≡ true) its_name fresh.is_open in
     data_arrives rules room run goes p q t (r.begin (suc i)) one other apart fresh back
-    (due_arrives rules room run goes n i p q r Data less one other apart is_open)
+    (due_arrives rules room run goes n i p q r (Data no_signs) less one other apart (is_open, refl))
 
 -- After two rounds q holds what p had entered before them.
 two_rounds_bring : (rules : Rules) (room : ℕ) (run : Run rules room) → Goes rules room run → (n more p q : ℕ) (r : FairRounds rules room run n)
@@ -107,7 +109,7 @@ two_rounds_bring rules room run goes n more p q r less one other apart =
 
 -- ---- what all have entered, hold and confirm
 
--- each undropped player has entered m key sets
+-- each undropped player has entered m inputs
 abbrev HaveEntered : (rules : Rules) (room : ℕ) → Run rules room → ℕ → ℕ → Type 0
 HaveEntered rules room run m t = (p : ℕ) → Stays rules room run p → rules.delay + m ≤ count rules p (journal_of (run.world t) p)
 
@@ -177,48 +179,49 @@ hold_confirms rules room run goes over_at m t q over past stays hold =
 
 -- ---- a tick
 
-ticked_next : (rules : Rules) (room : ℕ) (run : Run rules room) → Goes rules room run → (q keys t : ℕ) → Stays rules room run q
-    → run.event t ≡ Do (worlds.Tick q keys)
-    → peer_of (run.world (suc t)) q ≡ (step rules q (peer_of (run.world t) q) (states.Tick keys) Works).state
+ticked_next : (rules : Rules) (room : ℕ) (run : Run rules room) → Goes rules room run → (q input t : ℕ) → Stays rules room run q
+    → run.event t ≡ Do (worlds.Tick q input)
+    → peer_of (run.world (suc t)) q ≡ (step rules q (peer_of (run.world t) q) (states.Tick input) Works).state
 unfolding acted
-ticked_next rules room run goes q keys t stays ticks =
+ticked_next rules room run goes q input t stays ticks =
     let w : World = run.world t in
     let v : World = run.world (suc t) in
-    let can : CanHappen rules room w (Do (worlds.Tick q keys)) (run.answer t) v =
+    let can : CanHappen rules room w (Do (worlds.Tick q input)) (run.answer t) v =
     subst (λ (e : worlds.Event). CanHappen rules room w e (run.answer t) v) ticks (run.step t) in
     let on_disk : DiskOutcome = can.happening.on_disk in
-    let made : v ≡ (call_at rules w q (states.Tick keys) on_disk).world = sym (ap (λ (a : After). a.world) can.is) in
-    let still : (peer_of (call_at rules w q (states.Tick keys) on_disk).world q).mode ≡ states.Open =
+    let made : v ≡ (call_at rules w q (states.Tick input) on_disk).world = sym (ap (λ (a : After). a.world) can.is) in
+    let still : (peer_of (call_at rules w q (states.Tick input) on_disk).world q).mode ≡ states.Open =
     ap (λ (x : World). (peer_of x q).mode) (sym made) ∙ open_at rules room run goes q (suc t) stays in
     ap (λ (x : World). peer_of x q) made
-    ∙ call_done rules w q (states.Tick keys) on_disk (well_at rules room run goes t).nodes stays.plays (open_at rules room run goes q t stays) still
+    ∙ call_done rules w q (states.Tick input) on_disk (well_at rules room run goes t).nodes stays.plays (open_at rules room run goes q t stays) still
 
--- who has confirmed m frames has entered a set for the frame after them after its tick
-tick_enters : (rules : Rules) (room : ℕ) (run : Run rules room) → Goes rules room run → (q keys t m : ℕ) → Stays rules room run q
-    → run.event t ≡ Do (worlds.Tick q keys) → m ≤ confirmed (known_by rules (run.world t) q) → m < rules.frames
+-- who has confirmed m frames has entered an input for the frame after them after its tick
+tick_enters : (rules : Rules) (room : ℕ) (run : Run rules room) → Goes rules room run → (q input t m : ℕ) → Stays rules room run q
+    → input < 256 ^ rules.width
+    → run.event t ≡ Do (worlds.Tick q input) → m ≤ confirmed (known_by rules (run.world t) q) → m < rules.frames
     → rules.delay + m + 1 ≤ count rules q (journal_of (run.world (suc t)) q)
 unfolding known_of
-tick_enters rules room run goes q keys t m stays ticks low less =
+tick_enters rules room run goes q input t m stays fits ticks low less =
     let w : World = run.world t in
     let s : State = peer_of w q in
     let k : KnownValue = known_of rules q s.journal in
-    let o : Outcome = tick rules k s.memory keys in
+    let o : Outcome = tick rules k s.memory input in
     let laws = goes.laws w (reached_at rules room run goes t) in
     let clean = stays_clean rules room w q q goes.range goes.laws (reached_at rules room run goes t) (undropped_at rules room run goes q t stays)
     stays.plays in
     let in_it : (player_in k q).leaving ≡ false =
     ap (λ (v : PlayerValue). v.leaving) (player_known rules q q s.journal stays.plays.from_one stays.plays.in_game) ∙ clean.stays in
-    let is : IsDone s (step rules q s (states.Tick keys) Works).state o.keeps =
-    subst (λ (x : Stepped). IsDone s x.state o.keeps) (sym (done_at rules q s (states.Tick keys) Works (open_at rules room run goes q t stays)))
-    (done_is s (states.Tick keys) o o.keeps) in
+    let is : IsDone s (step rules q s (states.Tick input) Works).state o.keeps =
+    subst (λ (x : Stepped). IsDone s x.state o.keeps) (sym (done_at rules q s (states.Tick input) Works (open_at rules room run goes q t stays)))
+    (done_is s (states.Tick input) o o.keeps) in
     let journal : journal_of (run.world (suc t)) q ≡ s.journal ++ option_to_list o.keeps =
-    ap (λ (x : State). x.journal) (ticked_next rules room run goes q keys t stays ticks) ∙ is.journal in
-    entered_count rules room q keys o s.journal (journal_of (run.world (suc t)) q) goes.range stays.plays (laws.journals q stays.plays)
-    (tick_is rules k s.memory keys in_it) journal m low less
+    ap (λ (x : State). x.journal) (ticked_next rules room run goes q input t stays ticks) ∙ is.journal in
+    entered_count rules room q input o s.journal (journal_of (run.world (suc t)) q) goes.range stays.plays (laws.journals q stays.plays)
+    (tick_is rules k s.memory input in_it fits) journal m low less
 
 -- ---- three rounds a frame
 
--- a round in which each enters a key set more
+-- a round in which each enters an input more
 enters_in : (rules : Rules) (room : ℕ) (run : Run rules room) → Goes rules room run → (n i m q : ℕ) (r : FairRounds rules room run n) → i < n
     → m < rules.frames → Stays rules room run q
     → ((t : ℕ) → r.begin i ≤ t → m ≤ confirmed (known_by rules (run.world t) q))
@@ -228,7 +231,7 @@ enters_in rules room run goes n i m q r less few stays confirms =
     let t : ℕ = turn.ticks.at in
     let before = turn.ticks.before in
     let to = turn.to in
-    let entered = tick_enters rules room run goes q turn.ticks.keys t m stays turn.ticks.ticks (confirms t turn.ticks.after) few in
+    let entered = tick_enters rules room run goes q turn.ticks.input t m stays turn.ticks.fits turn.ticks.ticks (confirms t turn.ticks.after) few in
     let kept = count_later rules room run goes q q (suc t) (r.begin (suc i)) stays (omega (arith, before, to)) in
     omega (arith, entered, kept)
 
@@ -274,7 +277,7 @@ few_confirmed rules room run goes t q stays =
     let ticked = (confirmed_is k).ticked in
     omega (arith, own, within, ticked)
 
--- Four rounds open the links, and in these each player enters a key set. Three rounds a frame enter the others, and two bring the last.
+-- Four rounds open the links, and in these each player enters an input. Three rounds a frame enter the others, and two bring the last.
 pub rounds_end : (rules : Rules) (room : ℕ) (run : Run rules room) → Goes rules room run → (n first over_at : ℕ) (r : FairRounds rules room run n)
     → n ≡ 3 + first + 3 * rules.frames → DropsAreOver rules (run.world over_at) → over_at ≤ r.begin (suc (suc (4 + first)))
     → (t q : ℕ) → r.begin n ≤ t → Stays rules room run q → confirmed (known_by rules (run.world t) q) ≡ rules.frames

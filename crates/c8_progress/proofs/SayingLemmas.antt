@@ -173,7 +173,7 @@ past_hand m (Some error) x e = absurd cc
 
 -- an admitted packet of a player is judged by its message
 pub hear_ok : (rules : Rules) (q : ℕ) (t : State) (p : Packet) → IsPlayer rules q → t.mode ≡ states.Open → has_leave q t.journal ≡ false
-    → p.head.version ≡ rules.wire → seen_in p.message ≡ None → refusal t.memory.links p.head ≡ None
+    → (p.head.version ≡ rules.wire) × (p.head.width ≡ rules.width) → seen_in p.message ≡ None → refusal t.memory.links p.head ≡ None
     → (o : Outcome) → hear_message rules (told_of rules q t.journal) (known_of rules q t.journal) t.memory p.head p.message ≡ o
     → (step rules q t (Deliver (Ok p)) Works).state ≡ (done t (Deliver (Ok p)) o o.keeps Works).state
 unfolding known_of
@@ -183,7 +183,10 @@ hear_ok rules q t p plays up stays version unseen admitted o is =
     let own : (player_in k q).leaving ≡ false =
     ap (λ (v : PlayerValue). v.leaving) (player_known rules q q t.journal plays.from_one plays.in_game) ∙ stays in
     let wire : is_of_other_wire rules p.head ≡ false =
-    rw (eq-eqb (version_number p.head.version) (version_number rules.wire) (ap version_number version)) refl in
+    rw (
+      eq-eqb (version_number p.head.version) (version_number rules.wire) (ap version_number version.0),
+      eq-eqb p.head.width rules.width version.1,
+    ) refl in
     let all : outcome rules told k t.memory (Deliver (Ok p)) ≡ o =
     otherwise (player_in k k.me).leaving _ _ own ∙ otherwise (is_of_other_wire rules p.head) _ _ wire ∙ ap (hear_from rules told k t.memory p) unseen
     ∙ past_hand t.memory (refusal t.memory.links p.head) _ admitted ∙ is in
@@ -192,7 +195,8 @@ hear_ok rules q t p plays up stays version unseen admitted o is =
 
 -- a HELLO changes the links alone
 pub hello_heard : (rules : Rules) (q : ℕ) (s t : State) (told : Told) (k : KnownValue) → IsPlayer rules q → t.mode ≡ states.Open
-    → has_leave q t.journal ≡ false → s.memory.links.version ≡ rules.wire → t.memory.links.me ≡ q → AreMatched s.memory.links t.memory.links
+    → has_leave q t.journal ≡ false → (s.memory.links.version ≡ rules.wire) × (s.memory.links.width ≡ rules.width) → t.memory.links.me ≡ q
+    → AreMatched s.memory.links t.memory.links
     → (step rules q t (Deliver (Ok (packet rules told k s.memory q Hello))) Works).state
     ≡ record t { memory = record t.memory { links = hailed s.memory.links t.memory.links } }
 hello_heard rules q s t told k plays up stays version me are =
@@ -207,7 +211,8 @@ hello_heard rules q s t told k plays up stays version me are =
 
 -- a WELCOME changes the links and the acknowledgement
 pub welcome_heard : (rules : Rules) (p q : ℕ) (s t : State) (told : Told) → IsPlayer rules q → t.mode ≡ states.Open → has_leave q t.journal ≡ false
-    → s.memory.links.version ≡ rules.wire → s.memory.links.me ≡ p → t.memory.links.me ≡ q → AreMatched s.memory.links t.memory.links
+    → (s.memory.links.version ≡ rules.wire) × (s.memory.links.width ≡ rules.width) → s.memory.links.me ≡ p → t.memory.links.me ≡ q
+    → AreMatched s.memory.links t.memory.links
     → (link_to s.memory.links q).known ≡ t.memory.links.epoch → count rules q s.journal ≤ count rules q t.journal
     → (step rules q t (Deliver (Ok (packet rules told (known_of rules p s.journal) s.memory q Welcome))) Works).state
     ≡ record t {

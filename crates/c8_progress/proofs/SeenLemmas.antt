@@ -95,7 +95,7 @@ told_seen rules t k m (Ok p) =
 told_seen rules t k m (Err error) = inl refl
 
 call_seen : (rules : Rules) (t : Told) (k : KnownValue) (m : Memory) (call : Call) → SeenMoves m call (outcome rules t k m call)
-call_seen rules t k m (Tick keys) = inl (tick_same rules k m keys).1
+call_seen rules t k m (Tick input) = inl (tick_same rules k m input).1
 call_seen rules t k m (Deliver told) = either (SeenMoves m (Deliver told)) (player_in k k.me).leaving _ _ (inl refl) (told_seen rules t k m told)
 call_seen rules t k m (Say to what) = inl (say_same rules t k m to what).1
 call_seen rules t k m (Show watcher) = inl (show_same k m watcher).1
@@ -136,7 +136,7 @@ no_gives w v p act call o none hears = absurd (none hears.packet hears.is)
 
 asked_gives : (w v : World) (p : ℕ) (act : Act) (call : Call) (o : Outcome) → Gives w v p act call o
 asked_gives w v p (worlds.Open r) call o asks hears same = no_gives w v p (worlds.Open r) call o asks hears
-asked_gives w v p (worlds.Tick r keys) call o asks hears same = no_gives w v p (worlds.Tick r keys) call o asks hears
+asked_gives w v p (worlds.Tick r input) call o asks hears same = no_gives w v p (worlds.Tick r input) call o asks hears
 asked_gives w v p (worlds.Say r to what) call o asks hears same = no_gives w v p (worlds.Say r to what) call o asks hears
 asked_gives w v p (worlds.Give number r) call o asks hears same =
     let given = asks.3 in

@@ -71,7 +71,7 @@ said_one (Decided result) head is x (n, e) = absurd (cc e)
 said_one (Checked result) head is x (n, e) = absurd (cc e)
 
 pub none_by_disk : (call : Call) (why : DiskError) (x : Packet) → IsAmong (said_by (refused_by_disk call why)) x → ⊥
-none_by_disk (states.Tick keys) why x (n, e) = cc e
+none_by_disk (states.Tick input) why x (n, e) = cc e
 none_by_disk (states.Deliver told) why x (n, e) = cc e
 none_by_disk (states.Say to what) why x (n, e) = cc e
 none_by_disk (states.Show watcher) why x (n, e) = cc e
@@ -117,7 +117,7 @@ hears_same : (said : List Packet) (l m : LinksValue) → m ≡ l → Hears said 
 hears_same said l m same = subst (λ (x : LinksValue). Hears said l x) (sym same) (record {
   me = refl;
   players = refl;
-  version = refl;
+  version = (refl, refl);
   session = refl;
   epoch = refl;
   rises = λ q. omega arith;
@@ -129,7 +129,7 @@ hears_packet : (said : List Packet) (l m : LinksValue) (packet : Packet) → l.p
 hears_packet said l m packet few same none among = subst (λ (x : LinksValue). Hears said l x) (sym same) (record {
   me = refl;
   players = refl;
-  version = refl;
+  version = (refl, refl);
   session = refl;
   epoch = refl;
   rises = λ q. known_rises l packet.head q (player_admitted l packet.head none);
@@ -241,7 +241,7 @@ rests_well rules room w p s well plays rises pend anew =
             (subst (λ (l : LinksValue). IsLinkedWell rules room (journal_of v) v.said p l) (sym is.links) (record {
               me = refl;
               players = refl;
-              version = refl;
+              version = (refl, refl);
               session = refl;
               from_one = omega (arith, later);
               within = omega (arith, at_journal, is.now);

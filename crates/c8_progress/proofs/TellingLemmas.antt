@@ -28,8 +28,9 @@ use Rattle.c8_peer.specs.State.{Memory, Mode, State, Open, Call, Deliver, Data, 
 use Rattle.c8_peer.specs.Steps.{Works, outcome, at_mode, done, step}
 use Rattle.c8_peer.specs.Hearing.{got, unless_misfit, unless_hand, is_desync, hear_data, is_of_other_wire}
 use Rattle.c8_progress.specs.Meeting.{AreMatched, IsFresh}
-use Rattle.c8_progress.proofs.BringingLemmas.{said_to, Brings, data_brings}
+use Rattle.c8_progress.proofs.BringingLemmas.{IsNarrow, said_to, Brings, data_brings}
 use Rattle.c8_progress.proofs.MeetingLemmas.{others_admitted, matched_back}
+use Rattle.c8_news.specs.News.{no_signs}
 use Rattle.c8_peer.specs.Saying as sayings
 
 -- what the DATA of p to q says
@@ -39,12 +40,12 @@ data_of rules p s q = record {
   mark_frame = (sayings.newest_mark (told_of rules p s.journal)).frame;
   mark = (sayings.newest_mark (told_of rules p s.journal)).mark;
   start = acked_of s.memory.acks q;
-  words = carried rules.wire (pending_of s.memory.acks (known_of rules p s.journal) q);
+  words = carried rules.wire (known_of rules p s.journal).width (pending_of s.memory.acks (known_of rules p s.journal) q);
 }
 
 -- the packet that p says as DATA to q
 abbrev pub data_from : Rules → ℕ → State → ℕ → Packet
-data_from rules p s q = sayings.packet rules (told_of rules p s.journal) (known_of rules p s.journal) s.memory q Data
+data_from rules p s q = sayings.packet rules (told_of rules p s.journal) (known_of rules p s.journal) s.memory q (Data no_signs)
 
 -- the state of q after it has heard that, on a disk that takes its record
 abbrev pub told_by : Rules → ℕ → State → ℕ → State → State
@@ -53,6 +54,7 @@ told_by rules p s q t = (step rules q t (Deliver (Ok (data_from rules p s q))) W
 -- What holds of two undropped players with open links, in every world that can be reached. Only `acked` is no part of the
 -- headline.
 pub record MayTell (rules : Rules) (p : ℕ) (s : State) (q : ℕ) (t : State) : Type 0 where
+  pub narrow : IsNarrow rules.width
   pub one : 1 ≤ p
   pub one_plays : p ≤ rules.players
   pub other : 1 ≤ q
@@ -62,7 +64,7 @@ pub record MayTell (rules : Rules) (p : ℕ) (s : State) (q : ℕ) (t : State) :
   pub is_open : t.mode ≡ Open
   pub me : s.memory.links.me ≡ p
   pub also_me : t.memory.links.me ≡ q
-  pub version : s.memory.links.version ≡ rules.wire
+  pub version : (s.memory.links.version ≡ rules.wire) × (s.memory.links.width ≡ rules.width)
   pub matched : AreMatched s.memory.links t.memory.links
   pub fresh : IsFresh s.memory.links t.memory.links
   pub fresh_back : IsFresh t.memory.links s.memory.links
@@ -141,10 +143,11 @@ pub count_known : (rules : Rules) (me q : ℕ) (journal : List Record) → 1 ≤
 count_known rules me q journal from to = ap (λ (v : PlayerValue). length v.held) (player_known rules me q journal from to)
 
 -- what was said begins what p holds of itself from there on
-words_begin : (version : WireVersion) (held : List ℕ) (start : ℕ) → Begins (carried version (take 64 (drop start held))) (drop start held)
-words_begin version held start =
-    begins_more (carried version (take 64 (drop start held))) (take 64 (drop start held)) (drop start held)
-    (begins_take (fits_in version (take 64 (drop start held))) (take 64 (drop start held))) (begins_take 64 (drop start held))
+words_begin : (version : WireVersion) (width : ℕ) (held : List ℕ) (start : ℕ)
+    → Begins (carried version width (take 64 (drop start held))) (drop start held)
+words_begin version width held start =
+    begins_more (carried version width (take 64 (drop start held))) (take 64 (drop start held)) (drop start held)
+    (begins_take (fits_in version width (take 64 (drop start held))) (take 64 (drop start held))) (begins_take 64 (drop start held))
 
 -- ---- the answer of q
 
@@ -159,10 +162,10 @@ take_parts rules p s q t may =
     let mine : List ℕ = held rules p s.journal in
     let theirs : List ℕ = held rules p t.journal in
     let start : ℕ = acked_of s.memory.acks q in
-    let words : List ℕ = carried rules.wire (take 64 (drop start mine)) in
-    let begin_words : Begins words (drop start mine) = words_begin rules.wire mine start in
+    let words : List ℕ = carried rules.wire rules.width (take 64 (drop start mine)) in
+    let begin_words : Begins words (drop start mine) = words_begin rules.wire rules.width mine start in
     let longer = begins_length words (drop start mine) begin_words in
-    let is_words : (data_of rules p s q).words ≡ words = ap (λ (v : PlayerValue). carried rules.wire (take 64 (drop start v.held))) one in
+    let is_words : (data_of rules p s q).words ≡ words = ap (λ (v : PlayerValue). carried rules.wire rules.width (take 64 (drop start v.held))) one in
     let fits : misfit (known_of rules q t.journal) p start words ≡ None =
     fits_of (known_of rules q t.journal) p start words
     (omega (arith, longer, length-drop start mine, may.within, may.also_within, may.acked))
@@ -202,7 +205,10 @@ heard_outcome rules p s q t may same =
     let own : (player_in k q).leaving ≡ false =
     ap (λ (v : PlayerValue). v.leaving) (player_known rules q q t.journal may.other may.other_plays) ∙ may.stays in
     let wire : is_of_other_wire rules head ≡ false =
-    rw (eq-eqb (version_number s.memory.links.version) (version_number rules.wire) (ap version_number may.version)) refl in
+    rw (
+      eq-eqb (version_number s.memory.links.version) (version_number rules.wire) (ap version_number may.version.0),
+      eq-eqb s.memory.links.width rules.width may.version.1,
+    ) refl in
     let admitted : refusal t.memory.links (head_to s.memory.links t.memory.links.me kinds.Data) ≡ None =
     (others_admitted t.memory.links s.memory.links (matched_back s.memory.links t.memory.links may.matched) may.fresh_back may.fresh).0 in
     let here : refusal t.memory.links head ≡ None =
@@ -264,7 +270,7 @@ brought rules p s q t may =
     let other : KnownValue = known_of rules q t.journal in
     let own : count_in k p ≡ count rules p s.journal = count_known rules p p s.journal may.one may.one_plays in
     let his : count_in other p ≡ count rules p t.journal = count_known rules q p t.journal may.one may.one_plays in
-    let all = data_brings rules.wire k s.memory.acks other q (omega (arith, his, may.acked)) in
+    let all = data_brings rules.wire k s.memory.acks other q may.narrow (omega (arith, his, may.acked)) in
     subst
     (λ (n : ℕ). Brings (acked_of s.memory.acks q) n
     (count rules p t.journal + length (fresh_words other p (acked_of s.memory.acks q) (said_to rules.wire k s.memory.acks q)))) own
@@ -317,7 +323,10 @@ data_differs rules p s q t may differs =
     let own : (player_in k q).leaving ≡ false =
     ap (λ (v : PlayerValue). v.leaving) (player_known rules q q t.journal may.other may.other_plays) ∙ may.stays in
     let wire : is_of_other_wire rules head ≡ false =
-    rw (eq-eqb (version_number s.memory.links.version) (version_number rules.wire) (ap version_number may.version)) refl in
+    rw (
+      eq-eqb (version_number s.memory.links.version) (version_number rules.wire) (ap version_number may.version.0),
+      eq-eqb s.memory.links.width rules.width may.version.1,
+    ) refl in
     let admitted : refusal t.memory.links (head_to s.memory.links t.memory.links.me kinds.Data) ≡ None =
     (others_admitted t.memory.links s.memory.links (matched_back s.memory.links t.memory.links may.matched) may.fresh_back may.fresh).0 in
     let here : refusal t.memory.links head ≡ None =

@@ -6,9 +6,10 @@ use Rattle.std.specs.List.{slice_get, list_all, range_with_len}
 use Rattle.std.proofs.lemmas.Bool.{cases_eq, cases_lt, ne_eqb, eq-eqb, lt-ltb, leb-true, and_parts}
 use Rattle.std.proofs.lemmas.List.{length-take, length-drop, length-map}
 use Rattle.std.proofs.lemmas.List.FromFn.{length-range_with_len}
-use Rattle.c8_game.specs.Rules.{Rules, session_of, set_at}
+use Rattle.c8_game.specs.Rules.{Rules, session_of, input_at}
 use Rattle.c8_game.specs.Wire.{version_number}
 use Rattle.c8_game.specs.declared.row.Row.{Row}
+use Rattle.c8_wire.specs.Format.{has_lives}
 use Rattle.c8_wire.specs.Seats.{is_watcher}
 use Rattle.c8_wire.specs.Sizes.{most_rows}
 use Rattle.c8_wire.specs.Packet.{Packet}
@@ -25,7 +26,7 @@ use Rattle.c8_spectator.specs.Watching.{WatchValue, is_of_game, are_of_game, hea
 use Rattle.c8_spectator.specs.Growth.{IsTaken}
 use Rattle.c8_spectator.specs.checked.WatchLaws.{begin_one, still_heard, taken_reaches}
 use Rattle.c8_world.specs.World as worlds
-use Rattle.c8_world.specs.World.{World, is_player, rows_of, watch_of, with_rows, Act, Event, Do, Stop, player_of, Happening, Answer, After}
+use Rattle.c8_world.specs.World.{World, is_player, rows_of, watch_of, Sight, no_sight, sight_in, with_sight, wiped, Act, Event, Do, Stop, player_of, Happening, Answer, After}
 use Rattle.c8_world.specs.World.{call_at_mode, call_at, open_at_mode, give_to, hear_at, peer_of, acted, after, act_inside, CanHappen}
 use Rattle.c8_progress.proofs.ReachedLemmas.{if_player, world_if}
 
@@ -57,19 +58,20 @@ seen_there s other watcher n sits apart =
     (λ six. subst (λ (x : ℕ). seen_by (with_seen s other n) x ≡ seen_by s x) (sym six) (rw (ne_eqb other 6 (λ e. apart (e ∙ sym six))) refl))
     (seats watcher sits)
 
-pub rows_here : (w : World) (watcher : ℕ) (rows : List Row) → is_watcher watcher ≡ true → rows_of (with_rows w watcher rows) watcher ≡ rows
-rows_here w watcher rows sits =
+pub rows_here : (w : World) (watcher : ℕ) (sight : Sight) → is_watcher watcher ≡ true
+    → rows_of (with_sight w watcher sight) watcher ≡ sight.rows
+rows_here w watcher sight sits =
     ⊎_elim
-    (λ five. subst (λ (x : ℕ). rows_of (with_rows w x rows) x ≡ rows) (sym five) refl)
-    (λ six. subst (λ (x : ℕ). rows_of (with_rows w x rows) x ≡ rows) (sym six) refl)
+    (λ five. subst (λ (x : ℕ). rows_of (with_sight w x sight) x ≡ sight.rows) (sym five) refl)
+    (λ six. subst (λ (x : ℕ). rows_of (with_sight w x sight) x ≡ sight.rows) (sym six) refl)
     (seats watcher sits)
 
-rows_there : (w : World) (other watcher : ℕ) (rows : List Row) → is_watcher watcher ≡ true → other ≢ watcher
-    → rows_of (with_rows w other rows) watcher ≡ rows_of w watcher
-rows_there w other watcher rows sits apart =
+rows_there : (w : World) (other watcher : ℕ) (sight : Sight) → is_watcher watcher ≡ true → other ≢ watcher
+    → rows_of (with_sight w other sight) watcher ≡ rows_of w watcher
+rows_there w other watcher sight sits apart =
     ⊎_elim
-    (λ five. subst (λ (x : ℕ). rows_of (with_rows w other rows) x ≡ rows_of w x) (sym five) (rw (ne_eqb other 5 (λ e. apart (e ∙ sym five))) refl))
-    (λ six. subst (λ (x : ℕ). rows_of (with_rows w other rows) x ≡ rows_of w x) (sym six) (rw (ne_eqb other 6 (λ e. apart (e ∙ sym six))) refl))
+    (λ five. subst (λ (x : ℕ). rows_of (with_sight w other sight) x ≡ rows_of w x) (sym five) (rw (ne_eqb other 5 (λ e. apart (e ∙ sym five))) refl))
+    (λ six. subst (λ (x : ℕ). rows_of (with_sight w other sight) x ≡ rows_of w x) (sym six) (rw (ne_eqb other 6 (λ e. apart (e ∙ sym six))) refl))
     (seats watcher sits)
 
 -- ---- no event takes rows from a watcher that does not start over
@@ -106,14 +108,14 @@ heard_rows : (rules : Rules) (room : ℕ) (w : World) (watcher other : ℕ) (o :
     → Keeps watcher w (hear_at rules room w other o).world
 heard_rows rules room w watcher other None sits = same_rows watcher w w refl
 heard_rows rules room w watcher other (Some packet) sits =
-    let heard : List Row = (hear (watch_of rules room w other) (Ok packet)).watch.rows in
+    let heard : Sight = sight_in (hear (watch_of rules room w other) (Ok packet)).watch in
     elim (cases_eq other watcher) [
       | inl at ↦
-          let more = begins_length (rows_of w other) heard (still_heard (watch_of rules room w other) (Ok packet)).rows in
-          let here : rows_of (with_rows w other heard) watcher ≡ heard =
-          ap (λ (x : ℕ). rows_of (with_rows w x heard) watcher) at ∙ rows_here w watcher heard sits in
+          let more = begins_length (rows_of w other) heard.rows (still_heard (watch_of rules room w other) (Ok packet)).rows in
+          let here : rows_of (with_sight w other heard) watcher ≡ heard.rows =
+          ap (λ (x : ℕ). rows_of (with_sight w x heard) watcher) at ∙ rows_here w watcher heard sits in
           omega (arith, more, ap (λ (x : ℕ). length (rows_of w x)) at, ap (λ (rows : List Row). length rows) here)
-      | inr apart ↦ same_rows watcher w (with_rows w other heard) (rows_there w other watcher heard sits apart)
+      | inr apart ↦ same_rows watcher w (with_sight w other heard) (rows_there w other watcher heard sits apart)
     ]
 
 acted_rows : (rules : Rules) (room : ℕ) (w : World) (watcher : ℕ) (act : Act) (h : Happening) → is_watcher watcher ≡ true
@@ -122,7 +124,7 @@ unfolding acted
 acted_rows rules room w watcher (worlds.Open r) h sits keeps =
     if_player (λ (a : After). Keeps watcher w a.world) (is_player rules r) _ _ (λ is. opens_rows rules room w watcher r h (peer_of w r).mode)
     (same_rows watcher w w refl)
-acted_rows rules room w watcher (worlds.Tick r keys) h sits keeps = at_rows rules w watcher r (states.Tick keys) h.on_disk
+acted_rows rules room w watcher (worlds.Tick r input) h sits keeps = at_rows rules w watcher r (states.Tick input) h.on_disk
 acted_rows rules room w watcher (worlds.Say r to what) h sits keeps = at_rows rules w watcher r (states.Say to what) h.on_disk
 acted_rows rules room w watcher (worlds.Give number r) h sits keeps = given_rows rules w watcher r h.on_disk (slice_get w.said number)
 acted_rows rules room w watcher (worlds.Leave leaver) h sits keeps = at_rows rules w watcher 1 (states.Leave leaver) h.on_disk
@@ -132,8 +134,13 @@ acted_rows rules room w watcher (worlds.Show other) h sits keeps = at_rows rules
 acted_rows rules room w watcher (worlds.Hear number other) h sits keeps = heard_rows rules room w watcher other (slice_get w.said number) sits
 acted_rows rules room w watcher (worlds.Seen other) h sits keeps = same_rows watcher w (acted rules room w (worlds.Seen other) h).world refl
 acted_rows rules room w watcher (worlds.Fresh other) h sits keeps =
-    same_rows watcher w (with_rows w other [])
-    (rows_there w other watcher [] sits (λ same. keeps (ap (λ (x : ℕ). worlds.Fresh x) same)))
+    same_rows watcher w (with_sight w other no_sight)
+    (rows_there w other watcher no_sight sits (λ same. keeps (ap (λ (x : ℕ). worlds.Fresh x) same)))
+acted_rows rules room w watcher (worlds.Wipe r) h sits keeps =
+    if_player (λ (a : After). Keeps watcher w a.world) (is_player rules r) _ _
+    (λ is. if_player (λ (a : After). Keeps watcher w a.world) (has_lives rules.wire) _ _ (λ lives. same_rows watcher w (wiped w r) refl)
+    (same_rows watcher w w refl))
+    (same_rows watcher w w refl)
 
 after_rows : (rules : Rules) (room : ℕ) (w : World) (watcher : ℕ) (event : Event) (h : Happening) → is_watcher watcher ≡ true
     → act_inside event ≢ worlds.Fresh watcher → Keeps watcher w (after rules room w event h).world
@@ -160,9 +167,9 @@ or_true false other is = is
 all_four : (a b c d : Bool) → a ≡ true → b ≡ true → c ≡ true → d ≡ true → (a && (b && (c && (d && true)))) ≡ true
 all_four a b c d one two three four = rw (one, two, three, four) refl
 
-set_of_game : (rules : Rules) (k : KnownValue) (frame place value : ℕ) → length k.players ≡ rules.players
+input_of_game : (rules : Rules) (k : KnownValue) (frame place value : ℕ) → length k.players ≡ rules.players
     → value ≡ or_empty (input_of (player_in k (suc place)) frame) → (nat_lt place rules.players || value == 0) ≡ true
-set_of_game rules k frame place value players is =
+input_of_game rules k frame place value players is =
     elim (cases_lt place rules.players) [
       | inl within ↦ rw (lt-ltb place rules.players within) refl
       | inr past ↦
@@ -174,9 +181,9 @@ set_of_game rules k frame place value players is =
 
 row_of_game : (rules : Rules) (k : KnownValue) (frame : ℕ) → length k.players ≡ rules.players → is_of_game rules (row k frame) ≡ true
 row_of_game rules k frame players =
-    all_four _ _ _ _ (set_of_game rules k frame 0 (set_at (row k frame) 0) players refl)
-    (set_of_game rules k frame 1 (set_at (row k frame) 1) players refl) (set_of_game rules k frame 2 (set_at (row k frame) 2) players refl)
-    (set_of_game rules k frame 3 (set_at (row k frame) 3) players refl)
+    all_four _ _ _ _ (input_of_game rules k frame 0 (input_at (row k frame) 0) players refl)
+    (input_of_game rules k frame 1 (input_at (row k frame) 1) players refl) (input_of_game rules k frame 2 (input_at (row k frame) 2) players refl)
+    (input_of_game rules k frame 3 (input_at (row k frame) 3) players refl)
 
 rows_pass : (P : Row → Bool) (f : ℕ → Row) (places : List ℕ) → ((n : ℕ) → P (f n) ≡ true) → list_all P (map f places) ≡ true
 rows_pass P f [] each = refl
@@ -209,7 +216,8 @@ confirmed_length k = length-map (range_with_len 0 (confirmed k)) (row k) ∙ len
 -- A SHOW that player 1 says, with the rows that come after those it takes the watcher to have.
 pub record FitsShow (rules : Rules) (room : ℕ) (k : KnownValue) (m : Memory) (watcher : ℕ) (rows : List Row) : Type 0 where
   pub session : m.links.session ≡ session_of rules room
-  pub version : m.links.version ≡ rules.wire
+  pub version : (m.links.version ≡ rules.wire) × (m.links.width ≡ rules.width)
+  pub width : k.width ≡ rules.width
   pub players : length k.players ≡ rules.players
   pub few : confirmed k ≤ rules.frames
   pub known : seen_by m.seen watcher ≤ confirmed k
@@ -224,31 +232,32 @@ fits_taken rules room k m watcher w fits =
     let watch : WatchValue = watch_of rules room w watcher in
     let start : ℕ = seen_by m.seen watcher in
     let all : List Row = confirmed_rows k in
-    let shown : List Row = take most_rows (drop start all) in
+    let shown : List Row = take (most_rows k.width) (drop start all) in
     let long = confirmed_length k in
     let few = fits.few in
     let known = fits.known in
     let begins : Begins shown (drop start fits.truth) =
-    begins_more shown (drop start all) (drop start fits.truth) (begins_take most_rows (drop start all))
+    begins_more shown (drop start all) (drop start fits.truth) (begins_take (most_rows k.width) (drop start all))
     (begins_drop start all fits.truth fits.shown) in
     record {
       shown = record { start = start; rows = shown };
       message = refl;
       of_match = rw (
         eq-eqb m.links.session (session_of rules room) fits.session,
-        eq-eqb (version_number m.links.version) (version_number rules.wire) (ap version_number fits.version),
+        eq-eqb (version_number m.links.version) (version_number rules.wire) (ap version_number fits.version.0),
+        eq-eqb m.links.width rules.width fits.version.1,
       ) refl;
       seat = refl;
-      of_game = confirmed_of_game rules k start most_rows fits.players;
-      within = omega (arith, long, few, known, length-take most_rows (drop start all), length-drop start all);
+      of_game = confirmed_of_game rules k start (most_rows k.width) fits.players;
+      within = omega (arith, long, few, known, length-take (most_rows k.width) (drop start all), length-drop start all);
       after = fits.after;
       same = begin_one (drop start watch.rows) shown (drop start fits.truth) (begins_drop start watch.rows fits.truth fits.begins) begins;
     }
 
--- the watcher then has sixteen rows more than player 1 took it to have, or all that were confirmed
+-- the watcher then has as many rows more as a SHOW may have than player 1 took it to have, or all that were confirmed
 pub show_brings : (rules : Rules) (room : ℕ) (k : KnownValue) (m : Memory) (watcher : ℕ) (w : World)
     → FitsShow rules room k m watcher (rows_of w watcher)
-    → min (confirmed k) (seen_by m.seen watcher + most_rows)
+    → min (confirmed k) (seen_by m.seen watcher + most_rows k.width)
     ≤ length (hear (watch_of rules room w watcher) (Ok (show_packet k m watcher))).watch.rows
 show_brings rules room k m watcher w fits =
     let start : ℕ = seen_by m.seen watcher in
@@ -257,4 +266,4 @@ show_brings rules room k m watcher w fits =
     taken_reaches (watch_of rules room w watcher) (show_packet k m watcher) (fits_taken rules room k m watcher w fits) in
     let long = confirmed_length k in
     let known = fits.known in
-    omega (arith, reaches, long, known, length-take most_rows (drop start all), length-drop start all)
+    omega (arith, reaches, long, known, length-take (most_rows k.width) (drop start all), length-drop start all)

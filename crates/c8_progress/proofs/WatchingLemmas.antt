@@ -34,7 +34,7 @@ use Rattle.c8_peer.specs.Saying.{show, show_packet}
 use Rattle.c8_spectator.specs.Watching.{WatchValue, hear, seen}
 use Rattle.c8_world.specs.World as worlds
 use Rattle.c8_world.specs.World.{World, peer_of, journal_of, known_by, rows_of, watch_of, Do, Event, After, stepped, call_at, give_to, hear_at}
-use Rattle.c8_world.specs.World.{seen_by_watcher, with_rows, act_inside, acted, CanHappen, IsReached}
+use Rattle.c8_world.specs.World.{seen_by_watcher, Sight, sight_in, with_sight, act_inside, acted, CanHappen, IsReached}
 use Rattle.c8_world.specs.Agreement.{IsPlayer}
 use Rattle.c8_progress.specs.Exchange.{links_of}
 use Rattle.c8_progress.specs.Rounds.{Run}
@@ -75,7 +75,10 @@ seen_step rules room s watch range journal up me session same_rules same_room fe
     let p : Packet = seen watch in
     let own : (player_in k 1).leaving ≡ false = ((journal_orderly rules 1 room s.journal journal 1 (omega arith)).one_stays refl).1 in
     let wire : is_of_other_wire rules p.head ≡ false =
-    rw (eq-eqb (version_number watch.rules.wire) (version_number rules.wire) (ap (λ (r : Rules). version_number r.wire) same_rules)) refl in
+    rw (
+      eq-eqb (version_number watch.rules.wire) (version_number rules.wire) (ap (λ (r : Rules). version_number r.wire) same_rules),
+      eq-eqb watch.rules.width rules.width (ap (λ (r : Rules). r.width) same_rules),
+    ) refl in
     let its_session : p.head.session ≡ m.links.session =
     ap (λ (r : Rules). session_of r watch.room) same_rules ∙ ap (λ (n : ℕ). session_of rules n) same_room ∙ sym session in
     let admitted : refusal_of_seen m.links p.head ≡ None =
@@ -87,6 +90,10 @@ seen_step rules room s watch range journal up me session same_rules same_room fe
     otherwise (player_in k k.me).leaving _ _ own ∙ otherwise (is_of_other_wire rules p.head) _ _ wire
     ∙ past_hand m (refusal_of_seen m.links p.head) _ admitted ∙ heard in
     ap (λ (n : Memory). n.seen) (step_memory rules 1 s (Deliver (Ok p)) up) ∙ ap (λ (o : Outcome). o.memory.seen) all
+
+width_known : (rules : Rules) (p : ℕ) (journal : List Record) → (known_of rules p journal).width ≡ rules.width
+unfolding known_of
+width_known rules p journal = refl
 
 -- only a SEEN acknowledges rows
 is_seen : (what : Message) (ack : ℕ) → seen_in what ≡ Some ack → what ≡ packets.Seen ack
@@ -258,12 +265,12 @@ module _ (rules : Rules) (room : ℕ) (run : Run rules room) (watcher : ℕ) (is
   unfolding acted
   heard_next t number told event there =
       let w : World = run.world t in
-      let rows : List Row = (hear (watch_of rules room w watcher) (Ok told)).watch.rows in
+      let sight : Sight = sight_in (hear (watch_of rules room w watcher) (Ok told)).watch in
       let v_is : (hear_at rules room w watcher (slice_get w.said number)).world ≡ run.world (suc t) =
       ap (λ (a : After). a.world) (can_at t (worlds.Hear number watcher) event).is in
-      let made : run.world (suc t) ≡ with_rows w watcher rows =
+      let made : run.world (suc t) ≡ with_sight w watcher sight =
       sym v_is ∙ ap (λ (o : Option Packet). (hear_at rules room w watcher o).world) there in
-      ap (λ (x : World). rows_of x watcher) made ∙ rows_here w watcher rows is.sits
+      ap (λ (x : World). rows_of x watcher) made ∙ rows_here w watcher sight is.sits
 
   -- what player 1 hears
   given_next : (t number : ℕ) (told : Packet) → run.event t ≡ Do (worlds.Give number 1) → slice_get (run.world t).said number ≡ Some told
@@ -283,10 +290,10 @@ module _ (rules : Rules) (room : ℕ) (run : Run rules room) (watcher : ℕ) (is
 
   -- ---- a round
 
-  -- A SHOW that was said when player 1 took the watcher to have no more rows than it had brings it sixteen more, or all.
+  -- A SHOW that was said when player 1 took the watcher to have no more rows than it had brings it as many more as a SHOW may have, or all.
   show_arrives : (shows hears : ℕ) → run.event shows ≡ Do (worlds.Show watcher) → shows < hears
       → run.event hears ≡ Do (worlds.Hear (length (run.world shows).said) watcher) → acknowledged run watcher shows ≤ has run watcher shows
-      → min (ready run shows) (acknowledged run watcher shows + most_rows) ≤ has run watcher (suc hears)
+      → min (ready run shows) (acknowledged run watcher shows + most_rows rules.width) ≤ has run watcher (suc hears)
   show_arrives shows hears show later hear_it low =
       let k : KnownValue = known_by rules (run.world shows) 1 in
       let m : Memory = (peer_of (run.world shows) 1).memory in
@@ -299,6 +306,7 @@ module _ (rules : Rules) (room : ℕ) (run : Run rules room) (watcher : ℕ) (is
       let fits : FitsShow rules room k m watcher (rows_of (run.world hears) watcher) = record {
         session = linked.session;
         version = linked.version;
+        width = width_known rules 1 (journal_of (run.world shows) 1);
         players = players_known rules 1 (journal_of (run.world shows) 1);
         few = ready_few shows;
         known = omega (arith, low, few);
@@ -308,7 +316,8 @@ module _ (rules : Rules) (room : ℕ) (run : Run rules room) (watcher : ℕ) (is
         shown = rows_stay k (known_by rules (run.world hears) 1) (known_later shows hears (omega (arith, later)));
       } in
       let brings = show_brings rules room k m watcher (run.world hears) fits in
-      omega (arith, brings, ap (λ (rows : List Row). length rows) here)
+      let most : most_rows k.width ≡ most_rows rules.width = ap most_rows (width_known rules 1 (journal_of (run.world shows) 1)) in
+      omega (arith, brings, most, ap (λ (rows : List Row). length rows) here)
 
   -- Player 1 then takes the watcher to have what it had when it said the SEEN.
   seen_arrives : (says arrives : ℕ) → run.event says ≡ Do (worlds.Seen watcher) → says < arrives
@@ -418,9 +427,9 @@ module _ (rules : Rules) (room : ℕ) (run : Run rules room) (watcher : ℕ) (is
       ))
       (suc after) before (omega (arith, some)) (omega arith, λ within. first)).1 (omega arith)
 
-  -- after each round the watcher has sixteen rows more, or all that were confirmed at the beginning
+  -- after each round the watcher has as many rows more as a SHOW may have, or all that were confirmed at the beginning
   rows_after : (rounds : ℕ) (r : WatchRounds rules room run watcher rounds) (n : ℕ) → n < rounds
-      → min (ready run 0) (has run watcher 0 + most_rows * n) ≤ has run watcher (r.says n)
+      → min (ready run 0) (has run watcher 0 + most_rows rules.width * n) ≤ has run watcher (r.says n)
   rows_after rounds r zero within =
       let more = rows_later 0 (r.says 0) (omega arith) in omega (arith, more)
   rows_after rounds r (suc n) within =
@@ -438,7 +447,7 @@ module _ (rules : Rules) (room : ℕ) (run : Run rules room) (watcher : ℕ) (is
       omega (arith, was, low, brings, grown, kept)
 
   pub has_all : (more : ℕ) (r : WatchRounds rules room run watcher (suc more)) (t : ℕ)
-      → ready run 0 ≤ has run watcher 0 + most_rows * more → r.arrives more ≤ t
+      → ready run 0 ≤ has run watcher 0 + most_rows rules.width * more → r.arrives more ≤ t
       → Begins (confirmed_rows (known_by rules (run.world 0) 1)) (rows_of (run.world t) watcher)
   has_all more r t enough late =
       let all : List Row = confirmed_rows (known_by rules (run.world 0) 1) in

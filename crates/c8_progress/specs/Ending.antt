@@ -10,7 +10,7 @@ use Rattle.c8_world.specs.Agreement.{IsPlayer, IsUndropped}
 -- An event by which a match goes on: an opening, a tick, a saying, a delivery or a decision. Nobody is stopped or dropped.
 abbrev pub goes_on_by : Act → Bool
 goes_on_by (Open player) = true
-goes_on_by (Tick player keys) = true
+goes_on_by (Tick player input) = true
 goes_on_by (Say player to what) = true
 goes_on_by (Give number player) = true
 goes_on_by (Leave leaver) = false

@@ -6,12 +6,13 @@ use Rattle.c8_known.specs.Journal.{count}
 use Rattle.c8_peer.specs.State.{Saying, Hello, Welcome, Data}
 use Rattle.c8_peer.specs.Steps.{Works}
 use Rattle.c8_peer.specs.Opening.{Stands}
+use Rattle.c8_news.specs.News.{no_signs}
 use Rattle.c8_world.specs.World.{World, peer_of, journal_of, Say, Give, Happening, acted}
 use Rattle.c8_progress.specs.Meeting.{IsFresh}
 
 -- the disk takes each record, an opening stands, and no read finds a pending record
 abbrev pub works : Happening
-works = record { finds = false; opening = Stands; on_disk = Works; leaves = false }
+works = record { finds = false; drawn = 0; opening = Stands; on_disk = Works; leaves = false }
 
 -- p says something to q
 abbrev pub spoken : Rules → ℕ → World → ℕ → ℕ → Saying → World
@@ -27,7 +28,7 @@ greeted rules room w p q = exchanged rules room (exchanged rules room (exchanged
 
 -- and DATA
 abbrev pub got_on : Rules → ℕ → World → ℕ → ℕ → World
-got_on rules room w p q = exchanged rules room (greeted rules room w p q) p q Data
+got_on rules room w p q = exchanged rules room (greeted rules room w p q) p q (Data no_signs)
 
 abbrev pub links_of : World → ℕ → LinksValue
 links_of w p = (peer_of w p).memory.links

@@ -1,5 +1,5 @@
 -- Fair rounds: what a turn of a peer is, and when a match goes on. Begin at `FairRounds`.
-use Rattle.std.specs.Prelude.{◌≡◌, ◌≢◌, ◌<◌, ◌≤◌, ◌⊎◌, ℕ, zero, suc, length, true, false, Some, None}
+use Rattle.std.specs.Prelude.{◌≡◌, ◌≢◌, ◌<◌, ◌^◌, ◌≤◌, ◌⊎◌, ℕ, zero, suc, length, true, false, Some, None}
 use Rattle.std.specs.List.{slice_get}
 use Rattle.c8_game.specs.Rules.{Rules}
 use Rattle.c8_wire.specs.Packet as packets
@@ -9,7 +9,8 @@ use Rattle.c8_known.specs.Journal.{count, has_freeze, has_leave, cut_of}
 use Rattle.c8_known.specs.Confirmed.{confirmed}
 use Rattle.c8_round.specs.Round.{is_ready}
 use Rattle.c8_peer.specs.State as states
-use Rattle.c8_peer.specs.State.{State, Saying, Hello, Welcome, Data, Freeze, Frozen, Cut}
+use Rattle.c8_peer.specs.State.{State, Saying, Hello, Welcome, Data, Freeze, Frozen, Cut, Pass, RefusedLife}
+use Rattle.c8_news.specs.News.{no_signs}
 use Rattle.c8_world.specs.World.{World, peer_of, journal_of, known_by, Tick, Say, Give, Decide, Event, Do, Answer, CanHappen}
 use Rattle.c8_world.specs.Agreement.{IsPlayer, IsUndropped}
 use Rattle.c8_progress.specs.Exchange.{links_of}
@@ -46,16 +47,19 @@ pub record IsHailed (rules : Rules) (room : ℕ) (run : Run rules room) (p q fro
   pub sender : packet.head.from ≡ q
   pub admitted : refusal (links_of (run.world at) p) packet.head ≡ None
 
--- Whether p, in this state, has to say this to q. No WELCOME is due by a state: it answers a HELLO, see `answers` of `IsTurn`.
+-- Whether p, in this state, has to say this to q. No WELCOME is due by a state: it answers a HELLO, see `answers` of `IsTurn`. In versions 1
+-- and 2 no DATA tells signs, and there is no PASS and no REFUSED.
 abbrev pub IsDue : ℕ → State → ℕ → Saying → Type 0
 IsDue p s q Hello = (link_to s.memory.links q).is_open ≡ false
 IsDue p s q Welcome = ⊥
-IsDue p s q Data = (link_to s.memory.links q).is_open ≡ true
+IsDue p s q (Data signs) = ((link_to s.memory.links q).is_open ≡ true) × (signs ≡ no_signs)
 IsDue p s q (Freeze leaver) = ((link_to s.memory.links q).is_open ≡ true) × (p ≡ 1) × (has_leave leaver s.journal ≡ true)
     × (cut_of leaver s.journal ≡ None) × (has_leave q s.journal ≡ false)
 IsDue p s q (Cut leaver) = ((link_to s.memory.links q).is_open ≡ true) × (p ≡ 1) × ((K : ℕ) × (cut_of leaver s.journal ≡ Some K))
 IsDue p s q (Frozen leaver) = ((link_to s.memory.links q).is_open ≡ true) × (q ≡ 1) × (has_freeze leaver s.journal ≡ true)
     × (cut_of leaver s.journal ≡ None)
+IsDue p s q (Pass player) = ⊥
+IsDue p s q RefusedLife = ⊥
 
 -- At some time from t on p says this to q, in the state that it had at t. Later, but before time u, q hears this datagram.
 pub record Arrives (rules : Rules) (room : ℕ) (run : Run rules room) (p q : ℕ) (what : Saying) (t u : ℕ) : Type 0 where
@@ -84,8 +88,9 @@ pub record Ticks (rules : Rules) (room : ℕ) (run : Run rules room) (p from to 
   pub at : ℕ
   pub after : from ≤ at
   pub before : at < to
-  pub keys : ℕ
-  pub ticks : run.event at ≡ Do (Tick p keys)
+  pub input : ℕ
+  pub fits : input < 256 ^ rules.width
+  pub ticks : run.event at ≡ Do (Tick p input)
 
 -- player 1 decides a leaver's cut, or its round is not ready, or player 1 has cut its list already
 pub record Decides (rules : Rules) (room : ℕ) (run : Run rules room) (leaver from to : ℕ) : Type 0 where

@@ -1,6 +1,8 @@
-//! Laws of progress. Each is the contract of a function that only calls laws of c8_world, or does nothing.
+//! Laws of progress. Each is the contract of a function that only calls laws of c8_world, or does nothing. They speak of versions 1 and
+//! 2 of the wire, in which no disk loses a journal and a datagram surely carries 42 inputs: more than a player can lack.
 ghost use Rattle.std.specs.Prelude.{◌≡◌, ◌≢◌, ◌≤◌, ◌<◌, ◌^◌, ◌+◌, ◌*◌, ℕ, None, length, suc, true};
 ghost use Rattle.c8_game.specs.Rules.{Rules, AreInRange};
+ghost use Rattle.c8_wire.specs.Format.{has_lives};
 ghost use Rattle.c8_wire.specs.Packet.{HeadValue};
 ghost use Rattle.c8_hand.specs.Links.{LinksValue, refusal, heard};
 ghost use Rattle.c8_known.specs.Journal.{epoch};
@@ -18,7 +20,7 @@ ghost use Rattle.c8_progress.specs.Meeting.{AreMatched, IsFresh, Meets, met, met
 ghost use Rattle.c8_progress.specs.Rounds.{Run, IsCalm, FairRounds, FairMatch, DropsAreOver, IsKept, LinksAreOpen};
 ghost use Rattle.c8_progress.specs.Watching.{WatchRounds};
 
-use c8_world::laws::{any_two_moments_agree, openings_find_journals};
+use c8_world::laws::{any_two_moments_agree, early_versions_have_one_match, openings_find_journals};
 
 /// Whatever has happened, a match can go on to its end, and nobody else has to be dropped or stopped for it.
 ///
@@ -27,11 +29,12 @@ use c8_world::laws::{any_two_moments_agree, openings_find_journals};
 /// way. Only the epochs of who was not dropped must not be spent.
 pub fn a_match_can_always_end()
     ensures { (rules : Rules) (room : ℕ) (w : World)
-        → AreInRange rules → room < 2 ^ 64 → IsReached rules room w
+        → AreInRange rules → has_lives rules.wire ≡ false → room < 2 ^ 64 → IsReached rules room w
         → ((p : ℕ) → IsPlayer rules p → IsUndropped w p → epoch (journal_of w p) < last_epoch)
         → CanAlwaysEnd rules room w }
 {
     any_two_moments_agree();
+    early_versions_have_one_match();
     openings_find_journals();
 }
 
@@ -45,7 +48,7 @@ pub fn a_match_can_always_end()
 ///   two players never wait for each other's HELLO.
 pub fn two_players_get_on()
     ensures on { (rules : Rules) (room : ℕ) (w : World) (p q : ℕ)
-        → AreInRange rules → room < 2 ^ 64 → IsReached rules room w
+        → AreInRange rules → has_lives rules.wire ≡ false → room < 2 ^ 64 → IsReached rules room w
         → IsPlayer rules p → IsPlayer rules q → p ≢ q
         → (peer_of w p).mode ≡ Open → (peer_of w q).mode ≡ Open
         → IsUndropped w p → IsUndropped w q
@@ -53,19 +56,20 @@ pub fn two_players_get_on()
     ensures reached { (rules : Rules) (room : ℕ) (w : World) (p q : ℕ)
         → IsReached rules room w → IsReached rules room (got_on rules room w p q) }
     ensures stays { (rules : Rules) (room : ℕ) (w : World) (run : Run rules room) (p q t : ℕ)
-        → AreInRange rules → room < 2 ^ 64 → IsReached rules room w
+        → AreInRange rules → has_lives rules.wire ≡ false → room < 2 ^ 64 → IsReached rules room w
         → IsPlayer rules p → IsPlayer rules q → p ≢ q
         → (peer_of w p).mode ≡ Open → (peer_of w q).mode ≡ Open
         → IsUndropped w p → IsUndropped w q
         → IsCalm rules room run → run.world 0 ≡ got_on rules room w p q
         → LinksAreOpen (run.world t) p q }
     ensures greets { (rules : Rules) (room : ℕ) (w : World) (p q : ℕ)
-        → AreInRange rules → room < 2 ^ 64 → IsReached rules room w
+        → AreInRange rules → has_lives rules.wire ≡ false → room < 2 ^ 64 → IsReached rules room w
         → IsPlayer rules p → IsPlayer rules q → p ≢ q
         → (peer_of w p).mode ≡ Open → (peer_of w q).mode ≡ Open
         → Greets (links_of w p) (links_of w q) p q }
 {
     any_two_moments_agree();
+    early_versions_have_one_match();
     openings_find_journals();
 }
 
@@ -87,12 +91,13 @@ pub fn two_players_meet()
 /// dropped players, watchers.
 pub fn a_calm_run_keeps_what_holds()
     ensures { (rules : Rules) (room : ℕ) (run : Run rules room) (p q t u : ℕ)
-        → AreInRange rules → room < 2 ^ 64 → IsReached rules room (run.world 0) → IsCalm rules room run
+        → AreInRange rules → has_lives rules.wire ≡ false → room < 2 ^ 64 → IsReached rules room (run.world 0) → IsCalm rules room run
         → IsPlayer rules p → IsPlayer rules q
         → IsUndropped (run.world 0) p → IsUndropped (run.world 0) q
         → t ≤ u → IsKept rules (run.world t) (run.world u) p q }
 {
     any_two_moments_agree();
+    early_versions_have_one_match();
     openings_find_journals();
 }
 
@@ -100,12 +105,13 @@ pub fn a_calm_run_keeps_what_holds()
 /// good, whatever happened before.
 pub fn four_fair_rounds_open_links()
     ensures { (rules : Rules) (room : ℕ) (run : Run rules room) (rounds : FairRounds rules room run 4) (p q t : ℕ)
-        → AreInRange rules → room < 2 ^ 64 → IsReached rules room (run.world 0) → IsCalm rules room run
+        → AreInRange rules → has_lives rules.wire ≡ false → room < 2 ^ 64 → IsReached rules room (run.world 0) → IsCalm rules room run
         → IsPlayer rules p → IsPlayer rules q → p ≢ q
         → IsUndropped (run.world 0) p → IsUndropped (run.world 0) q
         → rounds.begin 4 ≤ t → LinksAreOpen (run.world t) p q }
 {
     any_two_moments_agree();
+    early_versions_have_one_match();
     openings_find_journals();
 }
 
@@ -118,16 +124,17 @@ pub fn four_fair_rounds_open_links()
 /// - `over`: after three rounds and three a frame, if no drop round is under way, as in a match in which nobody was dropped.
 pub fn fair_rounds_end_a_match()
     ensures all { (rules : Rules) (room : ℕ) (run : Run rules room) (rounds : FairMatch rules room run (8 + 3 * rules.frames)) (p t : ℕ)
-        → AreInRange rules → room < 2 ^ 64 → IsReached rules room (run.world 0) → IsCalm rules room run
+        → AreInRange rules → has_lives rules.wire ≡ false → room < 2 ^ 64 → IsReached rules room (run.world 0) → IsCalm rules room run
         → IsPlayer rules p → IsUndropped (run.world 0) p
         → rounds.begin (8 + 3 * rules.frames) ≤ t → confirmed (known_by rules (run.world t) p) ≡ rules.frames }
     ensures over { (rules : Rules) (room : ℕ) (run : Run rules room) (rounds : FairMatch rules room run (3 + 3 * rules.frames)) (p t : ℕ)
-        → AreInRange rules → room < 2 ^ 64 → IsReached rules room (run.world 0) → IsCalm rules room run
+        → AreInRange rules → has_lives rules.wire ≡ false → room < 2 ^ 64 → IsReached rules room (run.world 0) → IsCalm rules room run
         → DropsAreOver rules (run.world 0)
         → IsPlayer rules p → IsUndropped (run.world 0) p
         → rounds.begin (3 + 3 * rules.frames) ≤ t → confirmed (known_by rules (run.world t) p) ≡ rules.frames }
 {
     any_two_moments_agree();
+    early_versions_have_one_match();
     openings_find_journals();
 }
 
@@ -142,12 +149,13 @@ pub fn fair_rounds_end_a_match()
 pub fn rounds_bring_a_watcher_rows()
     ensures { (rules : Rules) (room : ℕ) (run : Run rules room) (watcher more t : ℕ)
         (rounds : WatchRounds rules room run watcher (suc more))
-        → AreInRange rules → room < 2 ^ 64 → IsReached rules room (run.world 0)
+        → AreInRange rules → has_lives rules.wire ≡ false → room < 2 ^ 64 → IsReached rules room (run.world 0)
         → ((time : ℕ) → (peer_of (run.world time) 1).mode ≡ Open) → is_watcher watcher ≡ true
-        → confirmed (known_by rules (run.world 0) 1) ≤ length (rows_of (run.world 0) watcher) + most_rows * more
+        → confirmed (known_by rules (run.world 0) 1) ≤ length (rows_of (run.world 0) watcher) + most_rows rules.width * more
         → rounds.arrives more ≤ t
         → Begins (confirmed_rows (known_by rules (run.world 0) 1)) (rows_of (run.world t) watcher) }
 {
     any_two_moments_agree();
+    early_versions_have_one_match();
     openings_find_journals();
 }

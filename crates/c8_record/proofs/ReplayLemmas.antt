@@ -6,8 +6,8 @@ use Rattle.std.proofs.Math.Seq.{take-length}
 use Rattle.std.proofs.lemmas.List.{map-append, length-map, length-take-le, take_more}
 use Rattle.std.proofs.lemmas.List.Elements.{All-append}
 use Rattle.std.proofs.lemmas.Option.{slice_get_within, get_or_from_slice_get}
-use Rattle.c8_game.specs.Rules.{Rules}
-use Rattle.c8_known.specs.Journal.{Record, Head, Epoch, Own, Got, Freeze, Leave, Cut, State, Check, epoch, epochs}
+use Rattle.c8_game.specs.Rules.{Rules, id_of}
+use Rattle.c8_known.specs.Journal.{Record, Head, Epoch, Own, Got, Freeze, Leave, Cut, State, Check, Met, epochs, first_in}
 use Rattle.c8_known.specs.Known.{KnownValue, known_of, with_record, IsOfGame}
 use Rattle.c8_record.specs.declared.error.ReplayError.{ReplayError}
 use Rattle.c8_record.specs.declared.error.ReplayError.TheVariants.{WrongGame, WrongPlayer, BadRecord, Disk}
@@ -19,90 +19,95 @@ use Rattle.c8_log.specs.declared.error.LogError.TheVariants as logs
 use Rattle.c8_log.specs.Asked.{told_by as told_by_log}
 use Rattle.c8_log.specs.Slots.{kept, body_of, blocks_of}
 use Rattle.c8_record.specs.Checks.{ChecksValue, no_checks, with_check, checks_of}
+use Rattle.c8_record.specs.declared.progress.Numbers.{Numbers}
+use Rattle.c8_record.specs.Numbers.{NumbersValue, value_of, numbers_of, no_numbers}
 use Rattle.c8_record.specs.Body.{Spells, record_of, records_of}
 use Rattle.c8_record.specs.Allowed.{Past, past_of, IsAllowedAfter, IsAllowed, IsJournal}
-use Rattle.c8_record.specs.checked.Taken.{epoch_after, IsOfOtherGame, IsOfOtherPlayer, IsUnfitBody, IsTaken, IsReadTo, AreNext}
+use Rattle.c8_record.specs.checked.Taken.{numbers_after, IsOfOtherGame, IsOfOtherPlayer, IsUnfitBody, IsTaken, IsReadTo, AreNext}
 use Rattle.c8_record.specs.Replay.{AreJournalBodies, IsRefusal, is_failed, taken_before, told_by, AreSaid, IsReplayed, IsReplayedFromDisk}
 use Rattle.c8_record.specs.Replay.{LooksAt, ReplayRun}
-use Rattle.c8_record.specs.checked.JournalLaws.{journal_none, journal_more, checks_more, epoch_more, known_more, of_game}
+use Rattle.c8_record.specs.checked.JournalLaws.{journal_none, journal_more, checks_more, numbers_more, known_more, of_game}
 
 one_holds : {X : Type 0} (P : X → Type 0) (x : X) → P x → All P (x ∷ [])
 one_holds P x p zero d within = p
 one_holds P x p (suc k) d within = absurd (omega (arith, within))
 
 module _ (rules : Rules) (me room : ℕ) (bodies : List (List ℕ)) where
-  pub read_none : (now : KnownValue) (checks : ChecksValue) → now ≡ known_of rules me [] → checks ≡ no_checks
-      → IsReadTo rules me room bodies 0 now checks 0
-  unfolding epochs known_of checks_of
-  read_none now checks is new = record {
+  pub read_none : (now : KnownValue) (checks : ChecksValue) (numbers : Numbers) → now ≡ known_of rules me [] → checks ≡ no_checks
+      → value_of numbers ≡ no_numbers → IsReadTo rules me room bodies 0 now checks numbers
+  unfolding epochs first_in known_of checks_of
+  read_none now checks numbers is new none = record {
     within = omega arith;
     whose = ap (λ (k : KnownValue). k.me) is;
     journal = record { spelled = λ k d within. absurd (omega (arith, within)); journal = journal_none rules me room };
     known = is;
     saved = new;
-    epoch = refl;
+    numbers = none;
   }
 
   -- what the records before say, as the code has it
-  same_past : (n : ℕ) (now : KnownValue) (checks : ChecksValue) (last : ℕ) → IsReadTo rules me room bodies n now checks last
-      → ◌≡◌ {A = Past} (record { count = n; epoch = last; checks = checks; known = now }) (past_of rules me (records_of (take n bodies)))
+  same_past : (n : ℕ) (now : KnownValue) (checks : ChecksValue) (last : Numbers) → IsReadTo rules me room bodies n now checks last
+      → ◌≡◌ {A = Past} (record { count = n; numbers = value_of last; checks = checks; known = now }) (past_of rules me (records_of rules.width (take n bodies)))
   same_past n now checks last read =
-      let count : n ≡ length (records_of (take n bodies)) = sym (length-map (take n bodies) record_of ∙ length-take-le n bodies read.within) in
-      λ i. record { count = count i; epoch = read.epoch i; checks = read.saved i; known = read.known i }
+      let count : n ≡ length (records_of rules.width (take n bodies)) =
+      sym (length-map (take n bodies) (record_of rules.width) ∙ length-take-le n bodies read.within) in
+      λ i. record { count = count i; numbers = read.numbers i; checks = read.saved i; known = read.known i }
 
-  pub read_of_game : (n : ℕ) (now : KnownValue) (checks : ChecksValue) (last : ℕ) → IsReadTo rules me room bodies n now checks last
+  pub read_of_game : (n : ℕ) (now : KnownValue) (checks : ChecksValue) (last : Numbers) → IsReadTo rules me room bodies n now checks last
       → IsOfGame rules now.me now
   unfolding known_of
   read_of_game n now checks last read = subst (λ (k : KnownValue). IsOfGame rules k.me k) (sym read.known)
-      (of_game rules me (records_of (take n bodies)))
+      (of_game rules me (records_of rules.width (take n bodies)))
 
   next_body : (n : ℕ) (body : List ℕ) → slice_get bodies n ≡ Some body → take (n + 1) bodies ≡ take n bodies ++ body ∷ []
   next_body n body is = take_more bodies n body (slice_get_within bodies n body is)
       ∙ ap (λ (b : List ℕ). take n bodies ++ b ∷ []) (get_or_from_slice_get bodies n body body is)
 
-  pub read_more : (n : ℕ) (old new : KnownValue) (checks saved : ChecksValue) (last later : ℕ) (body : List ℕ)
+  pub read_more : (n : ℕ) (old new : KnownValue) (checks saved : ChecksValue) (last later : Numbers) (body : List ℕ)
       → IsReadTo rules me room bodies n old checks last → slice_get bodies n ≡ Some body
-      → IsTaken rules room (record { count = n; epoch = last; checks = checks; known = old }) body new saved later
+      → IsTaken rules room (record { count = n; numbers = value_of last; checks = checks; known = old }) body new saved later
       → IsReadTo rules me room bodies (n + 1) new saved later
   unfolding known_of
   read_more n old new checks saved last later body read is taken =
-      let before : List Record = records_of (take n bodies) in
-      let r : Record = record_of body in
+      let before : List Record = records_of rules.width (take n bodies) in
+      let r : Record = record_of rules.width body in
       let allowed : IsAllowed rules me room before r =
       subst (λ (past : Past). IsAllowedAfter rules room past r) (same_past n old checks last read) taken.allowed in
       let next = next_body n body is in
-      let records : records_of (take (n + 1) bodies) ≡ before ++ r ∷ [] = ap records_of next ∙ map-append record_of (take n bodies) (body ∷ []) in
-      let now : new ≡ known_of rules me (records_of (take (n + 1) bodies)) =
+      let records : records_of rules.width (take (n + 1) bodies) ≡ before ++ r ∷ [] = ap (records_of rules.width) next
+      ∙ map-append (record_of rules.width) (take n bodies) (body ∷ []) in
+      let now : new ≡ known_of rules me (records_of rules.width (take (n + 1) bodies)) =
       taken.known ∙ ap (λ (k : KnownValue). with_record k r) read.known ∙ sym (known_more rules me room before r allowed)
       ∙ ap (known_of rules me) (sym records) in
       record {
         within = omega (arith, slice_get_within bodies n body is);
         whose = ap (λ (k : KnownValue). k.me) now;
         journal = record {
-          spelled = subst (λ (some : List (List ℕ)). All (λ b. Spells b (record_of b)) some) (sym next)
-              (All-append (λ b. Spells b (record_of b)) (take n bodies) (body ∷ []) read.journal.spelled
-              (one_holds (λ b. Spells b (record_of b)) body taken.spelled));
+          spelled = subst (λ (some : List (List ℕ)). All (λ b. Spells rules.width b (record_of rules.width b)) some) (sym next)
+              (All-append (λ b. Spells rules.width b (record_of rules.width b)) (take n bodies) (body ∷ []) read.journal.spelled
+              (one_holds (λ b. Spells rules.width b (record_of rules.width b)) body taken.spelled));
           journal = subst (λ (some : List Record). IsJournal rules me room some) (sym records)
               (journal_more rules me room before r read.journal.journal allowed);
         };
         known = now;
         saved = taken.saved ∙ ap (λ (c : ChecksValue). with_check c r) read.saved ∙ sym (checks_more before r) ∙ ap checks_of (sym records);
-        epoch = taken.last ∙ ap (λ (e : ℕ). epoch_after e r) read.epoch ∙ sym (epoch_more before r) ∙ ap epoch (sym records);
+        numbers = taken.last ∙ ap (λ (numbers : NumbersValue). numbers_after numbers r) read.numbers
+            ∙ sym (numbers_more rules.width before r allowed.spelled) ∙ ap numbers_of (sym records);
       }
 
-  pub read_all : (n : ℕ) (now : KnownValue) (checks : ChecksValue) (last : ℕ) → IsReadTo rules me room bodies n now checks last
+  pub read_all : (n : ℕ) (now : KnownValue) (checks : ChecksValue) (last : Numbers) → IsReadTo rules me room bodies n now checks last
       → n ≡ length bodies → IsReplayed rules me room bodies (Ok last) now checks
   read_all n now checks last read all =
       let whole : take n bodies ≡ bodies = ap (λ (m : ℕ). take m bodies) all ∙ take-length bodies in (
         subst (λ (some : List (List ℕ)). AreJournalBodies rules me room some) whole read.journal,
-        read.known ∙ ap (λ (some : List (List ℕ)). known_of rules me (records_of some)) whole,
-        read.epoch ∙ ap (λ (some : List (List ℕ)). epoch (records_of some)) whole,
-        read.saved ∙ ap (λ (some : List (List ℕ)). checks_of (records_of some)) whole,
+        read.known ∙ ap (λ (some : List (List ℕ)). known_of rules me (records_of rules.width some)) whole,
+        read.numbers ∙ ap (λ (some : List (List ℕ)). numbers_of (records_of rules.width some)) whole,
+        read.saved ∙ ap (λ (some : List (List ℕ)). checks_of (records_of rules.width some)) whole,
       )
 
-  other_game : (body : List ℕ) (r : Record) → slice_get bodies 0 ≡ Some body → Spells body r → IsOfOtherGame rules room r
+  other_game : (body : List ℕ) (r : Record) → slice_get bodies 0 ≡ Some body → Spells rules.width body r → IsOfOtherGame rules room r
       → IsRefusal rules me room bodies WrongGame
-  other_game body (Head player form id named) first spells other = (player, id, named, (body, form, first, spells), other)
+  other_game body (Head player form id named life) first spells other = (player, id, named, (body, form, life, first, spells), other)
   other_game body (Epoch player number form) first spells other = absurd other
   other_game body (Own player start word) first spells other = absurd other
   other_game body (Got player start words) first spells other = absurd other
@@ -111,17 +116,19 @@ module _ (rules : Rules) (me room : ℕ) (bodies : List (List ℕ)) where
   other_game body (Cut player cut start words) first spells other = absurd other
   other_game body (State player frames piece bytes) first spells other = absurd other
   other_game body (Check player frames digest) first spells other = absurd other
+  other_game body (Met player life) first spells other = absurd other
 
-  other_player : (body : List ℕ) (r : Record) → slice_get bodies 0 ≡ Some body → Spells body r → IsOfOtherPlayer rules me room r
+  other_player : (body : List ℕ) (r : Record) → slice_get bodies 0 ≡ Some body → Spells rules.width body r → IsOfOtherPlayer rules me room r
       → IsRefusal rules me room bodies WrongPlayer
-  other_player body (Head player form id named) first spells other = (
+  other_player body (Head player form id named life) first spells other = (
     player,
     (
       body,
       form,
+      life,
       first,
-      subst (λ (one : List ℕ). Spells body (Head player form one room)) other.0
-          (subst (λ (one : ℕ). Spells body (Head player form id one)) other.1 spells),
+      subst (λ (one : List ℕ). Spells rules.width body (Head player form one room life)) other.0
+          (subst (λ (one : ℕ). Spells rules.width body (Head player form id one life)) other.1 spells),
     ),
     other.2,
   )
@@ -133,19 +140,20 @@ module _ (rules : Rules) (me room : ℕ) (bodies : List (List ℕ)) where
   other_player body (Cut player cut start words) first spells other = absurd other
   other_player body (State player frames piece bytes) first spells other = absurd other
   other_player body (Check player frames digest) first spells other = absurd other
+  other_player body (Met player life) first spells other = absurd other
 
   -- what is known and noted, where the bodies before are these
-  said : (n : ℕ) (now : KnownValue) (checks : ChecksValue) (last : ℕ) → IsReadTo rules me room bodies n now checks last
+  said : (n : ℕ) (now : KnownValue) (checks : ChecksValue) (last : Numbers) → IsReadTo rules me room bodies n now checks last
       → (some : List (List ℕ)) → take n bodies ≡ some → AreSaid rules me some now checks
   said n now checks last read some is = (
-    read.known ∙ ap (λ (before : List (List ℕ)). known_of rules me (records_of before)) is,
-    read.saved ∙ ap (λ (before : List (List ℕ)). checks_of (records_of before)) is,
+    read.known ∙ ap (λ (before : List (List ℕ)). known_of rules me (records_of rules.width before)) is,
+    read.saved ∙ ap (λ (before : List (List ℕ)). checks_of (records_of rules.width before)) is,
   )
 
   -- why a body is refused after those before it
-  pub read_bad : (n : ℕ) (now : KnownValue) (checks : ChecksValue) (last : ℕ) (body : List ℕ) (error : ReplayError)
+  pub read_bad : (n : ℕ) (now : KnownValue) (checks : ChecksValue) (last : Numbers) (body : List ℕ) (error : ReplayError)
       → IsReadTo rules me room bodies n now checks last → slice_get bodies n ≡ Some body
-      → IsUnfitBody rules room (record { count = n; epoch = last; checks = checks; known = now }) body error
+      → IsUnfitBody rules room (record { count = n; numbers = value_of last; checks = checks; known = now }) body error
       → IsReplayed rules me room bodies (Err error) now checks
   read_bad n now checks last body WrongGame read is unfit =
       let none : take n bodies ≡ [] = ap (λ (m : ℕ). take m bodies) unfit.0 in
@@ -166,16 +174,19 @@ module _ (rules : Rules) (me room : ℕ) (bodies : List (List ℕ)) where
             before = read.journal;
             bad = λ b r there spells may.
                 let same : b ≡ body = cc in
-                unfit.2 r (subst (λ (one : List ℕ). Spells one r) same spells)
+                unfit.2 r (subst (λ (one : List ℕ). Spells rules.width one r) same spells)
                 (subst (λ (past : Past). IsAllowedAfter rules room past r) (sym (same_past n now checks last read)) may);
           },
-          λ player id named begins none.
+          λ none player id named begins.
               let b = begins.0 in
               let form = begins.1 in
-              let there = begins.2 in
+              let life = begins.2 in
+              let there = begins.3 in
               let first : slice_get bodies 0 ≡ Some body = subst (λ (k : ℕ). slice_get bodies k ≡ Some body) none is in
               let same : b ≡ body = cc in
-              unfit.1 (Head player form id named) (subst (λ (one : List ℕ). Spells one (Head player form id named)) same begins.3) none tt,
+              subst (λ (q : ℕ). (id ≡ id_of rules) × (named ≡ room) × (player ≡ q)) read.whose
+              (unfit.1 (Head player form id named life)
+              (subst (λ (one : List ℕ). Spells rules.width one (Head player form id named life)) same begins.4) none tt),
         ),
         (read.known, read.saved),
       )
@@ -193,14 +204,14 @@ refused_there rules room past body (Disk why) unfit = absurd unfit
 
 module _ {D : Type 0} (g : Ghosts D) (rules : Rules) (me room : ℕ) (bodies : List (List ℕ)) (old new : D) where
   -- the reads of the blocks of the bodies that were looked at
-  replay_run : (result : Result ℕ ReplayError) (n k : ℕ) (answer : Answer) → LooksAt rules me room bodies result n → k ≡ blocks_of n
+  replay_run : (result : Result Numbers ReplayError) (n k : ℕ) (answer : Answer) → LooksAt rules me room bodies result n → k ≡ blocks_of n
       → Asks g (Reads k) answer old new
       → Asks g (ReplayRun rules me room bodies result) answer old new
   replay_run result n k answer looks count reads =
       record { calls = reads.calls; led = reads.led; is = (n, looks, subst (λ (m : ℕ). Reads m reads.calls answer) count reads.is) }
 
   -- all were in order
-  pub looked_at_all : (last k : ℕ) → k ≡ blocks_of (length bodies) → Asks g (Reads k) (Ok tt) old new
+  pub looked_at_all : (last : Numbers) (k : ℕ) → k ≡ blocks_of (length bodies) → Asks g (Reads k) (Ok tt) old new
       → Asks g (ReplayRun rules me room bodies (Ok last)) (Ok tt) old new
   looked_at_all last k count reads = replay_run (Ok last) (length bodies) k (Ok tt) refl count reads
 
@@ -214,7 +225,7 @@ module _ {D : Type 0} (g : Ghosts D) (rules : Rules) (me room : ℕ) (bodies : L
   looked_at_some (Disk why) now checks k is le lt reads = absurd is.0
 
   -- a block was refused, after others whose bodies are in order
-  pub looked_until_failed : (now : KnownValue) (checks : ChecksValue) (last k : ℕ) → IsReadTo rules me room bodies (32 * k) now checks last
+  pub looked_until_failed : (now : KnownValue) (checks : ChecksValue) (last : Numbers) (k : ℕ) → IsReadTo rules me room bodies (32 * k) now checks last
       → 32 * k < length bodies → Asks g (Reads (k + 1)) (Err Failed) old new
       → Asks g (ReplayRun rules me room bodies (Err (Disk Failed))) (Err Failed) old new
   looked_until_failed now checks last k read less reads =
@@ -222,7 +233,7 @@ module _ {D : Type 0} (g : Ghosts D) (rules : Rules) (me room : ℕ) (bodies : L
       replay_run (Err (Disk Failed)) (32 * k + 1) (k + 1) (Err Failed)
       (omega (arith, less), subst (λ (n : ℕ). AreJournalBodies rules me room (take n bodies)) before read.journal) (omega arith) reads
 
-pub from_disk : (rules : Rules) (me room : ℕ) (bodies : List (List ℕ)) (result : Result ℕ ReplayError) (now : KnownValue)
+pub from_disk : (rules : Rules) (me room : ℕ) (bodies : List (List ℕ)) (result : Result Numbers ReplayError) (now : KnownValue)
     (checks : ChecksValue) → IsReplayed rules me room bodies result now checks → IsReplayedFromDisk rules me room bodies result now checks
 from_disk rules me room bodies (Ok last) now checks is = is
 from_disk rules me room bodies (Err WrongGame) now checks is = is
@@ -239,7 +250,7 @@ not_failed rules me room bodies (Disk why) now checks is = absurd is.0
 
 -- the blocks before one are read
 pub read_at_block : (rules : Rules) (me room : ℕ) (bodies : List (List ℕ)) (k count : ℕ) (now : KnownValue) (checks : ChecksValue)
-    (last : ℕ) → IsReadTo rules me room bodies (min (32 * k) count) now checks last → 32 * k < count
+    (last : Numbers) → IsReadTo rules me room bodies (min (32 * k) count) now checks last → 32 * k < count
     → IsReadTo rules me room bodies (32 * k) now checks last
 read_at_block rules me room bodies k count now checks last read less =
     let here : min (32 * k) count ≡ 32 * k = omega (arith, less) in

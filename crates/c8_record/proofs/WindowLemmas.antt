@@ -3,7 +3,7 @@ use Rattle.std.proofs.Common.{◌≡◌, ℕ, ◌+◌, ◌≤◌, List, [], ◌�
 use Rattle.std.proofs.lemmas.List.{append-nil}
 use Rattle.c8_game.specs.Rules.{Rules, AreInRange}
 use Rattle.c8_known.specs.Journal as journals
-use Rattle.c8_known.specs.Journal.{Record, Head, Epoch, Own, Got, Freeze, Leave, Cut, State, Check}
+use Rattle.c8_known.specs.Journal.{Record, Head, Epoch, Own, Got, Freeze, Leave, Cut, State, Check, Met}
 use Rattle.c8_known.specs.Known.{KnownValue, with_record, known_of}
 use Rattle.c8_known.specs.Confirmed.{confirmed}
 use Rattle.c8_known.specs.checked.ConfirmedLaws.{confirmed_rises}
@@ -16,10 +16,11 @@ IsWithin rules k = k.ticks ≤ confirmed k + rules.window
 one_within : (rules : Rules) (room : ℕ) (past : Past) (r : Record) → IsAllowedAfter rules room past r → IsWithin rules past.known
     → confirmed past.known ≤ confirmed (with_record past.known r)
     → IsWithin rules (with_record past.known r)
-one_within rules room past (Head player form id named) may within rises = within
+one_within rules room past (Head player form id named life) may within rises = within
 one_within rules room past (Epoch player number form) may within rises = within
 one_within rules room past (State player frames piece bytes) may within rises = within
 one_within rules room past (Check player frames digest) may within rises = within
+one_within rules room past (Met player life) may within rises = within
 one_within rules room past (Own player start word) may within rises =
     let made : (with_record past.known (Own player start word)).ticks ≡ past.known.ticks + 1 = refl in
     let few = may.may.window in

@@ -10,7 +10,7 @@ use Rattle.c8_digest.specs.StateBytes.{state_length, state_bytes}
 use Rattle.c8_digest.specs.Reading.{state_in}
 use Rattle.c8_digest.specs.Marks.{marks_bytes, marks_in, are_marks}
 use Rattle.c8_digest.specs.Origin.{Origin, first_origin}
-use Rattle.c8_known.specs.Journal.{Record, Head, Epoch, Own, Got, Freeze, Leave, Cut, State, Check}
+use Rattle.c8_known.specs.Journal.{Record, Head, Epoch, Own, Got, Freeze, Leave, Cut, State, Check, Met}
 
 -- ---- the pieces of a checkpoint
 
@@ -92,7 +92,7 @@ abbrev pub with_whole : ChecksValue → ChecksValue
 with_whole c = record c { under_way = None; last = origin_in c.under_way }
 
 abbrev pub with_check : ChecksValue → Record → ChecksValue
-with_check c (Head player form id room) = with_form c form
+with_check c (Head player form id room life) = with_form c form
 with_check c (Epoch player number form) = with_form c form
 with_check c (Own player start word) = c
 with_check c (Got player start words) = c
@@ -101,6 +101,7 @@ with_check c (Leave player) = c
 with_check c (Cut player length start words) = c
 with_check c (State player frames piece bytes) = with_piece c frames piece bytes
 with_check c (Check player frames digest) = with_whole c
+with_check c (Met player life) = c
 
 unfoldable pub checks_of : List Record → ChecksValue
 checks_of journal = fold with_check no_checks journal
@@ -109,7 +110,7 @@ checks_of journal = fold with_check no_checks journal
 
 -- the last checkpoint before the last opening
 abbrev pub opened_at : ChecksValue → Option Origin → Record → Option Origin
-opened_at c before (Head player form id room) = c.last
+opened_at c before (Head player form id room life) = c.last
 opened_at c before (Epoch player number form) = c.last
 opened_at c before (Own player start word) = before
 opened_at c before (Got player start words) = before
@@ -118,6 +119,7 @@ opened_at c before (Leave player) = before
 opened_at c before (Cut player length start words) = before
 opened_at c before (State player frames piece bytes) = before
 opened_at c before (Check player frames digest) = before
+opened_at c before (Met player life) = before
 
 unfoldable pub opened_since : ChecksValue → Option Origin → List Record → Option Origin
 opened_since c before [] = before
@@ -152,9 +154,13 @@ ends_well frames piece bytes =
 abbrev pub has_shape : ℕ → ℕ → List ℕ → Bool
 has_shape frames piece bytes = length bytes == piece_length piece && ends_well frames piece bytes
 
+-- records of any form but 0 have checkpoints
+abbrev pub has_checks : ℕ → Bool
+has_checks form = nat_lt 0 form
+
 -- the piece is allowed while `sure` frames are confirmed
 abbrev pub may_take : ChecksValue → ℕ → ℕ → ℕ → List ℕ → Bool
-may_take c sure frames piece bytes = c.form == 2 && is_next_after c.under_way (frames_of c.last) sure frames piece && has_shape frames piece bytes
+may_take c sure frames piece bytes = has_checks c.form && is_next_after c.under_way (frames_of c.last) sure frames piece && has_shape frames piece bytes
 
 -- the digest is allowed: all pieces are there, it is their digest, and their bytes are those of a
 -- machine

@@ -1,6 +1,7 @@
 pub mod Body
 pub mod Allowed
 pub mod Lent
+pub mod Numbers
 pub mod Replay
 pub mod Errors
 pub mod Checks

@@ -6,3 +6,4 @@ pub mod Taken
 pub mod CheckLaws
 pub mod OpenedLaws
 pub mod PieceLaws
+pub mod LivesLaws

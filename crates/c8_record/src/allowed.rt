@@ -1,23 +1,23 @@
 //! Whether a record may follow the earlier ones.
-ghost use Rattle.std.specs.Prelude.{◌≡◌, ◌≢◌, ◌↔◌, ℕ, true, MatchResult};
+ghost use Rattle.std.specs.Prelude.{◌≡◌, ◌≢◌, ◌↔◌, ℕ, true, false, MatchResult};
 ghost use Rattle.c8_game.specs.Rules.{id_of};
+ghost use Rattle.c8_known.specs.Journal.{player_of};
 ghost use Rattle.c8_known.specs.Known.{Plays, IsKnown, IsOfGame};
-ghost use Rattle.c8_wire.specs.Lent.{version_of, words};
-ghost use Rattle.c8_game.specs.declared.wire.WireVersion.TheVariants as versions;
+ghost use Rattle.c8_wire.specs.Lent.{words};
 ghost use Rattle.c8_wire.specs.Spelling.{words_bytes};
-ghost use Rattle.c8_record.specs.Allowed.{MayEpoch, MayOwn, MayGot, MayFreeze, MayLeave, MayCut, MayState, MayEnd, IsAllowedAfter};
+ghost use Rattle.c8_record.specs.Allowed.{form_of, IsFormOf, MayEpoch, MayOwn, MayGot, MayFreeze, MayLeave, MayCut, MayState, MayEnd, MayMet, MayFollow, IsAllowedAfter};
 ghost use Rattle.c8_record.specs.Body.{HasSpelling};
-ghost use Rattle.c8_record.specs.Lent.{value_of, IsOfWords};
+ghost use Rattle.c8_record.specs.Lent.{value_of, IsOfWords, AreWordsOf, word_width};
 ghost use Rattle.c8_record.specs.Seen.{value_of as value_in};
-ghost use Rattle.c8_record.specs.checked.Taken.{past_in, IsUnfit};
+ghost use Rattle.c8_record.specs.checked.Taken.{past_in, IsUnbarred, IsUnfit};
 
 use crate::checks::Checks;
 use crate::error::ReplayError;
 use crate::progress::Replay;
-use crate::record::Record;
-use c8_game::{Game, Player};
+use crate::record::{LAST_EARLY_FORM, Record};
+use c8_game::{Game, MOST_PLAYERS, Player};
 use c8_known::Known;
-use c8_wire::Run;
+use c8_wire::{Run, has_lives};
 
 /// Judges the next record of a replay by what is known and noted so far.
 pub(crate) fn judge(
@@ -27,8 +27,8 @@ pub(crate) fn judge(
     lent: &Record<'_>,
 ) -> Result<(), ReplayError>
     requires of_game { IsOfGame replay.now.game.now known.now.me known.now }
-    requires spelled { HasSpelling (value_of lent.now) }
-    requires words { IsOfWords lent.now }
+    requires spelled { HasSpelling replay.now.game.now.width (value_of lent.now) }
+    requires words { IsOfWords replay.now.game.now.width lent.now }
     ensures known { IsKnown known.now }
     ensures judged { MatchResult result
         (λ _. IsAllowedAfter replay.now.game.now replay.now.room
@@ -56,7 +56,7 @@ fn judge_first(
     lent: &Record<'_>,
 ) -> Result<(), ReplayError>
     requires first { replay.now.count ≡ 0 }
-    requires spelled { HasSpelling (value_of lent.now) }
+    requires spelled { HasSpelling replay.now.game.now.width (value_of lent.now) }
     ensures { MatchResult result
         (λ _. IsAllowedAfter replay.now.game.now replay.now.room
         (past_in replay.now (value_in checks.now) known.now) (value_of lent.now))
@@ -66,9 +66,10 @@ fn judge_first(
     let me = known.me();
     let Record::Head {
         player,
-        form: _,
+        form,
         id,
         room,
+        life: _,
     } = *lent
     else {
         return Err(ReplayError::BadRecord(0));
@@ -79,31 +80,81 @@ fn judge_first(
     if player.number != me.number {
         return Err(ReplayError::WrongPlayer);
     }
+    if !is_form_of(replay.game, form) {
+        return Err(ReplayError::BadRecord(0));
+    }
     Ok(())
+}
+
+/// Returns the form that openings write in a game: 2, and in version 3 the width of inputs plus 2.
+pub fn form_of(game: &Game) -> u32
+    ensures { result ≡ form_of game.now }
+{
+    if has_lives(game.wire()) {
+        LAST_EARLY_FORM + u32::from(game.width().bytes)
+    } else {
+        LAST_EARLY_FORM
+    }
+}
+
+/// Returns whether the journals of a game may have this form.
+fn is_form_of(game: &Game, form: u32) -> bool
+    ensures { (result ≡ true) ↔ IsFormOf game.now form }
+{
+    form == form_of(game) || !has_lives(game.wire()) && form == 0
 }
 
 /// Returns whether a record may follow the earlier ones.
 fn may_follow(replay: &Replay<'_>, checks: &Checks, known: &Known, lent: &Record<'_>) -> bool
     requires later { replay.now.count ≢ 0 }
-    requires spelled { HasSpelling (value_of lent.now) }
-    requires words { IsOfWords lent.now }
+    requires spelled { HasSpelling replay.now.game.now.width (value_of lent.now) }
+    requires words { IsOfWords replay.now.game.now.width lent.now }
     ensures { (result ≡ true) ↔ IsAllowedAfter replay.now.game.now replay.now.room
         (past_in replay.now (value_in checks.now) known.now) (value_of lent.now) }
 {
+    lent.player().number <= known.players()
+        && !is_barred(replay, known, lent)
+        && keeps_its_rule(replay, checks, known, lent)
+}
+
+/// Returns whether a record may not follow because the own player was dropped, or because no MET names its match.
+fn is_barred(replay: &Replay<'_>, known: &Known, lent: &Record<'_>) -> bool
+    ensures { (result ≡ false) ↔ IsUnbarred replay.now.game.now known.now
+        replay.now.numbers.met (value_of lent.now) }
+{
     let me = known.me();
-    let dropped = me.number != 1 && known.leaving(me);
-    if lent.player().number > known.players() {
+    if me.number == 1 {
         return false;
     }
     match *lent {
+        Record::Head { .. } | Record::Epoch { .. } => false,
+        Record::Own { .. } | Record::State { .. } | Record::Check { .. } | Record::Met { .. } => {
+            known.leaving(me)
+        }
+        Record::Got { .. } | Record::Freeze { .. } | Record::Leave { .. } | Record::Cut { .. } => {
+            known.leaving(me) || has_lives(replay.game.wire()) && replay.numbers.met[0] == 0
+        }
+    }
+}
+
+/// Returns whether the rule of its kind allows a record that is not the first.
+fn keeps_its_rule(replay: &Replay<'_>, checks: &Checks, known: &Known, lent: &Record<'_>) -> bool
+    requires later { replay.now.count ≢ 0 }
+    requires words { IsOfWords replay.now.game.now.width lent.now }
+    requires plays { Plays known.now (player_of (value_of lent.now)) }
+    ensures { (result ≡ true) ↔ MayFollow replay.now.game.now replay.now.room
+        (past_in replay.now (value_in checks.now) known.now) (value_of lent.now) }
+{
+    let game = replay.game;
+    let numbers = &replay.numbers;
+    match *lent {
+        Record::Head { .. } => false,
         Record::Epoch {
             player,
             number,
             form,
-        } => may_epoch(known, replay.epoch, checks, player, number, form),
-        Record::Head { .. } => false,
-        _ if dropped => false,
-        Record::Own { player, start, .. } => may_own(replay.game, known, player, start),
+        } => may_epoch(game, known, numbers.epoch, checks, player, number, form),
+        Record::Own { player, start, .. } => may_own(game, known, player, start),
         Record::Got { player, start, run } => may_got(known, player, start, run),
         Record::Freeze { player } => may_freeze(known, player),
         Record::Leave { player } => may_leave(known, player),
@@ -124,10 +175,12 @@ fn may_follow(replay: &Replay<'_>, checks: &Checks, known: &Known, lent: &Record
             frames,
             run,
         } => may_end(known, checks, player, frames, run),
+        Record::Met { player, .. } => may_met(game, known, &numbers.met, player),
     }
 }
 
 fn may_epoch(
+    game: &Game,
     known: &Known,
     epoch: u32,
     checks: &Checks,
@@ -136,10 +189,23 @@ fn may_epoch(
     form: u32,
 ) -> bool
     ensures { (result ≡ true)
-        ↔ MayEpoch known.now epoch (value_in checks.now) player.number number form }
+        ↔ MayEpoch game.now known.now epoch (value_in checks.now) player.number number form }
 {
     let me = known.me();
-    player.number == me.number && number > epoch && (checks.form() != 2 || form == 2)
+    player.number == me.number
+        && number > epoch
+        && is_form_of(game, form)
+        && (checks.form() != 2 || form == 2)
+}
+
+fn may_met(game: &Game, known: &Known, met: &[u64; MOST_PLAYERS], player: Player) -> bool
+    ensures { (result ≡ true) ↔ MayMet game.now known.now met.now player.number }
+{
+    let me = known.me();
+    has_lives(game.wire())
+        && player.number != me.number
+        && (me.number == 1 || player.number == 1)
+        && met[player.place()] == 0
 }
 
 fn may_state(
@@ -150,19 +216,19 @@ fn may_state(
     piece: u32,
     run: Run<'_>,
 ) -> bool
-    requires { version_of run ≡ versions.One }
+    requires { AreWordsOf word_width run }
     ensures { (result ≡ true) ↔ MayState known.now (value_in checks.now) player.number frames piece
-        (words_bytes (words run.entry)) }
+        (words_bytes word_width (words run.entry)) }
 {
     let me = known.me();
     player.number == me.number && checks.may_take(known.confirmed(), frames, piece, run.bytes())
 }
 
 fn may_end(known: &Known, checks: &Checks, player: Player, frames: u32, run: Run<'_>) -> bool
-    requires { version_of run ≡ versions.One }
+    requires { AreWordsOf word_width run }
     ensures { (result ≡ true)
         ↔ MayEnd known.now (value_in checks.now) player.number frames
-        (words_bytes (words run.entry)) }
+        (words_bytes word_width (words run.entry)) }
 {
     let me = known.me();
     player.number == me.number && checks.may_check(frames, run.bytes())

@@ -70,7 +70,7 @@ impl Checks {
         self.last.as_ref()
     }
 
-    /// Returns the form of the records since the last opening: 0 or 2.
+    /// Returns the form of the records since the last opening: 0, or 2 to 10.
     pub fn form(&self) -> u32
         ensures { result ≡ (value_of self.now).form }
     {
@@ -91,7 +91,7 @@ impl Checks {
     pub fn may_take(&self, sure: u32, frames: u32, piece: u32, bytes: &[u8]) -> bool
         ensures { result ≡ may_take (value_of self.now) sure frames piece bytes.now }
     {
-        if self.form != 2 || !has_shape(frames, piece, bytes) {
+        if self.form == 0 || !has_shape(frames, piece, bytes) {
             return false;
         }
         if self.count == 0 {

@@ -20,9 +20,12 @@ pub fn make_known(known: &mut Known, lent: &Record<'_>)
     let _me = known.me();
     c8_known::laws::what_is_still_known_chains();
     match *lent {
-        Record::Head { .. } | Record::Epoch { .. } | Record::State { .. } | Record::Check { .. } =>
-            {}
-        Record::Own { keys, .. } => known.own(keys),
+        Record::Head { .. }
+        | Record::Epoch { .. }
+        | Record::State { .. }
+        | Record::Check { .. }
+        | Record::Met { .. } => {}
+        Record::Own { input, .. } => known.own(input),
         Record::Got { player, run, .. } => known.take(player, run),
         Record::Freeze { player } => known.freeze(player),
         Record::Leave { player } => known.leave(player),

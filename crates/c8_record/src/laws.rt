@@ -1,8 +1,10 @@
 //! Laws of records and journals that no single call can promise. Each is the contract of a function that
 //! does nothing.
-ghost use Rattle.std.specs.Prelude.{◌≡◌, ◌≢◌, ℕ, ◌+◌, ◌<◌, ◌≤◌, List, [], ◌∷◌, ◌++◌, length, map};
+ghost use Rattle.std.specs.Prelude.{◌≡◌, ◌≢◌, ℕ, ◌+◌, ◌<◌, ◌≤◌, List, [], ◌∷◌, ◌++◌, length, map, true, Some};
+ghost use Rattle.std.specs.List.{slice_get};
 ghost use Rattle.c8_game.specs.Rules.{Rules, AreInRange};
-ghost use Rattle.c8_known.specs.Journal.{Record, epoch};
+ghost use Rattle.c8_wire.specs.Format.{has_lives};
+ghost use Rattle.c8_known.specs.Journal.{Record, Met, epoch, life_of, met_of};
 ghost use Rattle.c8_known.specs.Known.{known_of, with_record, IsKnown};
 ghost use Rattle.c8_known.specs.Confirmed.{confirmed, confirmed_rows};
 ghost use Rattle.c8_known.specs.Growth.{Begins, IsStillKnown};
@@ -10,26 +12,32 @@ ghost use Rattle.c8_record.specs.Checks.{with_check, checks_of, begun_at};
 ghost use Rattle.c8_digest.specs.Origin.{IsOrigin};
 ghost use Rattle.c8_record.specs.Body.{body_of, record_of, records_of, HasSpelling, Spells};
 ghost use Rattle.c8_record.specs.declared.error.ReplayError.{ReplayError};
-ghost use Rattle.c8_record.specs.Allowed.{IsAllowed, IsJournal, IsOrderly, AreInOrder};
+ghost use Rattle.c8_record.specs.Allowed.{IsAllowed, IsJournal, IsOrderly, AreInOrder, AreLives, HasOwnAlone, form_of};
 ghost use Rattle.c8_record.specs.Replay.{AreJournalBodies, IsRefusal};
 
-/// A record that can be spelled has one spelling, of 143 bytes, which reads back as that record only.
+/// A record that can be spelled in a width has one spelling in it, of 143 bytes, which reads back as that
+/// record only.
 pub fn a_spelling_reads_back()
-    ensures length { (r : Record) → HasSpelling r → length (body_of r) ≡ 143 }
-    ensures back { (r : Record) → HasSpelling r → record_of (body_of r) ≡ r }
-    ensures only { (body : List ℕ) (r : Record) → Spells body r → r ≡ record_of body }
+    ensures length { (width : ℕ) (r : Record) → HasSpelling width r
+        → length (body_of width r) ≡ 143 }
+    ensures back { (width : ℕ) (r : Record) → HasSpelling width r
+        → record_of width (body_of width r) ≡ r }
+    ensures only { (width : ℕ) (body : List ℕ) (r : Record) → Spells width body r
+        → r ≡ record_of width body }
 {}
 
 /// The bodies of a journal are the spellings of its records, and the spellings of a journal's records
 /// are its bodies.
 pub fn bodies_are_the_spellings()
     ensures bodies { (rules : Rules) (me room : ℕ) (bodies : List (List ℕ))
-        → AreJournalBodies rules me room bodies → map body_of (records_of bodies) ≡ bodies }
+        → AreJournalBodies rules me room bodies
+        → map (body_of rules.width) (records_of rules.width bodies) ≡ bodies }
     ensures records { (rules : Rules) (me room : ℕ) (journal : List Record)
-        → IsJournal rules me room journal → records_of (map body_of journal) ≡ journal }
+        → IsJournal rules me room journal
+        → records_of rules.width (map (body_of rules.width) journal) ≡ journal }
     ensures spell { (rules : Rules) (me room : ℕ) (journal : List Record)
         → IsJournal rules me room journal
-        → AreJournalBodies rules me room (map body_of journal) }
+        → AreJournalBodies rules me room (map (body_of rules.width) journal) }
 {}
 
 /// A journal with one more allowed record is a journal. A prefix of a journal is a journal.
@@ -76,6 +84,29 @@ pub fn a_refusal_has_one_reason()
     ensures { (rules : Rules) (me room : ℕ) (bodies : List (List ℕ)) (one other : ReplayError)
         → IsRefusal rules me room bodies one → IsRefusal rules me room bodies other
         → one ≡ other }
+{}
+
+/// A MET is once, and what it records stays. What else the rules ensure for lives, and for a journal of version 3 that does not name
+/// its match yet.
+pub fn lives_are_recorded_once()
+    ensures once { (rules : Rules) (me room : ℕ) (journal : List Record) (m n q life other : ℕ)
+        → IsJournal rules me room journal → slice_get journal m ≡ Some (Met q life)
+        → slice_get journal n ≡ Some (Met q other) → m ≡ n }
+    ensures said { (rules : Rules) (me room : ℕ) (journal : List Record) (n q life : ℕ)
+        → IsJournal rules me room journal → slice_get journal n ≡ Some (Met q life)
+        → met_of q journal ≡ life }
+    ensures life_stays { (journal rest : List Record) → life_of journal ≢ 0
+        → life_of (journal ++ rest) ≡ life_of journal }
+    ensures met_stays { (q : ℕ) (journal rest : List Record) → met_of q journal ≢ 0
+        → met_of q (journal ++ rest) ≡ met_of q journal }
+    ensures lives { (rules : Rules) (me room : ℕ) (journal : List Record)
+        → IsJournal rules me room journal → AreLives rules me journal }
+    ensures alone { (rules : Rules) (me room : ℕ) (journal : List Record)
+        → IsJournal rules me room journal → has_lives rules.wire ≡ true → me ≢ 1
+        → met_of 1 journal ≡ 0 → HasOwnAlone rules me journal }
+    ensures form { (rules : Rules) (me room : ℕ) (journal : List Record)
+        → IsJournal rules me room journal → has_lives rules.wire ≡ true → journal ≢ []
+        → (checks_of journal).form ≡ form_of rules }
 {}
 
 /// Who can be dropped in whose journal. A player that is cut has been dropped.

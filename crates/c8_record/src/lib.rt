@@ -1,7 +1,10 @@
 //! The records of a journal: the spelling of each in the 143 bytes of a slot's body, the rules of their
 //! order, what a peer knows after it reads its journal, and checkpoints.
 //!
-//! `view` reads a record from a body in place, and `body_of` writes one. `make_known` adds a record to
+//! Versions 1 and 2 write form 2, version 3 the form 2 + N, N the width of its inputs: its journals have a life, and name the life of
+//! player 1, or in player 1's journal those of the others.
+//!
+//! `view` reads a record from a body in place, and `body_of` writes one, both in the width of the game's inputs. `make_known` adds a record to
 //! what is known. `replay` reads a whole journal from a log, `replay_bytes` from the bytes of a disk.
 //! docs/FORMATS.md specifies the bytes and the rules.
 //!
@@ -25,9 +28,11 @@ mod replaying;
 mod spelled;
 mod writing;
 
+pub use allowed::form_of;
 pub use checks::{Checks, PIECES};
 pub use error::ReplayError;
 pub use knowing::make_known;
+pub use progress::Numbers;
 pub use reading::view;
 pub use record::Record;
 pub use replaying::{replay, replay_bytes};

@@ -32,6 +32,7 @@ tick_number_of ticks.End = 2
 tick_number_of ticks.Dropped = 3
 tick_number_of (ticks.Disk why) = 4
 tick_number_of ticks.Down = 5
+tick_number_of ticks.Wide = 6
 
 abbrev pub refused_number_of : Refused → ℕ
 refused_number_of (refusals.Wire error) = wires.number_of error

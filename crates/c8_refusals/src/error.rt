@@ -73,6 +73,9 @@ pub enum TickError {
     /// This peer's player was dropped, and its journal says so.
     #[error("this player has been dropped")]
     Dropped,
+    /// The input has more bytes than the inputs of the game. Nothing has changed.
+    #[error("an input of more bytes than the game's")]
+    Wide,
     /// The disk refused the record. The peer is down: its readers answer as before the call, and the next opening that
     /// reads the journal decides whether the input stands.
     #[error("the disk refused a call")]
@@ -93,6 +96,7 @@ impl TickError {
             TickError::Dropped => 3,
             TickError::Disk(_) => 4,
             TickError::Down => 5,
+            TickError::Wide => 6,
         }
     }
 
@@ -104,20 +108,22 @@ impl TickError {
             TickError::Dropped => "Dropped",
             TickError::Disk(_) => "Disk",
             TickError::Down => "Down",
+            TickError::Wide => "Wide",
         }
     }
 }
 
-/// Why a datagram was refused. Only `Desync` and `Disk` change anything.
+/// Why a datagram was refused. Only `Desync`, `Disk` and `Hand(Restarted)` change anything.
 #[derive(Clone, Copy, Debug, PartialEq, Eq, Error)]
 pub enum Refused {
     /// The bytes are not a datagram.
     #[error("{0}")]
     Wire(WireError),
-    /// The datagram is in another version of the format than the game's.
-    #[error("not in the version of datagrams that the game names")]
+    /// The datagram is in another version of the format than the game's, or has inputs of another width.
+    #[error("not in the version and width of datagrams that the game names")]
     OtherWire,
-    /// The datagram is not for this peer, this match or these epochs.
+    /// The datagram is not for this peer, this match or these epochs, or in version 3 not from or for these lives. After
+    /// `Restarted` the peer knows the other life of the sender.
     #[error("{0}")]
     Hand(HandError),
     /// The peer cannot hold the inputs, or a list cannot end where the datagram says.
@@ -126,13 +132,14 @@ pub enum Refused {
     /// The datagram acknowledges more inputs than this player has entered.
     #[error("more inputs are acknowledged than there are")]
     BadAck,
-    /// Only player 1 sends it (FREEZE, CUT) or receives it (FROZEN).
+    /// Only player 1 sends it (FREEZE, CUT, PASS) or receives it (FROZEN).
     #[error("only player one says or hears this")]
     NotChair,
     /// The journal has no LEAVE of the player (player 1), or no FREEZE of it (any other player).
     #[error("the player has not been dropped here")]
     NotFrozen,
-    /// The player that the datagram names cannot be dropped by it.
+    /// The player that the datagram names cannot be dropped by it; or it is this player or none of the game, and a PASS has its
+    /// inputs.
     #[error("this player does not leave so")]
     WrongLeaver,
     /// The sender's machine differs from this peer's after the same number of frames. The alarm stands until the next
@@ -203,14 +210,15 @@ pub enum Unsayable {
     /// The addressee is this peer, or not in the game.
     #[error("the addressee is no other player of the game")]
     NotAPlayer,
-    /// Only player 1 says FREEZE and CUT, and FREEZE not to the leaver; only the others say FROZEN, and only to player
-    /// 1.
+    /// Only player 1 says FREEZE, CUT and PASS, FREEZE not to the leaver, and PASS of a third player; only the others say
+    /// FROZEN, and only to player 1; REFUSED is between player 1 and another. Versions 1 and 2 have no PASS and no REFUSED.
     #[error("this is not this player's to say to that one")]
     NotMine,
-    /// The journal lacks the LEAVE, FREEZE or CUT that the datagram would report.
+    /// The journal lacks the LEAVE, FREEZE or CUT that the datagram would report. The player of a PASS is not in the game or was
+    /// dropped. For a REFUSED, no other life of the addressee was refused, or this peer has no match.
     #[error("the journal says nothing of the kind")]
     NoRecord,
-    /// A WELCOME needs the addressee's epoch; all kinds but HELLO and WELCOME need an open link.
+    /// A WELCOME needs the addressee's epoch; all kinds but HELLO, WELCOME and REFUSED need an open link.
     #[error("no link to the addressee")]
     NoLink,
 }

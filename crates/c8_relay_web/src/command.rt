@@ -4,12 +4,11 @@ ghost use Rattle.std.specs.Prelude.{◌≡◌, ◌<◌, ◌^◌, []};
 use crate::folder::pages_in;
 use crate::hub::Hub;
 use crate::page::Pages;
-use crate::progress::Progress;
 use crate::serving::serve;
 use crate::site::Site;
 use c8_command::{Argument, Form, Outline, Part, Refusal, Status, word_of};
 use c8_relay::{KEY_LENGTH, Limits, Relay, honest_at_first};
-use c8_udp::{SocketError, SocketFault};
+use c8_udp::{Progress, SocketError, SocketFault};
 use clap::ArgMatches;
 use clap::builder::ValueParser;
 use mio::{Events, Poll};
@@ -33,9 +32,9 @@ const MOST_ROOMS: u64 = 1 << 20;
 const SEATS_OF_HOST: u32 = 64;
 
 const ENDING: &str = "\
-It prints a line when it listens, and ends by control-C or SIGTERM. It takes no memory after that line. Browsers reach
-it by WebSocket at /relay, or at /relay/N for any number N. A proxy on the same machine names its client's host in the
-field X-Real-IP.
+It prints a line when it listens, then `rooms N seats N` where these have changed, once in ten seconds at most, and ends by
+control-C or SIGTERM. It takes no memory after its first line. Browsers reach it by WebSocket at /relay, or at /relay/N
+for any number N. A proxy on the same machine names its client's host in the field X-Real-IP.
 
 Of FOLDER it serves the files .html .mjs .js .wasm .css .svg .png .json .game .keys .txt, and those of the folders in
 it, as they were at the start; / is index.html. It skips links, and names that begin with a dot.
@@ -146,7 +145,7 @@ fn progress_of(given: &ArgMatches<'_>) -> Progress {
     } else if given.get_flag("progress") {
         Progress::Words
     } else {
-        Progress::Nothing
+        Progress::Changes
     }
 }
 

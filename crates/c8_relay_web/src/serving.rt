@@ -4,9 +4,8 @@ ghost use Rattle.c8_relay.specs.Honest.{IsHonest};
 
 use crate::hub::Hub;
 use crate::numbers::MOST_CONNECTIONS;
-use crate::progress::Progress;
 use c8_relay::{Relay, leave};
-use c8_udp::{Counts, batch};
+use c8_udp::{Counts, Lines, Load, Progress, batch};
 use mio::{Events, Poll, Registry};
 use std::io;
 use std::io::Write;
@@ -29,8 +28,7 @@ fn dismiss(relay: &mut Relay, hub: &mut Hub)
     }
 }
 
-/// Relays until the system fails. Where progress is wanted it writes a line each second, until the writer fails. It takes no
-/// memory.
+/// Relays until the system fails, and writes the lines of `progress`, until the writer fails. It takes no memory.
 pub fn serve<R, W>(
     rt: &R,
     relay: &mut Relay,
@@ -48,7 +46,7 @@ where
 {
     let mut counts = Counts::default();
     let mut seconds = Seconds {
-        progress,
+        lines: Lines::new(progress),
         last: micros(rt)?,
     };
     for _ in rt.forever() {
@@ -67,15 +65,14 @@ where
 /// What happens once a second.
 #[derive(Drop)]
 struct Seconds {
-    /// Which line is written.
-    progress: Progress,
+    lines: Lines,
     /// When the last second passed, in microseconds.
     last: u64,
 }
 
 impl Seconds {
-    /// If a second has passed, closes connections that took too long, and writes a line of progress where it is wanted.
-    /// Returns how many microseconds are left of the next.
+    /// If a second has passed, closes connections that took too long, and writes its line if there is one. Returns how many
+    /// microseconds are left of the next.
     fn pass<W: Write>(
         &mut self,
         now: u64,
@@ -93,9 +90,13 @@ impl Seconds {
         }
         self.last = now;
         hub.sweep(registry);
-        if self.progress.tell(relay, hub, counts, out).is_err() {
-            self.progress = Progress::Nothing;
-        }
+        let load = Load {
+            relay,
+            counts,
+            connections: hub.connections() as u64,
+            lost: hub.lost(),
+        };
+        self.lines.tell(&load, out);
         SECOND
     }
 }

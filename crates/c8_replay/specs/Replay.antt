@@ -1,5 +1,5 @@
 -- What `replay` answers to the text of a game and the bytes of a journal.
-use Rattle.std.specs.Prelude.{◌≡◌, ◌⊎◌, ◌<◌, ◌≤◌, ℕ, List, length, Option, Some, None, Result, Ok, Err, Bool, true, false}
+use Rattle.std.specs.Prelude.{◌≡◌, ◌⊎◌, ◌<◌, ◌≤◌, ℕ, List, length, Option, Some, None, Result, Ok, Err, Bool}
 use Rattle.std.specs.Io.KnownBytes.{Appends}
 use Rattle.c8_command.specs.declared.status.Status.{Status}
 use Rattle.c8_command.specs.declared.status.Status.TheVariants.{Done, Refused}
@@ -9,7 +9,6 @@ use Rattle.c8_game.specs.Rules.{Rules}
 use Rattle.c8_game.specs.declared.error.GameError.{GameError}
 use Rattle.c8_game.specs.declared.error.GameError.TheVariants as games
 use Rattle.c8_game.specs.declared.row.Row.{Row}
-use Rattle.c8_texts.specs.Report.{Reports}
 use Rattle.c8_texts.specs.declared.lines.Played.{Played}
 use Rattle.c8_known.specs.Confirmed.{confirmed, rows_below}
 use Rattle.c8_known.specs.Known.{KnownValue}
@@ -17,8 +16,8 @@ use Rattle.c8_log.specs.Slots.{kept}
 use Rattle.c8_machine.specs.Serial.{serial}
 use Rattle.c8_machine.specs.State.{state}
 use Rattle.c8_audit.specs.Journal.{IsJournalOf, IsRefusalOfJournal}
-use Rattle.c8_judge.specs.Lines.{data_line, TellsRefusal}
-use Rattle.c8_judge.specs.PrintedReport.{played_data}
+use Rattle.c8_command.specs.Json.{TellsRefusal}
+use Rattle.c8_texts.specs.Told.{TellsPlayed}
 use Rattle.c8_replay.specs.KeyText.{keys_text, SpellRows}
 use Rattle.c8_replay.specs.declared.arguments.Form.{Form}
 use Rattle.c8_replay.specs.declared.arguments.Form.TheVariants as forms
@@ -47,7 +46,7 @@ pub record IsRunOfRows (rules : Rules) (rows : List Row) (played : Played) : Typ
 -- machine too; its text is not specified.
 abbrev pub IsShown : Rules → Form → List Row → Shown → Type 0
 IsShown rules form rows (Report played) = (form ≡ forms.Report) × IsRunOfRows rules rows played
-IsShown rules form rows (Keys text) = (form ≡ forms.Keys) × (text.items ≡ keys_text rules.players rows) × SpellRows rules text.items rows
+IsShown rules form rows (Keys text) = (form ≡ forms.Keys) × (text.items ≡ keys_text rules.width rules.players rows) × SpellRows rules text.items rows
 IsShown rules form rows (Page played page) = (form ≡ forms.Page) × IsRunOfRows rules rows played
 
 -- The image keeps a journal, and this is what is shown of its first confirmed rows.
@@ -73,11 +72,6 @@ abbrev pub IsOutcome : List ℕ → List ℕ → Wish → Result Shown ReplayFau
 IsOutcome game image wish outcome =
     ((rules : Rules) × Spells game rules × IsOutcomeOfRead (Ok rules) image wish outcome)
     ⊎ ((error : GameError) × ((error ≡ games.Memory) ⊎ IsRefused game error) × (outcome ≡ Err (Game error)))
-
--- the report is added as lines, or as one object of JSON
-abbrev pub TellsPlayed : Bool → Option (List ℕ) → Option (List ℕ) → Played → Type 0
-TellsPlayed false old new played = Reports old new played
-TellsPlayed true old new played = Appends old new (data_line (played_data played))
 
 -- the command is done, and has written the key lines or the report
 abbrev pub IsPrinted : Bool → Shown → Option (List ℕ) → Option (List ℕ) → Status → Type 0

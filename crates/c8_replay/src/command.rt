@@ -1,27 +1,32 @@
 //! `c8play replay`: shows the match that a journal confirms.
 
-ghost use Rattle.std.specs.Prelude.{◌≡◌, ◌≢◌, IfOk, OnOk};
+ghost use Rattle.std.specs.Prelude.{◌≡◌, ◌≢◌, IfOk};
+ghost use Rattle.c8_command.specs.Json.{TellsRefusal};
 ghost use Rattle.c8_command.specs.declared.status.Status.TheVariants as statuses;
-ghost use Rattle.c8_judge.specs.Lines.{TellsRefusal};
-ghost use Rattle.c8_replay.specs.Replay.{EndsReplay, EndsReplayOf, HasReplayed, IsPrinted, TellsPlayed};
+ghost use Rattle.c8_replay.specs.Replay.{EndsReplay, EndsReplayOf, HasReplayed, IsPrinted};
+ghost use Rattle.c8_texts.specs.Told.{TellsPlayed};
 
 use crate::arguments::{Asked, asked_of};
 use crate::error::ReplayFault;
+use crate::page::end_of_page;
 use crate::screening::screen_journal;
 use crate::showing::{Shown, show_journal};
 use c8_audit::{JournalError, read_image};
-use c8_command::{Refusal, Site, Status, System, Text, TextsError, both, is_same_file, read_file};
+use c8_command::json::tell_refusal;
+use c8_command::{
+    Refusal, Site, Status, System, Text, TextsError, both, is_same_file, last_part, read_file,
+};
 use c8_files::{NO_TEXT, ProgramError, is_binary, is_program, text_of};
 use c8_game::GameError;
-use c8_judge::{tell_refusal, write_played};
+use c8_judge::summary_of;
 use c8_play::Terminal;
-use c8_texts::{Played, game_site, write_report};
+use c8_texts::{Played, game_site, write_played};
 use clap::ArgMatches;
 use std::alloc::Global;
 use std::fs::File;
+use std::io;
 use std::io::Write;
 use std::rt::Files;
-use std::{fs, io};
 
 /// Reads the files of the command line, and shows the journal: on the terminal with `--screen`, on a page with
 /// `--page`, and on `out` as [`replay`] does. If a file cannot be read, the refusal is the disk's, whatever the other
@@ -72,7 +77,7 @@ where
         Err(fault) => return refuse(rt.alloc(), asked, game, fault, out, refused),
     };
     if let Shown::Page(_, page) = &shown
-        && let Some(why) = write_page(rt, asked, path, page)
+        && let Some(why) = write_page(rt, asked, path, page, room_of(image))
     {
         tell_refusal(rt.alloc(), Refusal::DISK, asked.wish.json, out)?;
         let site = asked.explain.then_some(Site::File(path));
@@ -107,8 +112,22 @@ where
     }
 }
 
-/// Writes a page to its file; otherwise says why not. It never overwrites the game or the journal, by whatever name.
-fn write_page<R>(rt: &R, asked: &Asked<'_>, path: &str, page: &[u8]) -> Option<&'static str>
+/// The match id that a journal names, if it names one.
+fn room_of(image: &[u8]) -> Option<u64> {
+    match summary_of(image) {
+        Ok(summary) => Some(summary.room),
+        Err(_) => None,
+    }
+}
+
+/// Writes a page and its end to a file; otherwise says why not. It never overwrites the game or the journal, by whatever name.
+fn write_page<R>(
+    rt: &R,
+    asked: &Asked<'_>,
+    path: &str,
+    page: &[u8],
+    room: Option<u64>,
+) -> Option<&'static str>
 where
     R: Files<File = File> + AllocGlobal,
 {
@@ -118,10 +137,21 @@ where
     if is_same_file(rt, path, asked.journal) {
         return Some("the journal itself, which a page does not replace");
     }
-    match fs::write(rt, path, page) {
+    match write_whole(rt, path, page, last_part(asked.game), room) {
         Ok(()) => None,
         Err(_) => Some("a file that cannot be written"),
     }
+}
+
+/// Writes a page and its end to a file.
+fn write_whole<R>(rt: &R, path: &str, page: &[u8], game: &str, room: Option<u64>) -> io::Result<()>
+where
+    R: Files<File = File> + AllocGlobal,
+{
+    let end = end_of_page(rt.alloc(), game, room)?;
+    let mut file = File::create(rt, path)?;
+    file.write_all(page)?;
+    file.write_all(end.as_bytes())
 }
 
 /// Writes why the two files were not read.
@@ -261,18 +291,8 @@ fn print_played<W: Write>(
     ensures { IfOk result (λ status. (status ≡ statuses.Done)
         × TellsPlayed json (W.contents out.old) (W.contents out.new) played.now) }
 {
-    write_as(alloc, played, json, out)?;
+    write_played(alloc, played, json, out)?;
     Ok(Status::Done)
-}
-
-/// Writes the report of the machine, as lines or as JSON.
-fn write_as<W: Write>(alloc: Global, played: &Played, json: bool, out: &mut W) -> io::Result<()>
-    ensures { OnOk result (TellsPlayed json (W.contents out.old) (W.contents out.new) played.now) }
-{
-    match json {
-        true => write_played(alloc, played, out),
-        false => write_report(out, played),
-    }
 }
 
 /// Returns where a fault is.

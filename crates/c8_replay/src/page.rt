@@ -5,13 +5,13 @@ ghost use Rattle.c8_known.specs.Confirmed.{confirmed, rows_below};
 ghost use Rattle.c8_known.specs.Known.{IsOfGame};
 ghost use Rattle.c8_replay.specs.Replay.{IsRunOfRows};
 
-use crate::key_text::digits_of;
+use crate::key_text::add_input;
 use crate::page_text::{
-    AFTER_PICTURES, BEFORE_DROPS, BEFORE_KEYS, BEFORE_PICTURES, BEFORE_PLAYERS,
+    AFTER_ABOUT, BEFORE_ABOUT, BEFORE_DROPS, BEFORE_KEYS, BEFORE_PICTURES, BEFORE_PLAYERS,
 };
-use c8_game::{Game, Keys, Player};
+use c8_game::{Game, Input, Player, Width};
 use c8_known::Known;
-use c8_machine::Machine;
+use c8_machine::{Keys, Machine};
 use c8_screen::{HEIGHT, Screen};
 use c8_texts::Played;
 use std::alloc::{AllocError, Global};
@@ -20,9 +20,9 @@ use std::io::Write;
 /// How many bytes a row of the screen has.
 const ROW_BYTES: u8 = 8;
 
-/// Makes a page that shows the first confirmed rows: the entered key sets, the frames from which players are dropped,
-/// and how each frame changes the screen. Returns the machine after the rows, and the page. The error is that memory
-/// ran out.
+/// Makes a page that shows the first confirmed rows: the entered inputs, the frames from which players are dropped,
+/// how each frame changes the screen, and how many frames the game has. What it lacks is [`end_of_page`]. Returns the
+/// machine after the rows, and the page. The error is that memory ran out.
 pub(crate) fn add_page(
     alloc: Global,
     game: &Game,
@@ -41,8 +41,28 @@ pub(crate) fn add_page(
     add_keys(&mut page, game, known, frames)?;
     page.extend_from_slice(BEFORE_PICTURES.as_bytes())?;
     let played = add_pictures(&mut page, game, known, frames)?;
-    page.extend_from_slice(AFTER_PICTURES.as_bytes())?;
+    page.extend_from_slice(BEFORE_ABOUT.as_bytes())?;
+    writeln!(page, "{}", game.frames()).map_err(|_| AllocError)?;
     Ok((played, page))
+}
+
+/// Makes the end of a page: the name of the game's file and the match id, if they are known, and what follows.
+pub(crate) fn end_of_page(
+    alloc: Global,
+    game: &str,
+    room: Option<u64>,
+) -> Result<String, AllocError> {
+    let mut end = String::new(alloc);
+    for part in game.chars() {
+        // In the page this character could end the text.
+        end.push(if part == '<' { '_' } else { part })?;
+    }
+    match room {
+        Some(room) => end.push_str(&format!(in alloc; "\n{room}\n")?)?,
+        None => end.push_str("\n")?,
+    }
+    end.push_str(AFTER_ABOUT)?;
+    Ok(end)
 }
 
 /// Adds a line for each player who was dropped: the player, and the first frame without its keys. If the journal's own
@@ -64,22 +84,22 @@ fn add_drops(page: &mut Vec<u8>, known: &Known) -> Result<(), AllocError> {
     Ok(())
 }
 
-/// Adds the key sets of the first confirmed rows.
+/// Adds the inputs of the first confirmed rows.
 fn add_keys(page: &mut Vec<u8>, game: &Game, known: &Known, frames: u32) -> Result<(), AllocError>
     requires { frames ≤ confirmed known.now }
 {
     let players = usize::from(game.players());
     for frame in 0..frames {
         let row = known.row(frame);
-        add_sets(page, &row.sets[..players])?;
+        add_inputs(page, &row.inputs[..players], game.width())?;
     }
     Ok(())
 }
 
-/// Adds four digits for each set.
-fn add_sets(page: &mut Vec<u8>, sets: &[Keys]) -> Result<(), AllocError> {
-    for set in sets {
-        page.extend_from_slice(&digits_of(*set))?;
+/// Adds the digits of each input.
+fn add_inputs(page: &mut Vec<u8>, inputs: &[Input], width: Width) -> Result<(), AllocError> {
+    for input in inputs {
+        add_input(page, *input, width)?;
     }
     Ok(())
 }
@@ -97,7 +117,7 @@ fn add_pictures(
     let mut machine = Machine::start(game);
     for frame in 0..frames {
         let before = *machine.screen();
-        machine.frame(game, game.joined(&known.row(frame)));
+        machine.frame(game, Keys::from(game.joined(&known.row(frame))));
         add_changes(page, &before, machine.screen())?;
     }
     Ok(Played { frames, machine })
@@ -120,7 +140,7 @@ fn add_row(page: &mut Vec<u8>, y: u8, changed: u64) -> Result<(), AllocError>
         let bits = bytes[usize::from(x)];
         if bits != 0 {
             let change = u16::from_be_bytes([ROW_BYTES * y + x, bits]);
-            page.extend_from_slice(&digits_of(Keys(change)))?;
+            add_input(page, Input(u64::from(change)), Width::DEFAULT)?;
         }
     }
     Ok(())

@@ -74,7 +74,8 @@ button { background: var(--main); border-color: var(--main); color: var(--on-mai
 </head>
 <body>
 <main>
-<h1>A match, as it was played</h1>
+<h1 id="match">A match, as it was played</h1>
+<p id="result"></p>
 <canvas id="screen" width="64" height="32" role="img" aria-label="The picture of the game"></canvas>
 <input id="seek" type="range" min="0" value="0" aria-label="Frame">
 <div id="marks"></div>
@@ -95,17 +96,21 @@ button { background: var(--main); border-color: var(--main); color: var(--on-mai
 pub(crate) const BEFORE_DROPS: &str = r##"</script>
 <script type="text/plain" id="drops">"##;
 
-/// Between the drops and the key sets, which have four digits for each player of each frame.
+/// Between the drops and the inputs: one for each player of each frame, all with the same number of digits.
 pub(crate) const BEFORE_KEYS: &str = r##"</script>
 <script type="text/plain" id="keys">"##;
 
-/// Between the key sets and the changes of the pictures. A comma ends the changes of a frame. A change is four digits:
+/// Between the inputs and the changes of the pictures. A comma ends the changes of a frame. A change is four digits:
 /// two for the place of a byte of the screen, and two for its bits that change.
 pub(crate) const BEFORE_PICTURES: &str = r##"</script>
 <script type="text/plain" id="pictures">"##;
 
-/// From the changes of the pictures to the end.
-pub(crate) const AFTER_PICTURES: &str = r##"</script>
+/// Between the pictures and three lines: how many frames the game has, the name of its file, and the match id if it is known.
+pub(crate) const BEFORE_ABOUT: &str = r##"</script>
+<script type="text/plain" id="about">"##;
+
+/// From those lines to the end.
+pub(crate) const AFTER_ABOUT: &str = r##"</script>
 <script>
 "use strict";
 const COLUMNS = 64, ROWS = 32;
@@ -159,6 +164,7 @@ const drops = textOf('drops').split('\n').filter(line => line).map(line => line.
 const picture = new Picture(part('screen'));
 followColors(it => picture.become(it));
 const numbers = Array.from({ length: players }, (_, place) => place + 1);
+const width = frames ? keys.length / (players * frames) : 0;
 let shown = 0, isPlaying = false, last = 0, owed = 0;
 function change(screen, frame) {
   const changes = pictures[frame];
@@ -166,13 +172,22 @@ function change(screen, frame) {
   for (let at = 0; at < changes.length; at += DIGITS) screen[byte(at)] ^= byte(at + 2);
 }
 function heldBy(player) {
-  const at = DIGITS * (players * (shown - 1) + player - 1);
-  return shown ? parseInt(keys.slice(at, at + DIGITS), 16) : 0;
+  const end = width * (players * (shown - 1) + player);
+  return shown ? parseInt(keys.slice(end - Math.min(width, DIGITS), end), 16) : 0;
 }
 function showKeys(player) {
   const held = heldBy(player), drop = drops.find(([who]) => who === player);
   for (const key of part(`pad${player}`).children) key.className = held >> parseInt(key.textContent ?? '', 16) & 1 ? 'held' : '';
   part(`name${player}`).className = drop && drop[1] <= shown ? 'dropped' : '';
+}
+function nameMatch() {
+  const [whole, game, room] = textOf('about').split('\n');
+  const match = room ? `${game}, match ${room}` : game;
+  const played = String(frames) === whole ? `all ${frames} frames` : `${frames} of ${whole} frames`;
+  const result = [`${players} players`, played, ...drops.map(([who, at]) => `player ${who} dropped at frame ${at}`)].join(', ');
+  document.title = `${match}: ${result}`;
+  part('match').textContent = match;
+  part('result').textContent = result;
 }
 function show(frame) {
   const wanted = Math.max(0, Math.min(frames, frame)), screen = picture.screen.slice();
@@ -229,6 +244,7 @@ addEventListener('keydown', event => {
   act();
   event.preventDefault();
 });
+nameMatch();
 numbers.forEach(addPad);
 drops.forEach(addMark);
 (part('seek')).max = String(frames);

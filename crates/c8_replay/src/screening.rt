@@ -12,6 +12,7 @@ use crate::strokes::Ask;
 use c8_audit::known_in;
 use c8_game::Game;
 use c8_known::Known;
+use c8_machine::Keys;
 use c8_play::Console;
 use c8_texts::Played;
 use std::alloc::Global;
@@ -92,7 +93,7 @@ fn moved(game: &Game, known: &Known, from: Played, frames: u32) -> Played
     }
     let mut machine = from.machine;
     for frame in from.frames..frames {
-        machine.frame(game, game.joined(&known.row(frame)));
+        machine.frame(game, Keys::from(game.joined(&known.row(frame))));
     }
     Played { frames, machine }
 }

@@ -13,6 +13,10 @@ use std::time::Duration;
 /// The longest rest in milliseconds, so that keys are read soon at any rate.
 const LONGEST_REST: u64 = 15;
 
+/// How many pictures are drawn between two whole ones. A terminal does not say that its size has changed, and it may have lost
+/// a part of the picture then.
+const PART: u8 = 60;
+
 /// An escape without a next byte for this many milliseconds is the key itself.
 const SILENCE: u64 = 25;
 
@@ -28,6 +32,8 @@ pub(crate) struct Seat<C> {
     /// The text of the row under the picture, and the frame that it shows, if it was written.
     row: Vec<u8>,
     told: Option<u32>,
+    /// How many pictures were drawn since the last whole one.
+    since_whole: u8,
     has_left: bool,
 }
 
@@ -47,6 +53,7 @@ impl<C: Console> Seat<C> {
             last: now,
             row: Vec::new(alloc),
             told: None,
+            since_whole: 0,
             has_left,
         }
     }
@@ -58,11 +65,23 @@ impl<C: Console> Seat<C> {
 
     /// Paints a screen, and under it the row `at/frames`.
     pub(crate) fn show(&mut self, screen: &Screen, at: u32, frames: u32) {
+        self.renew();
         self.painter.paint(screen);
         let is_drawn = is_written(&mut self.console, self.painter.bytes());
         if !is_drawn || !self.is_told(at, frames) {
             self.has_left = true;
         }
+    }
+
+    /// Forgets now and then what the screen shows.
+    fn renew(&mut self) {
+        if self.since_whole < PART {
+            self.since_whole += 1;
+            return;
+        }
+        self.since_whole = 0;
+        self.told = None;
+        self.painter.forget();
     }
 
     /// Writes the row under the picture, unless it shows this frame already. Returns whether that succeeded.

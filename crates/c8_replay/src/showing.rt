@@ -14,7 +14,7 @@ use crate::page::add_page;
 use c8_audit::{JournalError, known_in};
 use c8_game::{Game, GameError};
 use c8_known::Known;
-use c8_machine::Machine;
+use c8_machine::{Keys, Machine};
 use c8_texts::Played;
 use std::alloc::Global;
 
@@ -109,7 +109,7 @@ pub(crate) fn run_rows(game: &Game, known: &Known, frames: u32) -> Played
 {
     let mut machine = Machine::start(game);
     for frame in 0..frames {
-        machine.frame(game, game.joined(&known.row(frame)));
+        machine.frame(game, Keys::from(game.joined(&known.row(frame))));
     }
     Played { frames, machine }
 }

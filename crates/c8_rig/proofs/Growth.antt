@@ -6,7 +6,7 @@ use Rattle.std.proofs.Math.Seq.{take-append_seam}
 use Rattle.std.proofs.lemmas.Option.{slice_get-get_or}
 use Rattle.std.proofs.lemmas.Bool.{cases_eq, eq-eqb, ne_eqb}
 use Rattle.std.proofs.lemmas.List.Elements.{All-append}
-use Rattle.c8_world.specs.World.{Act, Open, Tick, Say, Give, Leave, Decide, player_of, Check, Show, Hear, Seen, Fresh}
+use Rattle.c8_world.specs.World.{Act, Open, Tick, Say, Give, Leave, Decide, player_of, Check, Show, Hear, Seen, Fresh, Wipe}
 use Rattle.c8_rig.specs.Log.{NoteValue, said_in, said_by, WasSaid, MayFollow, IsLawful, part_of}
 use Rattle.c8_rig.proofs.Logs.{said_with}
 
@@ -45,7 +45,7 @@ one most bytes few (suc k) d within = absurd (omega (arith, within))
 
 short_said : (most : ℕ) (act : Act) (bytes : List ℕ) → length bytes ≤ most → All (λ these. length these ≤ most) (said_in act bytes)
 short_said most (Open p) bytes few = λ k d none. absurd (omega (arith, none))
-short_said most (Tick p keys) bytes few = λ k d none. absurd (omega (arith, none))
+short_said most (Tick p input) bytes few = λ k d none. absurd (omega (arith, none))
 short_said most (Say p to what) bytes few = one most bytes few
 short_said most (Give number p) bytes few = λ k d none. absurd (omega (arith, none))
 short_said most (Leave leaver) bytes few = λ k d none. absurd (omega (arith, none))
@@ -55,6 +55,7 @@ short_said most (Show watcher) bytes few = λ k d none. absurd (omega (arith, no
 short_said most (Hear number watcher) bytes few = λ k d none. absurd (omega (arith, none))
 short_said most (Seen watcher) bytes few = λ k d none. absurd (omega (arith, none))
 short_said most (Fresh watcher) bytes few = λ k d none. absurd (omega (arith, none))
+short_said most (Wipe owner) bytes few = λ k d none. absurd (omega (arith, none))
 
 -- what the book holds with one more note
 pub book_with : (players most : ℕ) (log log' : List NoteValue) (said said' : List (List ℕ)) (n : NoteValue) → log' ≡ log ++ n ∷ []
@@ -78,7 +79,7 @@ nothing (bytes ∷ said) none = absurd (omega (arith, none))
 
 no_saying : (act : Act) (bytes : List ℕ) (more : List (List ℕ)) → said_in act bytes ++ more ≡ [] → (said_in act bytes ≡ []) × (more ≡ [])
 no_saying (Open p) bytes more e = (refl, e)
-no_saying (Tick p keys) bytes more e = (refl, e)
+no_saying (Tick p input) bytes more e = (refl, e)
 no_saying (Say p to what) bytes more e = absurd cc
 no_saying (Give number p) bytes more e = (refl, e)
 no_saying (Leave leaver) bytes more e = (refl, e)
@@ -88,6 +89,7 @@ no_saying (Show watcher) bytes more e = (refl, e)
 no_saying (Hear number watcher) bytes more e = (refl, e)
 no_saying (Seen watcher) bytes more e = (refl, e)
 no_saying (Fresh watcher) bytes more e = (refl, e)
+no_saying (Wipe owner) bytes more e = (refl, e)
 
 -- if nothing was said, no player has said anything
 silent_part : (p : ℕ) (log : List NoteValue) → said_by log ≡ [] → said_by (part_of p log) ≡ []

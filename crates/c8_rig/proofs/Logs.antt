@@ -18,7 +18,7 @@ use Rattle.c8_peer.specs.Steps.{DiskOutcome, Works, Stepped, outcome, when_down,
 use Rattle.c8_peer.specs.Opening.{NoMemory, found, opened}
 use Rattle.c8_world.specs.World.{World, is_player, start, peer_of, Act, Open, Tick, Say, Give, Leave, Decide, player_of}
 use Rattle.c8_world.specs.World.{Event, Answer, Happening, said_by as said_in_reply, stepped, call_at_mode, call_at, open_at_mode, open_at}
-use Rattle.c8_world.specs.World.{give_to, acted, CanHappen, Chain, IsReached, Check, Show, Hear, Seen, Fresh}
+use Rattle.c8_world.specs.World.{give_to, acted, CanHappen, Chain, IsReached, Check, Show, Hear, Seen, Fresh, Wipe}
 use Rattle.c8_world.specs.Agreement.{IsPlayer}
 use Rattle.c8_world.specs.Headline.{IsHeadline}
 use Rattle.c8_live.specs.Turns.{SpellsAnswer}
@@ -218,7 +218,7 @@ opens : (rules : Rules) (room : ℕ) (w : World) (p : ℕ) (bytes : List ℕ) (t
     → IsOpenedAnew rules room p (peer_of w p) t → Turns rules room w (record { act = Open p; bytes = bytes }) t
 unfolding acted
 opens rules room w p bytes t size plays is =
-    let h : Happening = record { finds = is.finds; opening = is.opening; on_disk = Works; leaves = false } in
+    let h : Happening = record { finds = is.finds; drawn = 1; opening = is.opening; on_disk = Works; leaves = false } in
     let becomes = open_becomes rules room w p h size plays is.done.may.0 in
     record {
       world = (open_at rules room w p h).world;
@@ -229,7 +229,7 @@ opens rules room w p bytes t size plays is =
       there = becomes.there;
       new = [];
       said = becomes.said ∙ ap (λ (new : List Packet). w.said ++ new)
-          (opened_silent rules room p (peer_of w p) (found (peer_of w p) is.finds) is.opening);
+          (opened_silent rules room p 1 (peer_of w p) (found (peer_of w p) is.finds) is.opening);
       spelled = tt;
     }
 
@@ -239,10 +239,10 @@ turn : AreRead → (rules : Rules) (room : ℕ) (w : World) (act : Act) (bytes :
     → Turns rules room w (record { act = act; bytes = bytes }) t
 unfolding acted
 turn reads rules room w (Open p) bytes said t size plays are was follows = opens rules room w p bytes t size plays follows
-turn reads rules room w (Tick p keys) bytes said t size plays are was follows =
-    silent_turns rules room w (record { act = Tick p keys; bytes = bytes }) t (calls.Tick keys) size plays tt refl
+turn reads rules room w (Tick p input) bytes said t size plays are was follows =
+    silent_turns rules room w (record { act = Tick p input; bytes = bytes }) t (calls.Tick input) size plays tt refl
     (λ on_disk. (
-      (call_at rules w p (calls.Tick keys) on_disk).answer,
+      (call_at rules w p (calls.Tick input) on_disk).answer,
       record { happening = with_outcome on_disk; may = follows.done.may; is = refl },
     )) follows
 turn reads rules room w (Say p to what) bytes said t size plays are was follows = says rules room w p to what bytes t size plays follows
@@ -261,6 +261,7 @@ turn reads rules room w (Show watcher) bytes said t size plays are was follows =
 turn reads rules room w (Hear number watcher) bytes said t size plays are was follows = absurd was
 turn reads rules room w (Seen watcher) bytes said t size plays are was follows = absurd was
 turn reads rules room w (Fresh watcher) bytes said t size plays are was follows = absurd was
+turn reads rules room w (Wipe owner) bytes said t size plays are was follows = absurd was
 
 -- ---- a log, note by note
 

@@ -25,9 +25,9 @@ leads_joined rules room p s u t [] more is next = subst (λ (x : State). Leads r
 leads_joined rules room p s u t (n ∷ notes) more is next = (is.0, is.1, leads_joined rules room p is.0 u t notes more is.2 next)
 
 -- an empty disk keeps nothing
-pub kept_none : records_of (kept []) ≡ []
+pub kept_none : (width : ℕ) → records_of width (kept []) ≡ []
 unfolding kept kept_count
-kept_none = refl
+kept_none width = refl
 
 module _ {D : Type 0} (g : Ghosts D) where
   played_joined : (old between new : PeerValue D) (notes more : List NoteValue) → ArePlayed g old notes between
@@ -153,7 +153,7 @@ module _ {D : Type 0} (g : Ghosts D) where
 
   pub played_on : (rules : Rules) (number player : ℕ) (begun : D) (first opened last : EntryValue) (peer new : PeerValue D)
       → first.notes ≡ [] → opened ≡ with_note first (acts.Open number) []
-      → number ≡ player → IsOpened g begun rules 0 number peer → HasPlayed g opened peer last new → HasPlayedOn g rules player begun last.notes new
+      → number ≡ player → IsOpened g begun rules 0 number 1 peer → HasPlayed g opened peer last new → HasPlayedOn g rules player begun last.notes new
   played_on rules number player begun first opened last peer new none is same opens played =
       subst (λ (p : ℕ). HasPlayedOn g rules p begun last.notes new) same
       (record {

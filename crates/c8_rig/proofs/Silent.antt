@@ -1,5 +1,5 @@
 -- Only a saying says anything.
-use Rattle.std.proofs.Common.{◌≡◌, ◌+◌, ℕ, List, [], ◌∷◌, length, Option, Some, None, Ok, Err, refl}
+use Rattle.std.proofs.Common.{◌≡◌, ◌+◌, ◌^◌, ℕ, List, [], ◌∷◌, length, Option, Some, None, Ok, Err, refl}
 use Rattle.std.specs.Prelude.{Result, Bool, true, false, ◌==◌, ◌||◌, not, nat_le, nat_lt, is_some, if◌then◌else◌}
 use Rattle.c8_game.specs.Rules.{Rules}
 use Rattle.c8_disk.specs.declared.error.DiskError.{DiskError}
@@ -37,11 +37,12 @@ either M false x y is other = other
 
 -- ---- calls of the own player
 
-tick_silent : (rules : Rules) (k : KnownValue) (m : Memory) (keys : ℕ) → IsSilent (tick rules k m keys)
+tick_silent : (rules : Rules) (k : KnownValue) (m : Memory) (input : ℕ) → IsSilent (tick rules k m input)
 unfolding tick
-tick_silent rules k m keys =
+tick_silent rules k m input =
     either IsSilent (player_in k k.me).leaving _ _ (silent _ refl) (either IsSilent (nat_le rules.frames k.ticks) _ _ (silent _ refl)
-    (either IsSilent (nat_le (confirmed k + rules.window) k.ticks) _ _ (silent _ refl) (silent _ refl)))
+    (either IsSilent (nat_le (confirmed k + rules.window) k.ticks) _ _ (silent _ refl)
+    (either IsSilent (nat_le (256 ^ rules.width) input) _ _ (silent _ refl) (silent _ refl))))
 
 leave_silent : (k : KnownValue) (m : Memory) (leaver : ℕ) → IsSilent (leave k m leaver)
 unfolding leave
@@ -150,7 +151,7 @@ checkpoint_silent t k m = either IsSilent (player_in k k.me).leaving _ _ (silent
 
 -- a call that is no saying
 abbrev pub IsNoSaying : Call → Type 0
-IsNoSaying (Tick keys) = Unit {0}
+IsNoSaying (Tick input) = Unit {0}
 IsNoSaying (Deliver told) = Unit {0}
 IsNoSaying (Say to what) = ⊥
 IsNoSaying (Show watcher) = ⊥
@@ -160,7 +161,7 @@ IsNoSaying Checkpoint = Unit {0}
 
 outcome_silent : (rules : Rules) (t : Told) (k : KnownValue) (m : Memory) (call : Call) → IsNoSaying call
     → said_by (outcome rules t k m call).reply ≡ []
-outcome_silent rules t k m (Tick keys) other = (tick_silent rules k m keys).told
+outcome_silent rules t k m (Tick input) other = (tick_silent rules k m input).told
 outcome_silent rules t k m (Deliver told) other = (either IsSilent (player_in k k.me).leaving _ _ (silent _ refl) (told_silent rules t k m told)).told
 outcome_silent rules t k m (Say to what) other = absurd other
 outcome_silent rules t k m (Show watcher) other = absurd other
@@ -169,7 +170,7 @@ outcome_silent rules t k m (Decide leaver) other = (decide_silent k m leaver).to
 outcome_silent rules t k m Checkpoint other = (checkpoint_silent t k m).told
 
 refused_silent : (call : Call) (why : DiskError) → said_by (refused_by_disk call why) ≡ []
-refused_silent (Tick keys) why = refl
+refused_silent (Tick input) why = refl
 refused_silent (Deliver told) why = refl
 refused_silent (Say to what) why = refl
 refused_silent (Show watcher) why = refl
@@ -178,7 +179,7 @@ refused_silent (Decide leaver) why = refl
 refused_silent Checkpoint why = refl
 
 pub down_silent : (call : Call) → said_by (when_down call) ≡ []
-down_silent (Tick keys) = refl
+down_silent (Tick input) = refl
 down_silent (Deliver told) = refl
 down_silent (Say to what) = refl
 down_silent (Show watcher) = refl
@@ -204,12 +205,12 @@ step_silent rules p s call on_disk other =
     mode_silent s call (outcome rules (told_of rules p s.journal) (known_of rules p s.journal) s.memory call) s.mode on_disk
     (outcome_silent rules (told_of rules p s.journal) (known_of rules p s.journal) s.memory call other)
 
-pub opened_silent : (rules : Rules) (room p : ℕ) (s : State) (journal : List Record) (opening : Opening)
-    → said_by (opened rules room p s journal opening).reply ≡ []
-opened_silent rules room p s journal NoPlayer = refl
-opened_silent rules room p s journal Stands = refl
-opened_silent rules room p s journal (NotWritten why) = refl
-opened_silent rules room p s journal NoMemory = refl
-opened_silent rules room p s journal (NotRead why) = refl
-opened_silent rules room p s journal (Unfit error) = refl
-opened_silent rules room p s journal Spent = refl
+pub opened_silent : (rules : Rules) (room p drawn : ℕ) (s : State) (journal : List Record) (opening : Opening)
+    → said_by (opened rules room p drawn s journal opening).reply ≡ []
+opened_silent rules room p drawn s journal NoPlayer = refl
+opened_silent rules room p drawn s journal Stands = refl
+opened_silent rules room p drawn s journal (NotWritten why) = refl
+opened_silent rules room p drawn s journal NoMemory = refl
+opened_silent rules room p drawn s journal (NotRead why) = refl
+opened_silent rules room p drawn s journal (Unfit error) = refl
+opened_silent rules room p drawn s journal Spent = refl

@@ -12,7 +12,7 @@ use Rattle.c8_peer.specs.Opening.{Opening}
 use Rattle.c8_peer.specs.Runs.{never_opened, Does, Opens, IsDone}
 use Rattle.c8_live.specs.Turns.{SpellsAnswer}
 use Rattle.c8_world.specs.World.{World, start, peer_of, Act, Open, Tick, Say, Give, Leave, Decide, player_of, Event, Do}
-use Rattle.c8_world.specs.World.{Answer, Chain, Check, Show, Hear, Seen, Fresh}
+use Rattle.c8_world.specs.World.{Answer, Chain, Check, Show, Hear, Seen, Fresh, Wipe}
 use Rattle.c8_world.specs.Agreement.{IsPlayer}
 use Rattle.c8_world.specs.Headline.{IsHeadline}
 
@@ -24,7 +24,7 @@ pub record NoteValue : Type 0 where
 -- a peer says something
 abbrev pub IsSaying : Act → Type 0
 IsSaying (Open p) = ⊥
-IsSaying (Tick p keys) = ⊥
+IsSaying (Tick p input) = ⊥
 IsSaying (Say p to what) = Unit {0}
 IsSaying (Give number p) = ⊥
 IsSaying (Leave leaver) = ⊥
@@ -34,11 +34,12 @@ IsSaying (Show watcher) = ⊥
 IsSaying (Hear number watcher) = ⊥
 IsSaying (Seen watcher) = ⊥
 IsSaying (Fresh watcher) = ⊥
+IsSaying (Wipe owner) = ⊥
 
 -- an act of a peer that neither says nor delivers anything
 abbrev pub IsDoing : Act → Type 0
 IsDoing (Open p) = Unit {0}
-IsDoing (Tick p keys) = Unit {0}
+IsDoing (Tick p input) = Unit {0}
 IsDoing (Say p to what) = ⊥
 IsDoing (Give number p) = ⊥
 IsDoing (Leave leaver) = Unit {0}
@@ -48,12 +49,13 @@ IsDoing (Show watcher) = ⊥
 IsDoing (Hear number watcher) = ⊥
 IsDoing (Seen watcher) = ⊥
 IsDoing (Fresh watcher) = ⊥
+IsDoing (Wipe owner) = ⊥
 
 -- ---- a log
 
 abbrev pub said_in : Act → List ℕ → List (List ℕ)
 said_in (Open p) bytes = []
-said_in (Tick p keys) bytes = []
+said_in (Tick p input) bytes = []
 said_in (Say p to what) bytes = bytes ∷ []
 said_in (Give number p) bytes = []
 said_in (Leave leaver) bytes = []
@@ -63,6 +65,7 @@ said_in (Show watcher) bytes = []
 said_in (Hear number watcher) bytes = []
 said_in (Seen watcher) bytes = []
 said_in (Fresh watcher) bytes = []
+said_in (Wipe owner) bytes = []
 
 -- all that was said; the first has the number 0
 abbrev pub said_by : List NoteValue → List (List ℕ)
@@ -72,7 +75,7 @@ said_by (n ∷ log) = said_in n.act n.bytes ++ said_by log
 -- a delivery has the bytes that were said under this number; nobody watches
 abbrev pub WasSaid : List (List ℕ) → Act → List ℕ → Type 0
 WasSaid said (Open p) bytes = Unit {0}
-WasSaid said (Tick p keys) bytes = Unit {0}
+WasSaid said (Tick p input) bytes = Unit {0}
 WasSaid said (Say p to what) bytes = Unit {0}
 WasSaid said (Give number p) bytes = slice_get said number ≡ Some bytes
 WasSaid said (Leave leaver) bytes = Unit {0}
@@ -82,6 +85,7 @@ WasSaid said (Show watcher) bytes = ⊥
 WasSaid said (Hear number watcher) bytes = ⊥
 WasSaid said (Seen watcher) bytes = ⊥
 WasSaid said (Fresh watcher) bytes = ⊥
+WasSaid said (Wipe owner) bytes = ⊥
 
 -- A note may follow a log of `players` players: its peer is one of theirs, and what it delivers was said before.
 pub record MayFollow (players : ℕ) (log : List NoteValue) (n : NoteValue) : Type 0 where
@@ -105,12 +109,12 @@ pub record IsCalled (rules : Rules) (room p : ℕ) (s : State) (call : Call) (Te
   pub done : IsDone rules room p s (Does call on_disk) answer t
   pub tells : Tells answer
 
--- An opening of a peer: one deed, whatever its result.
+-- An opening of a peer, which draws 1 for a new journal: one deed, whatever its result.
 pub record IsOpenedAnew (rules : Rules) (room p : ℕ) (s t : State) : Type 0 where
   pub finds : Bool
   pub opening : Opening
   pub answer : Option Reply
-  pub done : IsDone rules room p s (Opens finds opening) answer t
+  pub done : IsDone rules room p s (Opens finds 1 opening) answer t
 
 abbrev pub IsAnything : Option Reply → Type 0
 IsAnything answer = Unit {0}
@@ -118,7 +122,7 @@ IsAnything answer = Unit {0}
 -- The note leads player p's peer to this state: a Say says its bytes, and a Give delivers what its bytes spell.
 abbrev pub Follows : Rules → ℕ → ℕ → State → Act → List ℕ → State → Type 0
 Follows rules room p s (Open q) bytes t = IsOpenedAnew rules room p s t
-Follows rules room p s (Tick q keys) bytes t = IsCalled rules room p s (calls.Tick keys) IsAnything t
+Follows rules room p s (Tick q input) bytes t = IsCalled rules room p s (calls.Tick input) IsAnything t
 Follows rules room p s (Say q to what) bytes t = IsCalled rules room p s (calls.Say to what) (SpellsAnswer bytes) t
 Follows rules room p s (Give number q) bytes t = IsCalled rules room p s (calls.Deliver (read bytes)) IsAnything t
 Follows rules room p s (Leave leaver) bytes t = IsCalled rules room p s (calls.Leave leaver) IsAnything t
@@ -128,6 +132,7 @@ Follows rules room p s (Show watcher) bytes t = ⊥
 Follows rules room p s (Hear number watcher) bytes t = ⊥
 Follows rules room p s (Seen watcher) bytes t = ⊥
 Follows rules room p s (Fresh watcher) bytes t = ⊥
+Follows rules room p s (Wipe owner) bytes t = ⊥
 
 -- a list of notes of one peer leads from one state to another
 abbrev pub Leads : Rules → ℕ → ℕ → State → List NoteValue → State → Type 0

@@ -9,7 +9,7 @@ use Rattle.c8_peer.specs.State as calls
 use Rattle.c8_peer.specs.State.{State, Call, Reply}
 use Rattle.c8_peer.specs.Peer.{PeerValue, IsAnswered, IsSaid}
 use Rattle.c8_peer.specs.Opened.{IsOpened}
-use Rattle.c8_world.specs.World.{Act, Open, Tick, Say, Give, Leave, Decide, Check, Show, Hear, Seen, Fresh}
+use Rattle.c8_world.specs.World.{Act, Open, Tick, Say, Give, Leave, Decide, Check, Show, Hear, Seen, Fresh, Wipe}
 use Rattle.c8_rig.specs.Log.{NoteValue, Leads}
 use Rattle.c8_rig.specs.Tokens.{EntryValue}
 
@@ -21,7 +21,7 @@ module _ {D : Type 0} (disk : Ghosts D) where
   -- A note stands for one call of the peer. A saying changes nothing, and an open peer is not opened again.
   abbrev pub IsPlayed : PeerValue D → Act → List ℕ → PeerValue D → Type 0
   IsPlayed old (Open q) bytes new = ⊥
-  IsPlayed old (Tick q keys) bytes new = IsCallAt old (calls.Tick keys) new
+  IsPlayed old (Tick q input) bytes new = IsCallAt old (calls.Tick input) new
   IsPlayed old (Say q to what) bytes new = IsSaid old (calls.Say to what) bytes × (new ≡ old)
   IsPlayed old (Give number q) bytes new = IsCallAt old (calls.Deliver (read bytes)) new
   IsPlayed old (Leave leaver) bytes new = IsCallAt old (calls.Leave leaver) new
@@ -31,6 +31,7 @@ module _ {D : Type 0} (disk : Ghosts D) where
   IsPlayed old (Hear number watcher) bytes new = ⊥
   IsPlayed old (Seen watcher) bytes new = ⊥
   IsPlayed old (Fresh watcher) bytes new = ⊥
+  IsPlayed old (Wipe owner) bytes new = ⊥
 
   -- the calls of these notes, one after another; between them the peer does not change
   abbrev pub ArePlayed : PeerValue D → List NoteValue → PeerValue D → Type 0
@@ -53,7 +54,7 @@ module _ {D : Type 0} (disk : Ghosts D) where
   -- The peer was opened on this disk, as the first note says, and made the calls of the other notes.
   pub record HasPlayedOn (rules : Rules) (player : ℕ) (begun : D) (notes : List NoteValue) (peer : PeerValue D) : Type 0 where
     pub opened : PeerValue D
-    pub is_opened : IsOpened disk begun rules 0 player opened
+    pub is_opened : IsOpened disk begun rules 0 player 1 opened
     pub more : List NoteValue
     pub noted : notes ≡ record { act = Open player; bytes = [] } ∷ more
     pub played : ArePlayed opened more peer

@@ -45,9 +45,9 @@ pub fn moments_of_a_log_agree()
 /// saying to a watcher, and one list after another (`joined`).
 pub fn peers_play_on<D: Disk>()
     ensures still { (e : EntryValue) (p : PeerValue D) → HasPlayed D.Disk e p e p }
-    ensures ticks { (e : EntryValue) (old new : PeerValue D) (player keys : ℕ) (reply : Reply)
-        → keys < 2 ^ 16 → IsAnswered D.Disk old (calls.Tick keys) reply new
-        → HasPlayed D.Disk e old (with_note e (Tick player keys) []) new }
+    ensures ticks { (e : EntryValue) (old new : PeerValue D) (player input : ℕ) (reply : Reply)
+        → input < 2 ^ 64 → IsAnswered D.Disk old (calls.Tick input) reply new
+        → HasPlayed D.Disk e old (with_note e (Tick player input) []) new }
     ensures says { (e : EntryValue) (p : PeerValue D) (player to : ℕ) (what : Saying)
         (bytes : List ℕ)
         → IsSaid p (calls.Say to what) bytes

@@ -43,7 +43,7 @@ fn is_same_act(one: Act, other: Act) -> bool
 {
     match (one, other) {
         (Act::Open(a), Act::Open(b)) => a.number == b.number,
-        (Act::Tick(a, keys), Act::Tick(b, others)) => a.number == b.number && keys.0 == others.0,
+        (Act::Tick(a, input), Act::Tick(b, other)) => a.number == b.number && input == other,
         (Act::Say(a, to, kind), Act::Say(b, other_to, other_kind)) => a.number == b.number
             && to.number == other_to.number
             && is_same_kind(kind, other_kind),
@@ -64,8 +64,8 @@ fn is_same_kind(one: Kind, other: Kind) -> bool
     ensures { saying_of one ≡ saying_of other → result ≡ true }
 {
     match (one, other) {
-        (Kind::Hello, Kind::Hello) | (Kind::Welcome, Kind::Welcome) | (Kind::Data, Kind::Data) =>
-            true,
+        (Kind::Hello, Kind::Hello) | (Kind::Welcome, Kind::Welcome) => true,
+        (Kind::Data(_), Kind::Data(_)) => true,
         (Kind::Freeze(a), Kind::Freeze(b)) => a.number == b.number,
         (Kind::Frozen(a), Kind::Frozen(b)) => a.number == b.number,
         (Kind::Cut(a), Kind::Cut(b)) => a.number == b.number,

@@ -11,7 +11,8 @@ use crate::ether::{Entry, Ether, Room};
 use crate::laws::peers_play_on;
 use crate::watch::Watch;
 use c8_disk::Disk;
-use c8_game::{Game, Keys, Player};
+use c8_game::{Game, Input, Player, Width};
+use c8_news::Signs;
 use c8_peer::laws::openings_are_deeds;
 use c8_peer::{Kind, Peer};
 use c8_transport::Worker;
@@ -22,6 +23,9 @@ use rand_pcg::rand_core::Rng;
 use std::alloc::{AllocError, Global};
 use std::sync::Wait;
 
+/// The number that an opening draws. No journal is lost here, so that of each player may be the same.
+const LIFE: u64 = 1;
+
 /// A player at an ether: its entry, its peer, and the generator of its turns.
 #[derive(Drop)]
 struct Seat<'a, 'g, B: Room, R, D: Disk> {
@@ -29,6 +33,7 @@ struct Seat<'a, 'g, B: Room, R, D: Disk> {
     ether: &'a Ether<B>,
     entry: Entry,
     peer: Peer<'g, D>,
+    width: Width,
     random: Pcg32,
     ghost at: { entry.ether ≡ B.ether },
     ghost own: { entry.player ≡ peer.me },
@@ -43,15 +48,15 @@ impl<'a, 'g, B: Room, R: Wait, D: Disk> Seat<'a, 'g, B, R, D> {
         self.random.next_u32()
     }
 
-    /// Enters a key set. The error is that memory for the note ran out; then nothing is done. The same holds for the
+    /// Enters an input. The error is that memory for the note ran out; then nothing is done. The same holds for the
     /// calls below.
-    fn tick(&mut self, keys: Keys) -> Result<(), AllocError>
+    fn tick(&mut self, input: Input) -> Result<(), AllocError>
         ensures { HasPlayed D.Disk self.old.entry self.old.peer self.new.entry self.new.peer }
     {
         peers_play_on::<D>();
-        let act = Act::Tick(self.peer.me(), keys);
+        let act = Act::Tick(self.peer.me(), input);
         self.ether.note(self.rt, &mut self.entry, act)?;
-        let _ticked = self.peer.tick(keys);
+        let _ticked = self.peer.tick(input);
         Ok(())
     }
 
@@ -158,8 +163,8 @@ impl<'a, 'g, B: Room, R: Wait, D: Disk> Seat<'a, 'g, B, R, D> {
     {
         match self.word() % 8 {
             0 | 1 => {
-                let keys = (self.word() & 0xffff) as u16;
-                self.tick(Keys(keys))
+                let word = u64::from(self.word());
+                self.tick(spread(word).cut(self.width))
             }
             2..=4 => {
                 let choice = self.word();
@@ -173,7 +178,7 @@ impl<'a, 'g, B: Room, R: Wait, D: Disk> Seat<'a, 'g, B, R, D> {
                 };
                 self.say_to_one(kind)
             }
-            6 => self.say_to_one(Kind::Data),
+            6 => self.say_to_one(Kind::Data(Signs::none())),
             _ => self.drop_round(),
         }
     }
@@ -213,7 +218,7 @@ pub fn rig_worker<'g, B: Room, R: Wait, D: Disk + Drop, G: Watch>(
     ensures entry { (result.0.ether ≡ entry.ether) × (result.0.player ≡ entry.player) }
     ensures peer { IfSome result.1 (λ peer. IsPeerOf game.entry.now entry.player peer) }
     ensures led { IfSome result.1 (λ peer. Leads game.entry.now 0 entry.player
-        (away_with (records_of (kept (D.seen disk)))) result.0.notes peer.state) }
+        (away_with (records_of game.entry.now.width (kept (D.seen disk)))) result.0.notes peer.state) }
     ensures played { IfSome result.1 (λ peer.
         HasPlayedOn D.Disk game.entry.now entry.player disk result.0.notes peer) }
 {
@@ -223,7 +228,7 @@ pub fn rig_worker<'g, B: Room, R: Wait, D: Disk + Drop, G: Watch>(
     if ether.note(rt, &mut entry, Act::Open(player)).is_err() {
         return (entry, None);
     }
-    let Ok(peer) = Peer::open(alloc, disk, game, player, 0) else {
+    let Ok(peer) = Peer::open(alloc, disk, game, player, 0, LIFE) else {
         return (entry, None);
     };
     gate.noted(player, entry.notes().len());
@@ -233,11 +238,17 @@ pub fn rig_worker<'g, B: Room, R: Wait, D: Disk + Drop, G: Watch>(
         ether,
         entry,
         peer,
+        width: game.width(),
         random,
     };
     seat.play(turns, gate);
     let Seat { entry, peer, .. } = seat;
     (entry, Some(peer))
+}
+
+/// Returns the input whose low four bytes and high four bytes are those of a word.
+fn spread(word: u64) -> Input {
+    Input((word & 0xffff_ffff) * 0x1_0000_0001)
 }
 
 /// Returns the player with a number, or player 4 for any other number.

@@ -9,6 +9,7 @@ use Rattle.std.proofs.lemmas.List.{length-map, drop_all}
 use Rattle.std.proofs.lemmas.List.FromFn.{length-map-range_with_len}
 use Rattle.circular_buffer.proofs.Places.{slice_get-some}
 use Rattle.c8_game.specs.Rules.{Rules, joined}
+use Rattle.c8_machine.specs.Keys.{keys_of}
 use Rattle.c8_game.specs.declared.row.Row.{Row}
 use Rattle.c8_machine.specs.State.{state}
 use Rattle.c8_machine.specs.Serial.{frame_of}
@@ -39,7 +40,7 @@ rolled rules from k t marks same sure made run seen noted =
     λ i. record { rules = same i; ticks = made i; shown = seen i; confirmed = sure i; base = base i; marks = noted i }
 
 nothing_run : (rules : Rules) (from : Origin) (k : KnownValue) → run_since rules from (best_rows_below k from.frames) ≡ from.machine
-nothing_run rules from k = ap (fold (λ s row. frame_of rules (joined rules row) s) from.machine)
+nothing_run rules from k = ap (fold (λ s row. frame_of rules (keys_of (joined rules row)) s) from.machine)
     (drop_all from.frames (best_rows_below k from.frames) (omega (arith, length-map-range_with_len (best_row k) 0 from.frames)))
 
 pub new_run : (rules : Rules) (from : Origin) (k : KnownValue) (t : TimelineValue) → IsNew rules from t → IsRunOf from k t

@@ -10,6 +10,7 @@ use Rattle.std.proofs.lemmas.List.Sums.{fold-append}
 use Rattle.circular_buffer.specs.Buffer.{keep_last}
 use Rattle.circular_buffer.proofs.Places.{slice_get-take, slice_get-drop, slice_get-append_left, slice_get-last, slice_get-some}
 use Rattle.c8_game.specs.Rules.{Rules, joined}
+use Rattle.c8_machine.specs.Keys.{keys_of}
 use Rattle.c8_game.specs.declared.row.Row.{Row}
 use Rattle.c8_machine.specs.declared.machine.Machine.{Machine}
 use Rattle.c8_machine.specs.State.{state}
@@ -25,13 +26,14 @@ use Rattle.c8_roll.proofs.RollLemmas.{best_next, best_sure}
 
 -- the run of one more best row
 pub next_run : (rules : Rules) (from : Origin) (k : KnownValue) (n : ℕ) → from.frames ≤ n
-    → run_since rules from (best_rows_below k (n + 1)) ≡ frame_of rules (joined rules (best_row k n)) (run_since rules from (best_rows_below k n))
+    → run_since rules from (best_rows_below k (n + 1))
+    ≡ frame_of rules (keys_of (joined rules (best_row k n))) (run_since rules from (best_rows_below k n))
 next_run rules from k n starts =
     let many : length (best_rows_below k n) ≡ n = length-map-range_with_len (best_row k) 0 n in
     ap (run_since rules from) (best_next k n)
-    ∙ ap (fold (λ s row. frame_of rules (joined rules row) s) from.machine)
+    ∙ ap (fold (λ s row. frame_of rules (keys_of (joined rules row)) s) from.machine)
     (drop-append-le from.frames (best_rows_below k n) (best_row k n ∷ []) (omega (arith, starts, many)))
-    ∙ fold-append (λ s row. frame_of rules (joined rules row) s) from.machine (drop from.frames (best_rows_below k n)) (best_row k n ∷ [])
+    ∙ fold-append (λ s row. frame_of rules (keys_of (joined rules row)) s) from.machine (drop from.frames (best_rows_below k n)) (best_row k n ∷ [])
 
 -- each kept machine is the serial run of the best rows before it
 pub run_at : (from : Origin) (k : KnownValue) (t : TimelineValue) → IsTimeline t → IsRunOf from k t → (i : ℕ)
@@ -48,14 +50,14 @@ run_at from k t is run (suc i) within =
     let so_far : state_at t i ≡ run_since t.rules from (best_rows_below k (t.first + i)) = run_at from k t is run i (inl place) in
     let here : state kept.0.machine ≡ run_since t.rules from (best_rows_below k (t.first + i)) =
     ap (λ (o : Option Snapshot). state (machine_or t.shown o)) (sym kept.1) ∙ so_far in
-    let next : state_at t (i + 1) ≡ frame_of t.rules (joined t.rules kept.0.row) (state kept.0.machine) =
+    let next : state_at t (i + 1) ≡ frame_of t.rules (keys_of (joined t.rules kept.0.row)) (state kept.0.machine) =
     is.followed i (⊎_elim (λ (w : suc i < length t.snapshots). inl (omega (arith, w)))
     (λ (w : IsAll t × (suc i ≤ length t.snapshots)). inr w.0) within) kept.0 kept.1 in
     let one : suc i ≡ i + 1 = omega arith in
     let up : t.first + i + 1 ≡ t.first + suc i = omega arith in
     ap (state_at t) one ∙ next
-    ∙ ap (λ (row : Row). frame_of t.rules (joined t.rules row) (state kept.0.machine)) (run.rows i kept.0 place kept.1)
-    ∙ ap (frame_of t.rules (joined t.rules (best_row k (t.first + i)))) here
+    ∙ ap (λ (row : Row). frame_of t.rules (keys_of (joined t.rules row)) (state kept.0.machine)) (run.rows i kept.0 place kept.1)
+    ∙ ap (frame_of t.rules (keys_of (joined t.rules (best_row k (t.first + i))))) here
     ∙ sym (next_run t.rules from k (t.first + i) (omega (arith, starts)))
     ∙ ap (λ (n : ℕ). run_since t.rules from (best_rows_below k n)) up
 
@@ -104,7 +106,7 @@ back_is t n is fits why =
       followed = λ i why_now s kept.
           let at = back_kept t n i s fits kept in
           let place = at.0 in
-          let old : state_at t (i + 1) ≡ frame_of t.rules (joined t.rules s.row) (state s.machine) =
+          let old : state_at t (i + 1) ≡ frame_of t.rules (keys_of (joined t.rules s.row)) (state s.machine) =
           is.followed i (⊎_elim (λ (w : n < length t.snapshots). inl (omega (arith, w, place))) (λ (w : IsAll t). inr w) why) s at.1 in
           ap state (back_machine t n (i + 1) fits (omega (arith, place))) ∙ old;
       counted = omega arith;
@@ -177,7 +179,7 @@ extended_is t machine is all none =
     )
 
 pub extended_run : (from : Origin) (k : KnownValue) (t : TimelineValue) (machine : Machine) (row : Row) → IsTimeline t → IsAll t
-    → length t.snapshots ≡ 0 → state machine ≡ frame_of t.rules (joined t.rules row) (state t.shown)
+    → length t.snapshots ≡ 0 → state machine ≡ frame_of t.rules (keys_of (joined t.rules row)) (state t.shown)
     → row ≡ best_row k t.first → IsRunOf from k t → IsRunOf from k (extended t machine)
 extended_run from k t machine row is all none went best run =
     let empty : slice_get t.snapshots 0 ≡ None = slice_get_past t.snapshots 0 (omega (arith, none)) in
@@ -186,8 +188,8 @@ extended_run from k t machine row is all none went best run =
     record {
       starts = let starts = run.starts in omega (arith, starts);
       base = ap (λ (o : Option Snapshot). state (machine_or machine o)) empty
-          ∙ went ∙ ap (λ (r : Row). frame_of t.rules (joined t.rules r) (state t.shown)) best
-          ∙ ap (frame_of t.rules (joined t.rules (best_row k t.first))) base ∙ sym (next_run t.rules from k t.first run.starts);
+          ∙ went ∙ ap (λ (r : Row). frame_of t.rules (keys_of (joined t.rules r)) (state t.shown)) best
+          ∙ ap (frame_of t.rules (keys_of (joined t.rules (best_row k t.first)))) base ∙ sym (next_run t.rules from k t.first run.starts);
       rows = λ i s within kept. absurd (omega (arith, within, none));
     }
 
@@ -237,7 +239,7 @@ snapped_kept t row i s kept =
     (slice_get_cases t.snapshots i).1
 
 pub snapped_is : (t : TimelineValue) (row : Row) (machine : Machine) → IsTimeline t → IsAll t → length t.snapshots < t.room
-    → state machine ≡ frame_of t.rules (joined t.rules row) (state t.shown) → IsTimeline (snapped t row machine)
+    → state machine ≡ frame_of t.rules (keys_of (joined t.rules row)) (state t.shown) → IsTimeline (snapped t row machine)
 snapped_is t row machine is all few went =
     let new : Snapshot = record { row = row; machine = t.shown } in
     let many : length (t.snapshots ++ new ∷ []) ≡ length t.snapshots + 1 = length-append t.snapshots (new ∷ []) in
@@ -256,7 +258,7 @@ snapped_is t row machine is all few went =
           (λ (last : (i ≡ length t.snapshots) × (s ≡ new)).
           let place = last.0 in
           ap (λ (o : Option Snapshot). state (machine_or machine o)) (slice_get_past (t.snapshots ++ new ∷ []) (i + 1) (omega (arith, many, place)))
-          ∙ went ∙ ap (λ (x : Snapshot). frame_of t.rules (joined t.rules x.row) (state x.machine)) (sym last.1))
+          ∙ went ∙ ap (λ (x : Snapshot). frame_of t.rules (keys_of (joined t.rules x.row)) (state x.machine)) (sym last.1))
           (snapped_kept t row i s kept);
       counted = omega (arith, ran);
     }

@@ -2,6 +2,7 @@
 ghost use Rattle.std.specs.Prelude.{◌≡◌, ◌+◌, ◌<◌, ◌≤◌, ◌^◌, ℕ, [], length, MatchOption, IfSome};
 ghost use Rattle.circular_buffer.specs.Buffer.{buffer};
 ghost use Rattle.c8_game.specs.Rules.{joined};
+ghost use Rattle.c8_machine.specs.Keys.{keys_of};
 ghost use Rattle.c8_machine.specs.State.{state};
 ghost use Rattle.c8_machine.specs.Serial.{frame_of};
 ghost use Rattle.c8_digest.specs.Origin.{Origin, origin_of, run_since};
@@ -13,7 +14,7 @@ ghost use Rattle.c8_roll.specs.checked.Timeline.{IsNew, IsTimeline, state_at, ba
 use c8_digest::{Checkpoint, MARK_STEP, Marks};
 use c8_game::{Game, Row};
 use c8_known::Known;
-use c8_machine::Machine;
+use c8_machine::{Keys, Machine};
 use circular_buffer::HeapCircularBuffer;
 use std::marker::Model;
 
@@ -188,7 +189,8 @@ impl<'g> Timeline<'g> {
         if kept > 0 {
             self.snapshots.truncate_front(kept - 1);
         } else {
-            self.shown.frame(self.game, self.game.joined(row));
+            self.shown
+                .frame(self.game, Keys::from(self.game.joined(row)));
             self.ticks += 1;
             self.last_run += 1;
         }
@@ -206,13 +208,14 @@ impl<'g> Timeline<'g> {
         ensures run { (from : Origin) (known : KnownValue) → IsRunOf from known self.old
             → row ≡ best_row known self.old.ticks → IsRunOf from known self.new }
         ensures shown { state self.new.shown
-            ≡ frame_of self.old.rules (joined self.old.rules row) (state self.old.shown) }
+            ≡ frame_of self.old.rules (keys_of (joined self.old.rules row)) (state self.old.shown) }
     {
         if self.snapshots.len() < self.snapshots.capacity() {
             let machine = self.shown;
             let _none = self.snapshots.push_back(Snapshot { machine, row });
         }
-        self.shown.frame(self.game, self.game.joined(&row));
+        self.shown
+            .frame(self.game, Keys::from(self.game.joined(&row)));
         self.ticks += 1;
         self.last_run += 1;
     }

@@ -11,7 +11,7 @@ abbrev pub raised : Option ℕ → ℕ → Option ℕ
 raised None n = Some n
 raised (Some before) n = Some (max before n)
 
--- every player holds the empty sets of the delay
+-- every player holds the inputs of 0 of the delay
 abbrev pub or_delay : KnownValue → Option ℕ → ℕ
 or_delay k None = k.delay
 or_delay k (Some n) = n

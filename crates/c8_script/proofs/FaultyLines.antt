@@ -17,40 +17,44 @@ abbrev pub fault_if_not : Bool → Option ScriptError
 fault_if_not taken = if taken then None else Some Line
 
 -- the fault of a line, whatever comes before it
-abbrev pub event_fault : List (List ℕ) → List ℕ → Option ScriptError
-event_fault before line = fault_if_not (is_event_line line)
+abbrev pub event_fault : ℕ → List (List ℕ) → List ℕ → Option ScriptError
+event_fault width before line = fault_if_not (is_event_line width line)
 
-without_fault : (line : List ℕ) (skipped : Bool) (event : Option Event) → is_skipped line ≡ skipped → event_of line ≡ event
-    → fault_if_not (skipped || is_some event) ≡ None → IsNoEventLine line → ⊥
-without_fault line true event said read none bad = let same = bad.0 in cc
-without_fault line false (Some event) said read none bad = bad.1 event (line_spelt line event read)
-without_fault line false None said read none bad = cc
+without_fault : (width : ℕ) (line : List ℕ) (skipped : Bool) (event : Option Event) → is_skipped line ≡ skipped → event_of width line ≡ event
+    → fault_if_not (skipped || is_some event) ≡ None → IsNoEventLine width line → ⊥
+without_fault width line true event said read none bad = let same = bad.0 in cc
+without_fault width line false (Some event) said read none bad = bad.1 event (line_spelt width line event read)
+without_fault width line false None said read none bad = cc
 
-with_fault : (line : List ℕ) (skipped : Bool) (event : Option Event) (fault : ScriptError) → is_skipped line ≡ skipped
-    → event_of line ≡ event → fault_if_not (skipped || is_some event) ≡ Some fault → IsNoEventLine line
-with_fault line true event fault said read some = absurd (cc)
-with_fault line false (Some event) fault said read some = absurd (cc)
-with_fault line false None fault said read some = (said, λ event spelt. let is : event_of line ≡ Some event = line_read line event spelt in cc)
+with_fault : (width : ℕ) (line : List ℕ) (skipped : Bool) (event : Option Event) (fault : ScriptError) → is_skipped line ≡ skipped
+    → event_of width line ≡ event → fault_if_not (skipped || is_some event) ≡ Some fault → IsNoEventLine width line
+with_fault width line true event fault said read some = absurd (cc)
+with_fault width line false (Some event) fault said read some = absurd (cc)
+with_fault width line false None fault said read some = (
+  said,
+  λ event spelt. let is : event_of width line
+      ≡ Some event = line_read width line event spelt in cc,
+)
 
-fine_there : (found : Option (List ℕ)) (before : List (List ℕ)) → option_and_then (event_fault before) found ≡ None
-    → IfSome found (λ line. IsNoEventLine line → ⊥)
-fine_there None before none = tt
-fine_there (Some line) before none = without_fault line (is_skipped line) (event_of line) refl refl none
+fine_there : (width : ℕ) (found : Option (List ℕ)) (before : List (List ℕ)) → option_and_then (event_fault width before) found ≡ None
+    → IfSome found (λ line. IsNoEventLine width line → ⊥)
+fine_there width None before none = tt
+fine_there width (Some line) before none = without_fault width line (is_skipped line) (event_of width line) refl refl none
 
-bad_there : (found : Option (List ℕ)) (before : List (List ℕ)) (fault : ScriptError)
-    → option_and_then (event_fault before) found ≡ Some fault → (line : List ℕ) × (found ≡ Some line) × IsNoEventLine line
-bad_there None before fault some = absurd (cc)
-bad_there (Some line) before fault some = (line, refl, with_fault line (is_skipped line) (event_of line) fault refl refl some)
+bad_there : (width : ℕ) (found : Option (List ℕ)) (before : List (List ℕ)) (fault : ScriptError)
+    → option_and_then (event_fault width before) found ≡ Some fault → (line : List ℕ) × (found ≡ Some line) × IsNoEventLine width line
+bad_there width None before fault some = absurd (cc)
+bad_there width (Some line) before fault some = (line, refl, with_fault width line (is_skipped line) (event_of width line) fault refl refl some)
 
-pub are_event_lines : (text : List ℕ) → AreFaultless event_fault (lines text) → AreEventLines text
-are_event_lines text faultless place = fine_there (slice_get (lines text) place) (take place (lines text)) (faultless place)
+pub are_event_lines : (width : ℕ) (text : List ℕ) → AreFaultless (event_fault width) (lines text) → AreEventLines width text
+are_event_lines width text faultless place = fine_there width (slice_get (lines text) place) (take place (lines text)) (faultless place)
 
-pub first_no_event : (text : List ℕ) (place : ℕ) → IsFirstPlace event_fault (lines text) place → IsFirstNoEvent text place
-first_no_event text place (fault, (first, same)) =
-    let bad = bad_there (slice_get (lines text) first.place) (take first.place (lines text)) fault first.here in
-    subst (IsFirstNoEvent text) same (record {
+pub first_no_event : (width : ℕ) (text : List ℕ) (place : ℕ) → IsFirstPlace (event_fault width) (lines text) place → IsFirstNoEvent width text place
+first_no_event width text place (fault, (first, same)) =
+    let bad = bad_there width (slice_get (lines text) first.place) (take first.place (lines text)) fault first.here in
+    subst (IsFirstNoEvent width text) same (record {
       line = bad.0;
       here = bad.1;
       no_event = bad.2;
-      least = λ earlier within. fine_there (slice_get (lines text) earlier) (take earlier (lines text)) (first.least earlier within);
+      least = λ earlier within. fine_there width (slice_get (lines text) earlier) (take earlier (lines text)) (first.least earlier within);
     })

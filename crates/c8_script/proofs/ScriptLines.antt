@@ -13,12 +13,12 @@ use Rattle.std.proofs.lemmas.List.Elements.{filter-append, Contains-append_right
 use Rattle.std.proofs.lemmas.List.Sums.{AllPass-from_list_all, list_all-from_AllPass}
 use Rattle.std.proofs.lemmas.List.Splits.{join_with_byte-slice_split}
 use Rattle.c8_game.specs.GameText.{is_skipped}
-use Rattle.c8_game.specs.KeysText.{is_keys_text}
+use Rattle.c8_game.specs.Inputs.{is_input_text}
 use Rattle.c8_game.specs.declared.row.Player.{Player}
 use Rattle.c8_peer.specs.declared.kind.Kind.{Kind}
-use Rattle.c8_peer.specs.declared.kind.Kind.TheVariants.{Hello, Welcome, Data, Freeze, Frozen, Cut}
+use Rattle.c8_peer.specs.declared.kind.Kind.TheVariants.{Hello, Welcome, Data, Freeze, Frozen, Cut, Pass, Refused}
 use Rattle.c8_world.specs.declared.event.Act.{Act}
-use Rattle.c8_world.specs.declared.event.Act.TheVariants.{Open, Tick, Say, Give, Leave, Decide, Check, Show, Hear, Seen, Fresh}
+use Rattle.c8_world.specs.declared.event.Act.TheVariants.{Open, Tick, Say, Give, Leave, Decide, Check, Show, Hear, Seen, Fresh, Wipe}
 use Rattle.c8_world.specs.declared.event.Event.{Event}
 use Rattle.c8_world.specs.declared.event.Event.TheVariants.{Do, Stop, Fail}
 use Rattle.c8_wire.specs.declared.watcher.Watcher.{Watcher}
@@ -55,16 +55,18 @@ number_no_space word number spelt =
     no_space is_ascii_digit word refl (AllPass-from_list_all is_ascii_digit word
     (and_parts (nat_lt 0 (length word) && nat_le (length word) 20) (list_all is_ascii_digit word) spelt.0).1)
 
-keys_no_space : (word : List ℕ) → is_keys_text word ≡ true → HasNoSpace word
-keys_no_space word keys = no_space is_hex_digit word refl ((IsOk-decode_sized word 2).0 keys).1
+input_no_space : (width : ℕ) (word : List ℕ) → is_input_text width word ≡ true → HasNoSpace word
+input_no_space width word input = no_space is_hex_digit word refl ((IsOk-decode_sized word width).0 input).1
 
 kind_no_space : (kind : Kind) → HaveNoSpace (kind_words kind)
 kind_no_space Hello = (refl, tt)
 kind_no_space Welcome = (refl, tt)
-kind_no_space Data = (refl, tt)
+kind_no_space (Data signs) = (refl, tt)
+kind_no_space Refused = (refl, tt)
 kind_no_space (Freeze player) = (refl, (player_no_space player, tt))
 kind_no_space (Frozen player) = (refl, (player_no_space player, tt))
 kind_no_space (Cut player) = (refl, (player_no_space player, tt))
+kind_no_space (Pass player) = (refl, (player_no_space player, tt))
 
 -- ---- a line splits into its words
 
@@ -95,81 +97,85 @@ split_joined word (next ∷ words) none others =
 
 -- ---- lines
 
-act_no_space : (words : List (List ℕ)) (act : Act) → SpellsAct words act → HaveNoSpace words
-act_no_space words (Open player) spelt = rw spelt (refl, (player_no_space player, tt))
-act_no_space words (Leave player) spelt = rw spelt (refl, (player_no_space player, tt))
-act_no_space words (Decide player) spelt = rw spelt (refl, (player_no_space player, tt))
-act_no_space words (Check player) spelt = rw spelt (refl, (player_no_space player, tt))
-act_no_space words (Tick player keys) spelt = rw spelt.1 (refl, (player_no_space player, (keys_no_space spelt.0 spelt.2.0, tt)))
-act_no_space words (Give number player) spelt = rw spelt.1 (refl, (number_no_space spelt.0 number spelt.2, (player_no_space player, tt)))
-act_no_space words (Show watcher) spelt = rw spelt (refl, (refl, (watcher_no_space watcher, (refl, tt))))
-act_no_space words (Hear number watcher) spelt = rw spelt.1 (refl, (number_no_space spelt.0 number spelt.2, (watcher_no_space watcher, tt)))
-act_no_space words (Seen watcher) spelt = rw spelt (refl, (watcher_no_space watcher, (refl, (refl, tt))))
-act_no_space words (Fresh watcher) spelt = rw spelt (refl, (watcher_no_space watcher, tt))
-act_no_space words (Say player to kind) spelt = rw spelt (refl, (player_no_space player, (player_no_space to, kind_no_space kind)))
+act_no_space : (width : ℕ) (words : List (List ℕ)) (act : Act) → SpellsAct width words act → HaveNoSpace words
+act_no_space width words (Open player) spelt = rw spelt (refl, (player_no_space player, tt))
+act_no_space width words (Leave player) spelt = rw spelt (refl, (player_no_space player, tt))
+act_no_space width words (Decide player) spelt = rw spelt (refl, (player_no_space player, tt))
+act_no_space width words (Check player) spelt = rw spelt (refl, (player_no_space player, tt))
+act_no_space width words (Tick player input) spelt = rw spelt.1 (refl, (player_no_space player, (input_no_space width spelt.0 spelt.2.0, tt)))
+act_no_space width words (Give number player) spelt = rw spelt.1 (refl, (number_no_space spelt.0 number spelt.2, (player_no_space player, tt)))
+act_no_space width words (Show watcher) spelt = rw spelt (refl, (refl, (watcher_no_space watcher, (refl, tt))))
+act_no_space width words (Hear number watcher) spelt = rw spelt.1 (refl, (number_no_space spelt.0 number spelt.2, (watcher_no_space watcher, tt)))
+act_no_space width words (Seen watcher) spelt = rw spelt (refl, (watcher_no_space watcher, (refl, (refl, tt))))
+act_no_space width words (Fresh watcher) spelt = rw spelt (refl, (watcher_no_space watcher, tt))
+act_no_space width words (Wipe player) spelt = rw spelt (refl, (player_no_space player, tt))
+act_no_space width words (Say player to kind) spelt = rw spelt.0 (refl, (player_no_space player, (player_no_space to, kind_no_space kind)))
 
-words_no_space : (words : List (List ℕ)) (event : Event) → WordsSpell words event → HaveNoSpace words
-words_no_space words (Do act) spelt = act_no_space words act spelt
-words_no_space words (Stop act calls pick) (of_calls, of_pick, of_act, words_are, calls_are, pick_is, act_is, may) =
-    rw words_are (refl, (number_no_space of_calls calls calls_are, (number_no_space of_pick pick pick_is, act_no_space of_act act act_is)))
-words_no_space words (Fail act calls) (of_calls, of_act, words_are, calls_are, act_is, may) =
-    rw words_are (refl, (number_no_space of_calls calls calls_are, act_no_space of_act act act_is))
+words_no_space : (width : ℕ) (words : List (List ℕ)) (event : Event) → WordsSpell width words event → HaveNoSpace words
+words_no_space width words (Do act) spelt = act_no_space width words act spelt
+words_no_space width words (Stop act calls pick) (of_calls, of_pick, of_act, words_are, calls_are, pick_is, act_is, may) =
+    rw words_are (refl, (number_no_space of_calls calls calls_are, (number_no_space of_pick pick pick_is, act_no_space width of_act act act_is)))
+words_no_space width words (Fail act calls) (of_calls, of_act, words_are, calls_are, act_is, may) =
+    rw words_are (refl, (number_no_space of_calls calls calls_are, act_no_space width of_act act act_is))
 
 -- no event is spelled without words
-spelt_by_some : (event : Event) → WordsSpell [] event → ⊥
-spelt_by_some (Do (Open player)) spelt = cc
-spelt_by_some (Do (Leave player)) spelt = cc
-spelt_by_some (Do (Decide player)) spelt = cc
-spelt_by_some (Do (Check player)) spelt = cc
-spelt_by_some (Do (Tick player keys)) spelt = let none = spelt.1 in cc
-spelt_by_some (Do (Give number player)) spelt = let none = spelt.1 in cc
-spelt_by_some (Do (Say player to kind)) spelt = cc
-spelt_by_some (Do (Show watcher)) spelt = cc
-spelt_by_some (Do (Hear number watcher)) spelt = let none = spelt.1 in cc
-spelt_by_some (Do (Seen watcher)) spelt = cc
-spelt_by_some (Do (Fresh watcher)) spelt = cc
-spelt_by_some (Stop act calls pick) (of_calls, of_pick, of_act, words_are, calls_are, pick_is, act_is, may) = cc
-spelt_by_some (Fail act calls) (of_calls, of_act, words_are, calls_are, act_is, may) = cc
+spelt_by_some : (width : ℕ) (event : Event) → WordsSpell width [] event → ⊥
+spelt_by_some width (Do (Open player)) spelt = cc
+spelt_by_some width (Do (Leave player)) spelt = cc
+spelt_by_some width (Do (Decide player)) spelt = cc
+spelt_by_some width (Do (Check player)) spelt = cc
+spelt_by_some width (Do (Tick player input)) spelt = let none = spelt.1 in cc
+spelt_by_some width (Do (Give number player)) spelt = let none = spelt.1 in cc
+spelt_by_some width (Do (Say player to kind)) spelt = let none = spelt.0 in cc
+spelt_by_some width (Do (Show watcher)) spelt = cc
+spelt_by_some width (Do (Hear number watcher)) spelt = let none = spelt.1 in cc
+spelt_by_some width (Do (Seen watcher)) spelt = cc
+spelt_by_some width (Do (Fresh watcher)) spelt = cc
+spelt_by_some width (Do (Wipe player)) spelt = cc
+spelt_by_some width (Stop act calls pick) (of_calls, of_pick, of_act, words_are, calls_are, pick_is, act_is, may) = cc
+spelt_by_some width (Fail act calls) (of_calls, of_act, words_are, calls_are, act_is, may) = cc
 
-cut_again : (words : List (List ℕ)) (event : Event) → WordsSpell words event → slice_split (λ byte. byte == 32) (join_with_byte 32 words) ≡ words
-cut_again [] event spelt = absurd (spelt_by_some event spelt)
-cut_again (word ∷ words) event spelt = let none = words_no_space (word ∷ words) event spelt in split_joined word words none.0 none.1
+cut_again : (width : ℕ) (words : List (List ℕ)) (event : Event) → WordsSpell width words event
+    → slice_split (λ byte. byte == 32) (join_with_byte 32 words) ≡ words
+cut_again width [] event spelt = absurd (spelt_by_some width event spelt)
+cut_again width (word ∷ words) event spelt = let none = words_no_space width (word ∷ words) event spelt in split_joined word words none.0 none.1
 
-pub line_read : (line : List ℕ) (event : Event) → SpellsEvent line event → event_of line ≡ Some event
-line_read line event (words, is, spelt) = ap event_of is ∙ ap event_in (cut_again words event spelt) ∙ words_read words event spelt
+pub line_read : (width : ℕ) (line : List ℕ) (event : Event) → SpellsEvent width line event → event_of width line ≡ Some event
+line_read width line event (words, is, spelt) = ap (event_of width) is ∙ ap (event_in width) (cut_again width words event spelt)
+    ∙ words_read width words event spelt
 
-pub line_spelt : (line : List ℕ) (event : Event) → event_of line ≡ Some event → SpellsEvent line event
-line_spelt line event is = (
+pub line_spelt : (width : ℕ) (line : List ℕ) (event : Event) → event_of width line ≡ Some event → SpellsEvent width line event
+line_spelt width line event is = (
   slice_split (λ byte. byte == 32) line,
   sym (join_with_byte-slice_split 32 line),
-  words_spelt (slice_split (λ byte. byte == 32) line) event is,
+  words_spelt width (slice_split (λ byte. byte == 32) line) event is,
 )
 
 -- ---- scripts
 
-pub lines_spelt : (text_lines : List (List ℕ)) (events : List Event) → map event_of text_lines ≡ map Some events
-    → AllZip SpellsEvent text_lines events
-lines_spelt [] [] read = tt
-lines_spelt [] (event ∷ events) read = absurd (cc)
-lines_spelt (line ∷ more) [] read = absurd (cc)
-lines_spelt (line ∷ more) (event ∷ events) read =
-    let here : event_of line ≡ Some event = cc in
-    let rest : map event_of more ≡ map Some events = cc in
-    (line_spelt line event here, lines_spelt more events rest)
+pub lines_spelt : (width : ℕ) (text_lines : List (List ℕ)) (events : List Event) → map (event_of width) text_lines ≡ map Some events
+    → AllZip (SpellsEvent width) text_lines events
+lines_spelt width [] [] read = tt
+lines_spelt width [] (event ∷ events) read = absurd (cc)
+lines_spelt width (line ∷ more) [] read = absurd (cc)
+lines_spelt width (line ∷ more) (event ∷ events) read =
+    let here : event_of width line ≡ Some event = cc in
+    let rest : map (event_of width) more ≡ map Some events = cc in
+    (line_spelt width line event here, lines_spelt width more events rest)
 
-pub no_other : (text_lines : List (List ℕ)) (events other : List Event) → map event_of text_lines ≡ map Some events
-    → AllZip SpellsEvent text_lines other → other ≡ events
-no_other [] [] [] read spelt = refl
-no_other [] (event ∷ events) other read spelt = absurd (cc)
-no_other [] [] (event ∷ events) read spelt = absurd spelt
-no_other (line ∷ more) [] other read spelt = absurd (cc)
-no_other (line ∷ more) (event ∷ events) [] read spelt = absurd spelt
-no_other (line ∷ more) (event ∷ events) (another ∷ others) read (here, rest) =
-    let this : event_of line ≡ Some event = cc in
-    let that : event_of line ≡ Some another = line_read line another here in
+pub no_other : (width : ℕ) (text_lines : List (List ℕ)) (events other : List Event) → map (event_of width) text_lines ≡ map Some events
+    → AllZip (SpellsEvent width) text_lines other → other ≡ events
+no_other width [] [] [] read spelt = refl
+no_other width [] (event ∷ events) other read spelt = absurd (cc)
+no_other width [] [] (event ∷ events) read spelt = absurd spelt
+no_other width (line ∷ more) [] other read spelt = absurd (cc)
+no_other width (line ∷ more) (event ∷ events) [] read spelt = absurd spelt
+no_other width (line ∷ more) (event ∷ events) (another ∷ others) read (here, rest) =
+    let this : event_of width line ≡ Some event = cc in
+    let that : event_of width line ≡ Some another = line_read width line another here in
     let same : another ≡ event = cc in
-    let read_on : map event_of more ≡ map Some events = cc in
-    let tail = no_other more events others read_on rest in
+    let read_on : map (event_of width) more ≡ map Some events = cc in
+    let tail = no_other width more events others read_on rest in
     cc
 
 -- a line after those that were read is skipped, or read too
@@ -184,25 +190,25 @@ one_kept seen more line kept =
     filter-append (λ l. not (is_skipped l)) seen (line ∷ more)
     ∙ ap (λ ls. not_skipped seen ++ ls) (cond-true (not (is_skipped line)) _ _ (ap not kept))
 
-pub one_read : (seen : List (List ℕ)) (line : List ℕ) (events : List Event) (event : Event) → is_skipped line ≡ false
-    → event_of line ≡ Some event → map event_of (not_skipped seen) ≡ map Some events
-    → map event_of (not_skipped (seen ++ line ∷ [])) ≡ map Some (events ++ event ∷ [])
-one_read seen line events event kept is read =
-    ap (map event_of) (one_kept seen [] line kept) ∙ map-append event_of (not_skipped seen) (line ∷ [])
-    ∙ ap (λ before. before ++ event_of line ∷ []) read ∙ ap (λ e. map Some events ++ e ∷ []) is
+pub one_read : (width : ℕ) (seen : List (List ℕ)) (line : List ℕ) (events : List Event) (event : Event) → is_skipped line ≡ false
+    → event_of width line ≡ Some event → map (event_of width) (not_skipped seen) ≡ map Some events
+    → map (event_of width) (not_skipped (seen ++ line ∷ [])) ≡ map Some (events ++ event ∷ [])
+one_read width seen line events event kept is read =
+    ap (map (event_of width)) (one_kept seen [] line kept) ∙ map-append (event_of width) (not_skipped seen) (line ∷ [])
+    ∙ ap (λ before. before ++ event_of width line ∷ []) read ∙ ap (λ e. map Some events ++ e ∷ []) is
     ∙ sym (map-append Some events (event ∷ []))
 
 -- a line that is not skipped and spells no event is a fault
-line_fault : (text : List ℕ) (seen more : List (List ℕ)) (line : List ℕ) → lines text ≡ seen ++ line ∷ more → is_skipped line ≡ false
-    → event_of line ≡ None → IsFaultOfScript text Line
-line_fault text seen more line cut kept none =
+line_fault : (width : ℕ) (text : List ℕ) (seen more : List (List ℕ)) (line : List ℕ) → lines text ≡ seen ++ line ∷ more → is_skipped line ≡ false
+    → event_of width line ≡ None → IsFaultOfScript width text Line
+line_fault width text seen more line cut kept none =
     let there = Contains-append_right (not_skipped seen) (line ∷ not_skipped more) line (0, omega arith, refl) in
     let lines_are : event_lines text ≡ not_skipped seen ++ line ∷ not_skipped more = ap not_skipped cut ∙ one_kept seen more line kept in
-    subst (Any (λ l. (event : Event) → SpellsEvent l event → ⊥)) (sym lines_are)
-    (there.0, line, there.1, there.2, λ event spelt. let some : event_of line ≡ Some event = line_read line event spelt in cc)
+    subst (Any (λ l. (event : Event) → SpellsEvent width l event → ⊥)) (sym lines_are)
+    (there.0, line, there.1, there.2, λ event spelt. let some : event_of width line ≡ Some event = line_read width line event spelt in cc)
 
-pub fault_told : (text : List ℕ) (seen more : List (List ℕ)) (line : List ℕ) (error : ScriptError) → lines text ≡ seen ++ line ∷ more
+pub fault_told : (width : ℕ) (text : List ℕ) (seen more : List (List ℕ)) (line : List ℕ) (error : ScriptError) → lines text ≡ seen ++ line ∷ more
     → is_skipped line ≡ false
-    → (error ≡ Memory) ⊎ ((error ≡ Line) × (event_of line ≡ None)) → IsFaultOfScript text error
-fault_told text seen more line error cut kept (inl memory) = rw memory tt
-fault_told text seen more line error cut kept (inr (is, none)) = rw is (line_fault text seen more line cut kept none)
+    → (error ≡ Memory) ⊎ ((error ≡ Line) × (event_of width line ≡ None)) → IsFaultOfScript width text error
+fault_told width text seen more line error cut kept (inl memory) = rw memory tt
+fault_told width text seen more line error cut kept (inr (is, none)) = rw is (line_fault width text seen more line cut kept none)

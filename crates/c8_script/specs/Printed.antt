@@ -18,7 +18,7 @@ use Rattle.c8_spectator.specs.Errors.{number_of as watch_number_of}
 use Rattle.c8_wire.specs.Errors.{number_of as wire_number_of}
 use Rattle.c8_world.specs.declared.answer.Answer.{Answer}
 use Rattle.c8_world.specs.declared.answer.Answer.TheVariants.{Opened, Up, Ticked, Said, Delivered, NoSuch, Left, Decided, Checked, Watched}
-use Rattle.c8_world.specs.declared.answer.Answer.TheVariants.{Spoken, Anew, Down, Stopped}
+use Rattle.c8_world.specs.declared.answer.Answer.TheVariants.{Spoken, Anew, Wiped, Down, Stopped}
 use Rattle.c8_world.specs.declared.answer.Counts.{Counts}
 use Rattle.c8_world.specs.declared.ends.Tally.{Tally}
 use Rattle.c8_script.specs.declared.watched.Watched.{Watched as RowsTold}
@@ -94,6 +94,7 @@ answer_text name (Watched (Ok taken)) = line (taken_word taken ∷ [])
 answer_text name (Watched (Err error)) = not_taken_text name error
 answer_text name (Spoken posted) = line (codes "datagram " ∷ decimal posted.number ∷ codes " length " ∷ decimal posted.length ∷ [])
 answer_text name Anew = line (codes "fresh" ∷ [])
+answer_text name Wiped = line (codes "wiped" ∷ [])
 answer_text name Down = line (codes "down" ∷ [])
 answer_text name Stopped = line (codes "stopped" ∷ [])
 

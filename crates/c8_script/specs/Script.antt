@@ -4,14 +4,14 @@ use Rattle.std.specs.List.{AllZip, Any, join_with_byte, slice_get}
 use Rattle.std.specs.Str.Lines.{lines}
 use Rattle.c8_game.specs.Fields.{is_decimal, decimal_number}
 use Rattle.c8_game.specs.GameText.{is_skipped}
-use Rattle.c8_game.specs.KeysText.{is_keys_text, keys_number}
-use Rattle.c8_game.specs.declared.row.Keys.{Keys}
+use Rattle.c8_game.specs.Inputs.{is_input_text, input_number}
 use Rattle.c8_game.specs.declared.row.Player.{Player}
 use Rattle.c8_wire.specs.declared.watcher.Watcher.{Watcher}
+use Rattle.c8_news.specs.News.{no_signs}
 use Rattle.c8_peer.specs.declared.kind.Kind.{Kind}
-use Rattle.c8_peer.specs.declared.kind.Kind.TheVariants.{Hello, Welcome, Data, Freeze, Frozen, Cut}
+use Rattle.c8_peer.specs.declared.kind.Kind.TheVariants.{Hello, Welcome, Data, Freeze, Frozen, Cut, Pass, Refused}
 use Rattle.c8_world.specs.declared.event.Act.{Act}
-use Rattle.c8_world.specs.declared.event.Act.TheVariants.{Open, Tick, Say, Give, Leave, Decide, Check, Show, Hear, Seen, Fresh}
+use Rattle.c8_world.specs.declared.event.Act.TheVariants.{Open, Tick, Say, Give, Leave, Decide, Check, Show, Hear, Seen, Fresh, Wipe}
 use Rattle.c8_world.specs.declared.event.Event.{Event}
 use Rattle.c8_world.specs.declared.event.Event.TheVariants.{Do, Stop, Fail}
 use Rattle.c8_script.specs.declared.error.ScriptError.{ScriptError}
@@ -25,9 +25,9 @@ player_word player = (48 + player.number) ∷ []
 abbrev pub watcher_word : Watcher → List ℕ
 watcher_word watcher = (48 + watcher.number) ∷ []
 
--- four hexadecimal digits spell a key set
-abbrev pub SpellsKeys : List ℕ → Keys → Type 0
-SpellsKeys word keys = (is_keys_text word ≡ true) × (keys_number word ≡ keys.0)
+-- two hexadecimal digits for each byte of the game's width spell an input
+abbrev pub SpellsInput : ℕ → List ℕ → ℕ → Type 0
+SpellsInput width word input = (is_input_text width word ≡ true) × (input_number width word ≡ input)
 
 -- a decimal of 1 to 20 digits spells its number, if that fits in 64 bits
 abbrev pub SpellsNumber : List ℕ → ℕ → Type 0
@@ -37,32 +37,47 @@ SpellsNumber word number = (is_decimal word ≡ true) × (decimal_number word �
 abbrev pub kind_words : Kind → List (List ℕ)
 kind_words Hello = codes "hello" ∷ []
 kind_words Welcome = codes "welcome" ∷ []
-kind_words Data = codes "data" ∷ []
+kind_words (Data signs) = codes "data" ∷ []
 kind_words (Freeze leaver) = codes "freeze" ∷ player_word leaver ∷ []
 kind_words (Frozen leaver) = codes "frozen" ∷ player_word leaver ∷ []
 kind_words (Cut leaver) = codes "cut" ∷ player_word leaver ∷ []
+kind_words (Pass player) = codes "pass" ∷ player_word player ∷ []
+kind_words Refused = codes "refused" ∷ []
+
+-- a DATA of a script has no signs: no event of a world depends on them
+abbrev pub HasNoSigns : Kind → Type 0
+HasNoSigns Hello = Unit {0}
+HasNoSigns Welcome = Unit {0}
+HasNoSigns (Data signs) = signs ≡ no_signs
+HasNoSigns (Freeze leaver) = Unit {0}
+HasNoSigns (Frozen leaver) = Unit {0}
+HasNoSigns (Cut leaver) = Unit {0}
+HasNoSigns (Pass player) = Unit {0}
+HasNoSigns Refused = Unit {0}
 
 -- the words spell the act
-abbrev pub SpellsAct : List (List ℕ) → Act → Type 0
-SpellsAct words (Open player) = words ≡ codes "open" ∷ player_word player ∷ []
-SpellsAct words (Tick player keys) =
-    (digits : List ℕ) × (words ≡ codes "tick" ∷ player_word player ∷ digits ∷ []) × SpellsKeys digits keys
-SpellsAct words (Say player to what) = words ≡ codes "say" ∷ player_word player ∷ player_word to ∷ kind_words what
-SpellsAct words (Give number player) =
+abbrev pub SpellsAct : ℕ → List (List ℕ) → Act → Type 0
+SpellsAct width words (Open player) = words ≡ codes "open" ∷ player_word player ∷ []
+SpellsAct width words (Tick player input) =
+    (digits : List ℕ) × (words ≡ codes "tick" ∷ player_word player ∷ digits ∷ []) × SpellsInput width digits input
+SpellsAct width words (Say player to what) =
+    (words ≡ codes "say" ∷ player_word player ∷ player_word to ∷ kind_words what) × HasNoSigns what
+SpellsAct width words (Give number player) =
     (digits : List ℕ) × (words ≡ codes "give" ∷ digits ∷ player_word player ∷ []) × SpellsNumber digits number
-SpellsAct words (Leave leaver) = words ≡ codes "leave" ∷ player_word leaver ∷ []
-SpellsAct words (Decide leaver) = words ≡ codes "decide" ∷ player_word leaver ∷ []
-SpellsAct words (Check player) = words ≡ codes "check" ∷ player_word player ∷ []
-SpellsAct words (Show watcher) = words ≡ codes "say" ∷ codes "1" ∷ watcher_word watcher ∷ codes "show" ∷ []
-SpellsAct words (Hear number watcher) =
+SpellsAct width words (Leave leaver) = words ≡ codes "leave" ∷ player_word leaver ∷ []
+SpellsAct width words (Decide leaver) = words ≡ codes "decide" ∷ player_word leaver ∷ []
+SpellsAct width words (Check player) = words ≡ codes "check" ∷ player_word player ∷ []
+SpellsAct width words (Show watcher) = words ≡ codes "say" ∷ codes "1" ∷ watcher_word watcher ∷ codes "show" ∷ []
+SpellsAct width words (Hear number watcher) =
     (digits : List ℕ) × (words ≡ codes "give" ∷ digits ∷ watcher_word watcher ∷ []) × SpellsNumber digits number
-SpellsAct words (Seen watcher) = words ≡ codes "say" ∷ watcher_word watcher ∷ codes "1" ∷ codes "seen" ∷ []
-SpellsAct words (Fresh watcher) = words ≡ codes "fresh" ∷ watcher_word watcher ∷ []
+SpellsAct width words (Seen watcher) = words ≡ codes "say" ∷ watcher_word watcher ∷ codes "1" ∷ codes "seen" ∷ []
+SpellsAct width words (Fresh watcher) = words ≡ codes "fresh" ∷ watcher_word watcher ∷ []
+SpellsAct width words (Wipe player) = words ≡ codes "wipe" ∷ player_word player ∷ []
 
--- a stop or a failure cannot hold an act of a watcher, which has no disk
+-- a stop or a failure cannot hold an act of a watcher, which has no disk, or the loss of a journal, which calls none
 abbrev pub may_be_held : Act → Bool
 may_be_held (Open player) = true
-may_be_held (Tick player keys) = true
+may_be_held (Tick player input) = true
 may_be_held (Say player to what) = true
 may_be_held (Give number player) = true
 may_be_held (Leave leaver) = true
@@ -72,21 +87,22 @@ may_be_held (Show watcher) = true
 may_be_held (Hear number watcher) = false
 may_be_held (Seen watcher) = false
 may_be_held (Fresh watcher) = false
+may_be_held (Wipe player) = false
 
 -- the words spell the event: an act, a stop with its two numbers and the words of the act inside it, or a failure with
 -- its number and those words
-abbrev pub WordsSpell : List (List ℕ) → Event → Type 0
-WordsSpell words (Do act) = SpellsAct words act
-WordsSpell words (Stop act calls pick) =
+abbrev pub WordsSpell : ℕ → List (List ℕ) → Event → Type 0
+WordsSpell width words (Do act) = SpellsAct width words act
+WordsSpell width words (Stop act calls pick) =
     (of_calls of_pick : List ℕ) × (of_act : List (List ℕ)) × (words ≡ codes "stop" ∷ of_calls ∷ of_pick ∷ of_act)
-    × SpellsNumber of_calls calls × SpellsNumber of_pick pick × SpellsAct of_act act × (may_be_held act ≡ true)
-WordsSpell words (Fail act calls) =
+    × SpellsNumber of_calls calls × SpellsNumber of_pick pick × SpellsAct width of_act act × (may_be_held act ≡ true)
+WordsSpell width words (Fail act calls) =
     (of_calls : List ℕ) × (of_act : List (List ℕ)) × (words ≡ codes "fail" ∷ of_calls ∷ of_act) × SpellsNumber of_calls calls
-    × SpellsAct of_act act × (may_be_held act ≡ true)
+    × SpellsAct width of_act act × (may_be_held act ≡ true)
 
 -- a line is the words of an event, with one space between two words and nothing else
-abbrev pub SpellsEvent : List ℕ → Event → Type 0
-SpellsEvent line event = (words : List (List ℕ)) × (line ≡ join_with_byte 32 words) × WordsSpell words event
+abbrev pub SpellsEvent : ℕ → List ℕ → Event → Type 0
+SpellsEvent width line event = (words : List (List ℕ)) × (line ≡ join_with_byte 32 words) × WordsSpell width words event
 
 -- all lines but the empty ones and the comments
 abbrev pub not_skipped : List (List ℕ) → List (List ℕ)
@@ -96,25 +112,25 @@ abbrev pub event_lines : List ℕ → List (List ℕ)
 event_lines text = not_skipped (lines text)
 
 -- each of these lines spells one of the events, in order
-abbrev pub SpellsScript : List ℕ → List Event → Type 0
-SpellsScript text events = AllZip SpellsEvent (event_lines text) events
+abbrev pub SpellsScript : ℕ → List ℕ → List Event → Type 0
+SpellsScript width text events = AllZip (SpellsEvent width) (event_lines text) events
 
 -- one of these lines spells no event; or memory ran out
-abbrev pub IsFaultOfScript : List ℕ → ScriptError → Type 0
-IsFaultOfScript text Line = Any (λ line. (event : Event) → SpellsEvent line event → ⊥) (event_lines text)
-IsFaultOfScript text Memory = Unit {0}
+abbrev pub IsFaultOfScript : ℕ → List ℕ → ScriptError → Type 0
+IsFaultOfScript width text Line = Any (λ line. (event : Event) → SpellsEvent width line event → ⊥) (event_lines text)
+IsFaultOfScript width text Memory = Unit {0}
 
 -- a faulty line: it is not skipped, and spells no event
-abbrev pub IsNoEventLine : List ℕ → Type 0
-IsNoEventLine line = (is_skipped line ≡ false) × ((event : Event) → SpellsEvent line event → ⊥)
+abbrev pub IsNoEventLine : ℕ → List ℕ → Type 0
+IsNoEventLine width line = (is_skipped line ≡ false) × ((event : Event) → SpellsEvent width line event → ⊥)
 
 -- no line of the text is faulty
-abbrev pub AreEventLines : List ℕ → Type 0
-AreEventLines text = (place : ℕ) → IfSome (slice_get (lines text) place) (λ line. IsNoEventLine line → ⊥)
+abbrev pub AreEventLines : ℕ → List ℕ → Type 0
+AreEventLines width text = (place : ℕ) → IfSome (slice_get (lines text) place) (λ line. IsNoEventLine width line → ⊥)
 
 -- the first faulty line of the text is at this place; the text's first line is at 0
-pub record IsFirstNoEvent (text : List ℕ) (place : ℕ) : Type 0 where
+pub record IsFirstNoEvent (width : ℕ) (text : List ℕ) (place : ℕ) : Type 0 where
   pub line : List ℕ
   pub here : slice_get (lines text) place ≡ Some line
-  pub no_event : IsNoEventLine line
-  pub least : (earlier : ℕ) → earlier < place → IfSome (slice_get (lines text) earlier) (λ before. IsNoEventLine before → ⊥)
+  pub no_event : IsNoEventLine width line
+  pub least : (earlier : ℕ) → earlier < place → IfSome (slice_get (lines text) earlier) (λ before. IsNoEventLine width before → ⊥)

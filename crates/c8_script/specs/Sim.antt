@@ -80,12 +80,12 @@ IsCutShort rules events unfinished = (unfinished.error ≡ Script scripts.Memory
 
 -- the first text spells the rules of a game, and the second these events
 abbrev pub SpellMatch : List ℕ → List ℕ → Rules → List Event → Type 0
-SpellMatch game script rules events = Spells game rules × SpellsScript script events
+SpellMatch game script rules events = Spells game rules × SpellsScript rules.width script events
 
 -- the first text has this first fault; or it spells a game and the second text has this fault; or memory ran out
 abbrev pub IsRefusalOfSim : List ℕ → List ℕ → SimError → Type 0
 IsRefusalOfSim game script (Game error) = (error ≡ games.Memory) ⊎ IsRefused game error
-IsRefusalOfSim game script (Script error) = (rules : Rules) × Spells game rules × IsFaultOfScript script error
+IsRefusalOfSim game script (Script error) = (rules : Rules) × Spells game rules × IsFaultOfScript rules.width script error
 
 -- A text is refused and there are no answers; or both spell a match, and memory ran out during it.
 abbrev pub IsUnfinished : List ℕ → List ℕ → Unfinished → Type 0

@@ -63,6 +63,7 @@ fn write_answer<W: Write>(out: &mut W, answer: Answer) -> io::Result<()>
             writeln!(out, "datagram {number} length {length}")
         }
         Answer::Anew => writeln!(out, "fresh"),
+        Answer::Wiped => writeln!(out, "wiped"),
         Answer::Down => writeln!(out, "down"),
         Answer::Stopped => writeln!(out, "stopped"),
     }

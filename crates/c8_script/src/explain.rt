@@ -21,7 +21,10 @@ pub(crate) fn site_if<'a>(
         SimError::Game(GameError::Memory) => Site::File(game.file),
         SimError::Game(_) => site_at(game, Game::faulty_line(alloc, game.bytes)),
         SimError::Script(ScriptError::Memory) => Site::File(script.file),
-        SimError::Script(ScriptError::Line) => site_at(script, faulty_event(alloc, script.bytes)),
+        SimError::Script(ScriptError::Line) => match Game::read(alloc, game.bytes) {
+            Ok(game) => site_at(script, faulty_event(alloc, script.bytes, game.width())),
+            Err(_) => Site::File(script.file),
+        },
     })
 }
 

@@ -14,7 +14,7 @@ use crate::rig_arguments::{Asked, asked_of};
 use crate::rig_script::write_script;
 use crate::rig_watch::Counts;
 use c8_command::{Part, Refusal, Site, Status, Text, TextError, is_same_file, read_file};
-use c8_game::{Game, GameError};
+use c8_game::{Game, GameError, Width};
 use c8_rig::{Gathering, Note};
 use c8_texts::game_site;
 use clap::ArgMatches;
@@ -186,7 +186,7 @@ where
     match gathering {
         Gathering::Gathered { log, agree, .. } => {
             if let Some(script) = script
-                && let Err(error) = write_to(rt.alloc(), script, &log)
+                && let Err(error) = write_to(rt.alloc(), script, &log, game.width())
             {
                 return Err(error);
             }
@@ -197,12 +197,17 @@ where
 }
 
 /// Writes a log as a script.
-fn write_to<S: Write>(alloc: Global, script: &mut S, log: &[Note]) -> Result<(), RigError>
+fn write_to<S: Write>(
+    alloc: Global,
+    script: &mut S,
+    log: &[Note],
+    width: Width,
+) -> Result<(), RigError>
     ensures { IfErr result (λ error. (text : List ℕ) (turns : ℕ) → IsGame text
         → IsOutcome text turns true (Err error)) }
 {
     let mut text = Vec::new(alloc);
-    if write_script(&mut text, log).is_err() {
+    if write_script(&mut text, log, width).is_err() {
         return Err(RigError::Memory);
     }
     script.write_all(&text).map_err(|_| RigError::Script)

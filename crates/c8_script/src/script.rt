@@ -11,24 +11,24 @@ mod words;
 
 use crate::error::ScriptError;
 use crate::script::words::event_in;
-use c8_game::Lines;
+use c8_game::{Lines, Width};
 use c8_world::Event;
 use std::alloc::{AllocError, Global};
 
-/// Reads the events of a script, one a line. Empty lines and lines that begin with `#` are skipped. `Line` if a line
+/// Reads the events of a script, one a line, for a game whose inputs have this width. Empty lines and lines that begin with `#` are skipped. `Line` if a line
 /// spells no event; `Memory` if memory ran out.
-pub fn read_script(alloc: Global, text: &[u8]) -> Result<Vec<Event>, ScriptError>
+pub fn read_script(alloc: Global, text: &[u8], width: Width) -> Result<Vec<Event>, ScriptError>
     ensures spelled { MatchResult result
-        (λ events. SpellsScript text.now events.items) (IsFaultOfScript text.now) }
+        (λ events. SpellsScript width.bytes text.now events.items) (IsFaultOfScript width.bytes text.now) }
     ensures no_other { IfOk result (λ events.
-        (other : List Event) → SpellsScript text.now other → other ≡ events.items) }
+        (other : List Event) → SpellsScript width.bytes text.now other → other ≡ events.items) }
 {
     let mut events = Vec::new(alloc);
     for line in Lines::new(text) {
         if is_skipped(line) {
             continue;
         }
-        let event = event_of(alloc, line)?;
+        let event = event_of(alloc, line, width)?;
         let Ok(()) = events.push(event) else {
             return Err(ScriptError::Memory);
         };
@@ -38,13 +38,13 @@ pub fn read_script(alloc: Global, text: &[u8]) -> Result<Vec<Event>, ScriptError
 
 /// Returns the place of the first line of a script that is not skipped and spells no event; the text's first line is at
 /// 0. `None` if there is no such line. The error is that memory ran out.
-pub fn faulty_event(alloc: Global, text: &[u8]) -> Result<Option<usize>, AllocError>
+pub fn faulty_event(alloc: Global, text: &[u8], width: Width) -> Result<Option<usize>, AllocError>
     ensures { IfOk result (λ found. MatchOption found
-        (AreEventLines text.now) (IsFirstNoEvent text.now)) }
+        (AreEventLines width.bytes text.now) (IsFirstNoEvent width.bytes text.now)) }
 {
     let mut place = 0;
     for line in Lines::new(text) {
-        if !is_event_line(alloc, line)? {
+        if !is_event_line(alloc, line, width)? {
             return Ok(Some(place));
         }
         place += 1;
@@ -53,13 +53,13 @@ pub fn faulty_event(alloc: Global, text: &[u8]) -> Result<Option<usize>, AllocEr
 }
 
 /// Returns whether a line is skipped or spells an event.
-fn is_event_line(alloc: Global, line: &[u8]) -> Result<bool, AllocError>
-    ensures { IfOk result (λ is. is ≡ is_event_line line.now) }
+fn is_event_line(alloc: Global, line: &[u8], width: Width) -> Result<bool, AllocError>
+    ensures { IfOk result (λ is. is ≡ is_event_line width.bytes line.now) }
 {
     if is_skipped(line) {
         return Ok(true);
     }
-    match event_of(alloc, line) {
+    match event_of(alloc, line, width) {
         Ok(_) => Ok(true),
         Err(ScriptError::Line) => Ok(false),
         Err(ScriptError::Memory) => Err(AllocError),
@@ -77,10 +77,10 @@ fn is_skipped(line: &[u8]) -> bool
 }
 
 /// Returns the event that a line spells, by the words between its spaces.
-fn event_of(alloc: Global, line: &[u8]) -> Result<Event, ScriptError>
-    ensures { MatchResult result (λ event. event_of line.now ≡ Some event)
-        (λ error. (error ≡ Memory) ⊎ ((error ≡ Line) × (event_of line.now ≡ None))) }
+fn event_of(alloc: Global, line: &[u8], width: Width) -> Result<Event, ScriptError>
+    ensures { MatchResult result (λ event. event_of width.bytes line.now ≡ Some event)
+        (λ error. (error ≡ Memory) ⊎ ((error ≡ Line) × (event_of width.bytes line.now ≡ None))) }
 {
     let words: Vec<&[u8]> = line.split(|byte| *byte == b' ').collect(alloc)?;
-    event_in(&words).ok_or(ScriptError::Line)
+    event_in(&words, width).ok_or(ScriptError::Line)
 }

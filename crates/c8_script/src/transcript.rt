@@ -63,11 +63,11 @@ pub fn play_script(alloc: Global, game: &[u8], script: &[u8]) -> Result<Transcri
 /// Returns the game and the events that the texts spell, or why one of them is refused; the game's text comes first.
 fn read(alloc: Global, game: &[u8], script: &[u8]) -> Result<(Game, Vec<Event>), SimError>
     ensures { MatchResult result
-        (λ read. Spells game.now read.0 × SpellsScript script.now read.1.items)
+        (λ read. Spells game.now read.0 × SpellsScript read.0.width script.now read.1.items)
         (IsRefusalOfSim game.now script.now) }
 {
     let game = Game::read(alloc, game).map_err(SimError::Game)?;
-    let events = read_script(alloc, script).map_err(SimError::Script)?;
+    let events = read_script(alloc, script, game.width()).map_err(SimError::Script)?;
     Ok((game, events))
 }
 

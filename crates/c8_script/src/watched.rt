@@ -57,7 +57,8 @@ fn is_naming(event: Event, watcher: Watcher) -> bool
             | Act::Give(_, _)
             | Act::Leave(_)
             | Act::Decide(_)
-            | Act::Check(_) => false,
+            | Act::Check(_)
+            | Act::Wipe(_) => false,
         },
     }
 }

@@ -8,9 +8,10 @@ use Rattle.c8_refusals.specs.declared.error.Unsayable.{Unsayable}
 use Rattle.c8_wire.specs.Packet.{Packet}
 use Rattle.c8_peer.specs.State.{Call, Say, Show, Saying, Said}
 use Rattle.c8_peer.specs.Steps.{Stepped}
-use Rattle.c8_peer.specs.Peer.{PeerValue, IsStep, known_by}
+use Rattle.c8_peer.specs.Peer.{PeerValue, IsStep}
 use Rattle.c8_session.specs.Due.{due_to, has, shown_at, due_at, is_packet, is_sayable, said_if_due, said_at, said_from}
 use Rattle.c8_session.specs.Due.{places_of_player, places_of_players, places_of_turn, first_watcher, no_place}
+use Rattle.c8_session.specs.Notes.{Notes}
 use Rattle.c8_session.specs.Turns.{IsSayingTo}
 
 -- ---- what is due at a place
@@ -31,20 +32,14 @@ pub speaks_on : (old place : ℕ) → place < places_of_turn → old ≡ place �
 speaks_on old place low same =
     rw (ne_eqb (place + 1) no_place (λ e. omega (arith, low, e)), ne_eqb old no_place (λ e. omega (arith, low, same, e))) refl
 
-back : (n : ℕ) → (n + 1) - 1 ≡ n
-back n = omega arith
-
 module _ {D : Type 0} (p : PeerValue D) where
-  pub due_is : (greeters shown : List Bool) (place to : ℕ) (what : Saying) → place < places_of_players
+  pub due_is : (notes : Notes) (place to : ℕ) (what : Saying) → place < places_of_players
       → to ≡ place / places_of_player + 1 → place / places_of_player + 1 ≢ p.me
-      → Some what ≡ due_to p.me (known_by p) p.state.memory (has greeters (to - 1)) to (place % places_of_player)
-      → due_at p greeters shown place ≡ Some (Say to what)
-  due_is greeters shown place to what low same other due =
+      → Some what ≡ due_to notes p to (place % places_of_player)
+      → due_at notes p place ≡ Some (Say to what)
+  due_is notes place to what low same other due =
       let player = place / places_of_player in
-      let there = subst (λ (at : ℕ). Some what
-      ≡ due_to p.me (known_by p) p.state.memory (has greeters at) (player + 1) (place % places_of_player)) (back player)
-      (subst (λ (one : ℕ). Some what
-      ≡ due_to p.me (known_by p) p.state.memory (has greeters (one - 1)) one (place % places_of_player)) same due) in
+      let there = subst (λ (one : ℕ). Some what ≡ due_to notes p one (place % places_of_player)) same due in
       rw (lt-ltb place places_of_players low, ne_eqb (player + 1) p.me other, same) (ap (option_map (Say (player + 1))) (sym there))
 
   -- ---- whether it is said
@@ -69,29 +64,29 @@ module _ {D : Type 0} (p : PeerValue D) where
 
   -- ---- the places of a turn
 
-  module _ (greeters shown : List Bool) where
+  module _ (notes : Notes) where
     pub at_place : (n place : ℕ) → n ≡ place
-        → said_from p greeters shown n (places_of_turn - n) ≡ said_from p greeters shown place (places_of_turn - place)
-    at_place n place same = ap (λ (m : ℕ). said_from p greeters shown m (places_of_turn - m)) same
+        → said_from notes p n (places_of_turn - n) ≡ said_from notes p place (places_of_turn - place)
+    at_place n place same = ap (λ (m : ℕ). said_from notes p m (places_of_turn - m)) same
 
     from_here : (place n m : ℕ) → n ≡ suc m
-        → said_from p greeters shown place n ≡ said_at p greeters shown place ++ said_from p greeters shown (place + 1) m
+        → said_from notes p place n ≡ said_at notes p place ++ said_from notes p (place + 1) m
     from_here place n m is = rw is refl
 
     -- nothing is said at a place
-    pub passes : (place : ℕ) → place < places_of_turn → said_at p greeters shown place ≡ []
-        → said_from p greeters shown place (places_of_turn - place) ≡ said_from p greeters shown (place + 1) (places_of_turn - (place + 1))
+    pub passes : (place : ℕ) → place < places_of_turn → said_at notes p place ≡ []
+        → said_from notes p place (places_of_turn - place) ≡ said_from notes p (place + 1) (places_of_turn - (place + 1))
     passes place low none =
         from_here place (places_of_turn - place) (places_of_turn - (place + 1)) (omega (arith, low))
-        ∙ ap (λ (here : List Call). here ++ said_from p greeters shown (place + 1) (places_of_turn - (place + 1))) none
+        ∙ ap (λ (here : List Call). here ++ said_from notes p (place + 1) (places_of_turn - (place + 1))) none
 
     -- one datagram is said at a place
-    pub speaks : (place : ℕ) (call : Call) → place < places_of_turn → said_at p greeters shown place ≡ call ∷ []
-        → said_from p greeters shown place (places_of_turn - place)
-        ≡ call ∷ said_from p greeters shown (place + 1) (places_of_turn - (place + 1))
+    pub speaks : (place : ℕ) (call : Call) → place < places_of_turn → said_at notes p place ≡ call ∷ []
+        → said_from notes p place (places_of_turn - place)
+        ≡ call ∷ said_from notes p (place + 1) (places_of_turn - (place + 1))
     speaks place call low one =
         from_here place (places_of_turn - place) (places_of_turn - (place + 1)) (omega (arith, low))
-        ∙ ap (λ (here : List Call). here ++ said_from p greeters shown (place + 1) (places_of_turn - (place + 1))) one
+        ∙ ap (λ (here : List Call). here ++ said_from notes p (place + 1) (places_of_turn - (place + 1))) one
 
     -- ---- how much is said
 
@@ -103,9 +98,9 @@ module _ {D : Type 0} (p : PeerValue D) where
     one_at_most None = omega arith
     one_at_most (Some call) = few_if (is_sayable p call) call
 
-    pub few : (place n : ℕ) → length (said_from p greeters shown place n) ≤ n
+    pub few : (place n : ℕ) → length (said_from notes p place n) ≤ n
     few place zero = omega arith
     few place (suc n) =
-        let here = said_at p greeters shown place in
-        let rest = said_from p greeters shown (place + 1) n in
-        omega (arith, length-append here rest, one_at_most (due_at p greeters shown place), few (place + 1) n)
+        let here = said_at notes p place in
+        let rest = said_from notes p (place + 1) n in
+        omega (arith, length-append here rest, one_at_most (due_at notes p place), few (place + 1) n)

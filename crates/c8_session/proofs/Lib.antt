@@ -1,3 +1,4 @@
 -- What a turn says; begin at `DueLemmas`.
 pub mod DueLemmas
 pub mod ShowingLemmas
+pub mod NobodyLemmas

@@ -11,6 +11,7 @@ use Rattle.c8_peer.specs.Saying.{show, show_packet}
 use Rattle.c8_peer.specs.Peer.{PeerValue, IsSaid, known_by}
 use Rattle.c8_session.specs.Due.{has, is_packet, is_sayable, said_if_due, said_at, said_from, said_in_turn, shown_at, first_watcher}
 use Rattle.c8_session.specs.Due.{places_of_players}
+use Rattle.c8_session.specs.Notes.{Notes}
 use Rattle.c8_session.specs.Showing.{said_to_players, said_to_watchers, show_once, is_open}
 
 -- ---- the answer to SHOW
@@ -71,32 +72,32 @@ module _ {D : Type 0} (p : PeerValue D) where
   said_show watcher false true is = refl
   said_show watcher false false is = refl
 
-  module _ (greeters shown : List Bool) where
-    at_watcher : (place : ℕ) → said_if_due p (shown_at shown place) ≡ (if may_show then show_once shown place else [])
-    at_watcher place = said_show (first_watcher + place) (has shown place) may_show (show_sayable (first_watcher + place))
+  module _ (notes : Notes) where
+    at_watcher : (place : ℕ) → said_if_due p (shown_at notes.shown place) ≡ (if may_show then show_once notes.shown place else [])
+    at_watcher place = said_show (first_watcher + place) (has notes.shown place) may_show (show_sayable (first_watcher + place))
 
     -- what is said at some places, and then at more
-    split : (place n m : ℕ) → said_from p greeters shown place (n + m)
-        ≡ said_from p greeters shown place n ++ said_from p greeters shown (place + n) m
+    split : (place n m : ℕ) → said_from notes p place (n + m)
+        ≡ said_from notes p place n ++ said_from notes p (place + n) m
     split place zero m =
         let none : 0 + m ≡ m = omega arith in
         let here : place ≡ place + 0 = omega arith in
-        ap (λ (k : ℕ). said_from p greeters shown place k) none ∙ ap (λ (at : ℕ). said_from p greeters shown at m) here
+        ap (λ (k : ℕ). said_from notes p place k) none ∙ ap (λ (at : ℕ). said_from notes p at m) here
     split place (suc n) m =
-        let here = said_at p greeters shown place in
+        let here = said_at notes p place in
         let all : suc n + m ≡ suc (n + m) = omega arith in
         let next : (place + 1) + n ≡ place + suc n = omega arith in
-        ap (λ (k : ℕ). said_from p greeters shown place k) all
+        ap (λ (k : ℕ). said_from notes p place k) all
         ∙ ap (λ (l : List Call). here ++ l) (split (place + 1) n m)
-        ∙ sym (append_assoc here (said_from p greeters shown (place + 1) n) (said_from p greeters shown ((place + 1) + n) m))
-        ∙ ap (λ (at : ℕ). (here ++ said_from p greeters shown (place + 1) n) ++ said_from p greeters shown at m) next
+        ∙ sym (append_assoc here (said_from notes p (place + 1) n) (said_from notes p ((place + 1) + n) m))
+        ∙ ap (λ (at : ℕ). (here ++ said_from notes p (place + 1) n) ++ said_from notes p at m) next
 
-    to_watchers : said_from p greeters shown places_of_players 2 ≡ said_to_watchers p shown
+    to_watchers : said_from notes p places_of_players 2 ≡ said_to_watchers p notes.shown
     to_watchers =
-        ap (λ (l : List Call). said_at p greeters shown places_of_players ++ l) (append-nil (said_at p greeters shown (places_of_players + 1)))
-        ∙ ap (λ (l : List Call). l ++ said_at p greeters shown (places_of_players + 1)) (at_watcher 0)
-        ∙ ap (λ (l : List Call). (if may_show then show_once shown 0 else []) ++ l) (at_watcher 1)
-        ∙ joined may_show (show_once shown 0) (show_once shown 1)
+        ap (λ (l : List Call). said_at notes p places_of_players ++ l) (append-nil (said_at notes p (places_of_players + 1)))
+        ∙ ap (λ (l : List Call). l ++ said_at notes p (places_of_players + 1)) (at_watcher 0)
+        ∙ ap (λ (l : List Call). (if may_show then show_once notes.shown 0 else []) ++ l) (at_watcher 1)
+        ∙ joined may_show (show_once notes.shown 0) (show_once notes.shown 1)
 
-    pub turn_says : said_in_turn p greeters shown ≡ said_to_players p greeters shown ++ said_to_watchers p shown
-    turn_says = split 0 places_of_players 2 ∙ ap (λ (l : List Call). said_to_players p greeters shown ++ l) to_watchers
+    pub turn_says : said_in_turn notes p ≡ said_to_players notes p ++ said_to_watchers p notes.shown
+    turn_says = split 0 places_of_players 2 ∙ ap (λ (l : List Call). said_to_players notes p ++ l) to_watchers

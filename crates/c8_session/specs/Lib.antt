@@ -1,5 +1,5 @@
-pub mod Rest
 pub mod Notes
+pub mod Ending
 pub mod Due
 pub mod Showing
 pub mod Runs

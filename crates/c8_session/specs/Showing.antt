@@ -2,11 +2,12 @@
 use Rattle.std.specs.Prelude.{ℕ, ◌+◌, ◌==◌, ◌&&◌, Bool, true, false, List, [], ◌∷◌, ◌++◌, if◌then◌else◌}
 use Rattle.c8_peer.specs.State.{Call, Show, Mode, Open, Down, Away}
 use Rattle.c8_peer.specs.Peer.{PeerValue}
+use Rattle.c8_session.specs.Notes.{Notes}
 use Rattle.c8_session.specs.Due.{first_watcher, places_of_players, has, said_from}
 
 -- all that a turn says to players, before it says anything to a watcher
-abbrev pub said_to_players : {D : Type 0} → PeerValue D → List Bool → List Bool → List Call
-said_to_players peer greeters shown = said_from peer greeters shown 0 places_of_players
+abbrev pub said_to_players : {D : Type 0} → Notes → PeerValue D → List Call
+said_to_players notes peer = said_from notes peer 0 places_of_players
 
 -- one SHOW to each watcher that is shown the rows, to the one in seat 5 first
 abbrev pub show_once : List Bool → ℕ → List Call

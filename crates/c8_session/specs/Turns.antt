@@ -20,7 +20,7 @@ pub data Doing : Type 0 where
 
 abbrev pub doing : Call → Doing
 doing (Deliver told) = Hears
-doing (Tick keys) = Ticks
+doing (Tick input) = Ticks
 doing (Leave leaver) = Drops
 doing (Decide leaver) = Cuts
 doing Checkpoint = Saves
@@ -65,7 +65,7 @@ abbrev pub addressee : Call → ℕ
 addressee (Say to what) = to
 addressee (Show watcher) = watcher
 addressee (Deliver told) = 0
-addressee (Tick keys) = 0
+addressee (Tick input) = 0
 addressee (Leave leaver) = 0
 addressee (Decide leaver) = 0
 addressee Checkpoint = 0

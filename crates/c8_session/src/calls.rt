@@ -9,21 +9,21 @@ ghost use Rattle.c8_session.specs.Notes.{notes_of, noted};
 
 use crate::session::Session;
 use c8_disk::Disk;
-use c8_game::{Keys, Player};
+use c8_game::{Input, Player};
 use c8_peer::{Check, CheckError, DecideError, Heard, LeaveError, Refused, TickError};
 use c8_wire::{Datagram, view};
 
 impl<'g, D: Disk> Session<'g, D> {
-    /// Enters the own player's next key set, as [`Peer::tick`](c8_peer::Peer::tick) does.
-    pub fn tick(&mut self, keys: Keys) -> Result<(), TickError>
-        ensures answered { IsAnswered D.Disk self.old.peer (Tick keys.0) (Ticked result) self.new.peer }
+    /// Enters the own player's next input, as [`Peer::tick`](c8_peer::Peer::tick) does.
+    pub fn tick(&mut self, input: Input) -> Result<(), TickError>
+        ensures answered { IsAnswered D.Disk self.old.peer (Tick input) (Ticked result) self.new.peer }
         ensures notes { notes_of self.new ≡ notes_of self.old }
     {
-        self.peer.tick(keys)
+        self.peer.tick(input)
     }
 
     /// Processes received bytes, as [`Peer::deliver`](c8_peer::Peer::deliver) does, and notes what they show of their
-    /// sender: a sign of life, a HELLO to answer, a journal that was lost. Frames that the peer simulates again count as
+    /// sender: a sign of life, a HELLO to answer, a life that was refused, a journal that was lost. Frames that the peer simulates again count as
     /// a rollback.
     pub fn deliver(&mut self, bytes: &[u8]) -> Result<Heard, Refused>
         ensures answered { IsAnswered D.Disk self.old.peer (Deliver (read bytes.now)) (Delivered result)

@@ -1,11 +1,12 @@
 //! Facts for callers that belong to no single call.
-ghost use Rattle.std.specs.Prelude.{◌≡◌, ℕ, Bool, List, ◌∷◌, [], ◌++◌, ◌≤◌, length};
+ghost use Rattle.std.specs.Prelude.{◌≡◌, ℕ, List, ◌∷◌, [], ◌++◌, ◌≤◌, length};
 ghost use Rattle.c8_disk.specs.declared.error.DiskError.{DiskError};
 ghost use Rattle.c8_peer.specs.Lawful.{IsCall};
 ghost use Rattle.c8_peer.specs.Peer.{PeerValue, IsAnswered, IsSaid, known_by};
 ghost use Rattle.c8_peer.specs.Saying.{show_packet};
 ghost use Rattle.c8_peer.specs.State.{Call, Reply, Show};
 ghost use Rattle.c8_session.specs.Due.{said_in_turn, left_to_say, places_of_turn};
+ghost use Rattle.c8_session.specs.Notes.{Notes};
 ghost use Rattle.c8_session.specs.declared.session.Session.{Session};
 ghost use Rattle.c8_session.specs.Runs.{HasRunOn, IsStopped};
 ghost use Rattle.c8_session.specs.Showing.{said_to_players, said_to_watchers};
@@ -51,9 +52,8 @@ pub fn doings_join<D: Disk>()
 /// watcher of `show_to`; no other peer says any. `rows`: a SHOW has the confirmed rows from the first that the watcher has
 /// not acknowledged, at most 16.
 pub fn watchers_are_shown_rows<D: Disk>()
-    ensures due { (p : PeerValue D) (greeters shown : List Bool)
-        → said_in_turn p greeters shown
-        ≡ said_to_players p greeters shown ++ said_to_watchers p shown }
+    ensures due { (p : PeerValue D) (notes : Notes)
+        → said_in_turn notes p ≡ said_to_players notes p ++ said_to_watchers p notes.shown }
     ensures rows { (p : PeerValue D) (watcher : ℕ) (bytes : List ℕ)
         (is : IsSaid p (Show watcher) bytes)
         → is.packet ≡ show_packet (known_by p) p.state.memory watcher }

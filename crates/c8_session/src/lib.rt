@@ -5,12 +5,16 @@
 //! [`Session::next_datagram`] returns the turn's datagrams, one a call, and [`Session::end`] ends the turn. c8_live runs this
 //! loop over a wire, and c8_embed inside an engine. The contracts say which calls the peer gets, in which order, which
 //! datagrams a turn says (`specs/Due`), what the session remembers for them (`specs/Notes`), and when it is over
-//! (`specs/Rest`). *When* a player is dropped or a checkpoint is due is decided by `src/schedule.rt`, and nothing that is
+//! (`specs/Ending`). *When* a player is dropped or a checkpoint is due is decided by `src/schedule.rt`, and nothing that is
 //! proved of a match rests on it.
 #![tactic(auto)]
 
 mod calls;
+mod due;
+mod ending;
+mod hearing;
 pub mod laws;
+mod notice;
 mod rollbacks;
 mod schedule;
 mod session;
@@ -18,6 +22,7 @@ mod silence;
 mod speaking;
 mod turn;
 
+pub use ending::SessionEnd;
 pub use rollbacks::Rollbacks;
 pub use session::Session;
 pub use silence::Life;

@@ -1,35 +1,30 @@
-//! The schedule of one peer's turns.
-ghost use Rattle.std.specs.Prelude.{◌≡◌, ◌<◌, ◌↔◌, ◌-◌, true, false, IsTrue, option_map};
+//! What a session remembers from turn to turn beside its peer.
+ghost use Rattle.std.specs.Prelude.{◌≡◌, ◌-◌, true};
 ghost use Rattle.c8_wire.specs.Lent.{head_of, packet_of};
-ghost use Rattle.c8_peer.specs.Asked.{saying_of};
-ghost use Rattle.c8_peer.specs.Peer.{known_by};
-ghost use Rattle.c8_session.specs.Due.{due_of_leaver, due_to, has};
-ghost use Rattle.c8_session.specs.Notes.{greeted, no_greeters, no_notes, resting_of, rested_after, is_done, needs_nothing};
-ghost use Rattle.c8_session.specs.Rest.{has_a_leave, turns_to_rest};
+ghost use Rattle.c8_wire.specs.Format.{has_lives};
+ghost use Rattle.c8_session.specs.Ending.{turn_ended, ends_at, says_bye};
+ghost use Rattle.c8_session.specs.Notes.{notes_in, no_notes, counts, rests_briefly, shows_to, begun, set_if, heard_of, heard_by, notice_to, silent_for};
 
+use crate::hearing::{greets, is_sign_of_life, owes_notice, shows_a_loss};
+use crate::notice::Notice;
 use crate::silence::{Life, Silence};
 use c8_disk::Disk;
 use c8_game::{Game, MOST_PLAYERS, Player};
-use c8_hand::HandError;
-use c8_peer::{Check, Heard, Kind, Peer, Refused};
-use c8_wire::{Datagram, DatagramKind, Header};
+use c8_peer::{Check, Heard, Peer, Refused};
+use c8_wire::{Datagram, Header, Watcher, has_lives};
 
-/// How many turns a peer goes on after everything is confirmed and acknowledged, so that the other peers get its last
-/// acknowledgements.
-const REST: u32 = 120;
+/// The seat of the first watcher.
+pub(crate) const FIRST_WATCHER: u8 = 5;
 
-/// The same for player 1 once it has dropped a player. Nothing acknowledges a CUT, and a player that was away gets it only
-/// while player 1 goes on.
-const REST_AFTER_A_DROP: u32 = 1200;
-
-/// At how many places a turn looks for what is due to one player: HELLO, WELCOME, DATA, and one for each leaver.
-pub const MOST_DUE: u8 = 7;
+/// How many watchers a match has.
+pub(crate) const MOST_WATCHERS: usize = 2;
 
 /// What a session remembers from turn to turn beside its peer.
 #[derive(Clone, Copy, Debug)]
 pub struct Schedule {
-    /// The number of frames of the game.
-    frames: u32,
+    /// The number of frames of the game, and after how many the match ends.
+    most_frames: u32,
+    pub(crate) frames: u32,
     /// After how many silent turns player 1 drops a player; `None` for never.
     patience: Option<u64>,
     /// Whom player 1 drops in the next turn, by place.
@@ -39,24 +34,31 @@ pub struct Schedule {
     interval: u32,
     is_saving: bool,
     life: Life,
-    silence: Silence,
+    pub(crate) silence: Silence,
     /// Whether another player holds own inputs that this peer's journal does not have.
     is_lost: bool,
-    /// Whose HELLO the peer has taken since it last spoke, by place.
-    greeters: [bool; MOST_PLAYERS],
+    /// Whose HELLO the peer has taken since it last spoke, and when each player gets a REFUSED, by place.
+    pub(crate) greeters: [bool; MOST_PLAYERS],
+    pub(crate) notices: [Notice; MOST_PLAYERS],
+    /// Which watchers are shown the confirmed rows, by seat.
+    pub(crate) is_shown: [bool; MOST_WATCHERS],
+    /// Whether the player leaves the match.
+    pub(crate) is_leaving: bool,
+    /// The number of turns up to now that said that the player leaves or that the match is over.
+    pub(crate) last_words: u32,
     /// The number of turns that ended with everything confirmed and acknowledged.
-    rested: u32,
+    pub(crate) rested: u32,
     /// Whether player 1 rests 120 turns even if it has dropped a player.
-    is_brief: bool,
+    pub(crate) is_brief: bool,
 }
 
 impl Schedule {
     /// Before the first turn. `patience` is a number of silent turns. With `interval` 0 no checkpoint is due.
     pub fn new(game: &Game, patience: Option<u64>, interval: u32) -> Schedule
-        ensures greeters { result.greeters ≡ no_greeters }
-        ensures resting { resting_of result ≡ (no_notes game.now.frames).resting }
+        ensures { notes_in result ≡ no_notes game.now.frames }
     {
         Schedule {
+            most_frames: game.frames(),
             frames: game.frames(),
             patience,
             given_up: [false; MOST_PLAYERS],
@@ -66,6 +68,10 @@ impl Schedule {
             silence: Silence::new(),
             is_lost: false,
             greeters: [false; MOST_PLAYERS],
+            notices: [Notice::none(); MOST_PLAYERS],
+            is_shown: [false; MOST_WATCHERS],
+            is_leaving: false,
+            last_words: 0,
             rested: 0,
             is_brief: false,
         }
@@ -73,21 +79,51 @@ impl Schedule {
 
     /// Counts this as a sign of life from now on.
     pub fn counts(&mut self, life: Life)
-        ensures greeters { self.new.greeters ≡ self.old.greeters }
-        ensures resting { resting_of self.new ≡ resting_of self.old }
+        ensures { notes_in self.new ≡ counts life (notes_in self.old) }
     {
         self.life = life;
     }
 
     /// Lets player 1 rest 120 turns even if it has dropped a player.
     pub fn rests_briefly(&mut self)
-        ensures greeters { self.new.greeters ≡ self.old.greeters }
-        ensures resting { resting_of self.new ≡ record (resting_of self.old) { is_brief = true } }
+        ensures { notes_in self.new ≡ rests_briefly (notes_in self.old) }
     {
         self.is_brief = true;
     }
 
-    /// The number of frames of the game.
+    /// The match ends after this many frames, or with the game if that has no more. Another number starts the rest again.
+    pub fn end_at(&mut self, frames: u32)
+        ensures { notes_in self.new ≡ ends_at frames (notes_in self.old) }
+    {
+        let frames = frames.min(self.most_frames);
+        if frames == self.frames {
+            return;
+        }
+        self.frames = frames;
+        self.is_brief = frames < self.most_frames;
+        self.rested = 0;
+    }
+
+    /// From now on the turns say that the player leaves, in version 3. Returns whether they do.
+    pub fn bye<D: Disk>(&mut self, peer: &Peer<'_, D>) -> bool
+        ensures notes { notes_in self.new ≡ says_bye peer.now (notes_in self.old) }
+        ensures says { result ≡ has_lives peer.now.rules.wire }
+    {
+        let says = has_lives(peer.wire());
+        if says {
+            self.is_leaving = true;
+        }
+        says
+    }
+
+    /// Shows a watcher the rows from now on.
+    pub fn show_to(&mut self, watcher: Watcher)
+        ensures { notes_in self.new ≡ shows_to watcher.number (notes_in self.old) }
+    {
+        self.is_shown[usize::from(watcher.number - FIRST_WATCHER)] = true;
+    }
+
+    /// The number of frames after which the match ends.
     pub fn frames(&self) -> u32
         ensures { result ≡ self.now.frames }
     {
@@ -96,49 +132,74 @@ impl Schedule {
 
     /// A turn begins: each player has been silent for one turn more.
     pub fn begin(&mut self)
-        ensures greeters { self.new.greeters ≡ self.old.greeters }
-        ensures resting { resting_of self.new ≡ resting_of self.old }
+        ensures { notes_in self.new ≡ begun (notes_in self.old) }
     {
         self.silence.begin();
+        let [one, two, three, four] = self.notices;
+        self.notices = [one.begin(), two.begin(), three.begin(), four.begin()];
     }
 
     /// Notes a datagram that the peer was given, and its answer: whether it is a sign of life of its sender, whether it is
-    /// a HELLO that was taken, and whether it shows that the journal was lost.
+    /// a HELLO that was taken, whether its sender is owed a REFUSED, and in versions 1 and 2 whether it shows that the journal
+    /// was lost.
     pub fn heard<D: Disk>(
         &mut self,
         peer: &Peer<'_, D>,
         datagram: &Datagram<'_>,
         answer: Result<Heard, Refused>,
     )
-        ensures greeters { self.new.greeters ≡ greeted self.old.greeters (packet_of datagram.now).head answer }
-        ensures resting { resting_of self.new ≡ resting_of self.old }
+        ensures { notes_in self.new ≡ heard_by (notes_in self.old) (packet_of datagram.now).head answer }
     {
         let header = datagram.header();
-        self.greet(&header, answer);
         let Some(sender) = header.from().player() else {
             return;
         };
-        let is_hello = header.kind() == DatagramKind::Hello;
-        let is_alive = match self.life {
-            Life::Admitted => is_admitted(answer),
-            Life::OpenLink => answer.is_ok() && !is_hello && peer.is_linked(sender),
-        };
-        if is_alive {
-            self.silence.heard(sender);
-        }
-        self.is_lost |= is_of_match(answer) && shows_a_loss(peer, datagram);
+        self.note(&header, sender, answer);
+        self.is_lost |= !has_lives(peer.wire()) && shows_a_loss(peer, datagram, answer);
     }
 
-    /// Notes the sender of a HELLO that the peer took: it is answered when the peer speaks next.
-    fn greet(&mut self, header: &Header<'_>, answer: Result<Heard, Refused>)
-        ensures greeters { self.new.greeters ≡ greeted self.old.greeters (head_of header.now) answer }
-        ensures resting { resting_of self.new ≡ resting_of self.old }
+    /// Notes a datagram of a player, and its answer.
+    fn note(&mut self, header: &Header<'_>, sender: Player, answer: Result<Heard, Refused>)
+        requires { sender.number ≡ (head_of header.now).from }
+        ensures { notes_in self.new ≡ heard_of (notes_in self.old) (head_of header.now) answer }
     {
-        if answer.is_ok()
-            && header.kind() == DatagramKind::Hello
-            && let Some(sender) = header.from().player()
-        {
+        let is_alive = is_sign_of_life(self.life, header, answer);
+        self.greet(sender, greets(header, answer));
+        self.owe(sender, owes_notice(header, answer));
+        self.hear(sender, is_alive);
+    }
+
+    /// Notes that a player has greeted, if it has.
+    fn greet(&mut self, sender: Player, greets: bool)
+        ensures { self.new ≡ record self.old {
+          greeters = set_if greets self.old.greeters (sender.number - 1) true;
+        } }
+    {
+        if greets {
             self.greeters[sender.place()] = true;
+        }
+    }
+
+    /// Notes that a player is owed a REFUSED, if it is.
+    fn owe(&mut self, sender: Player, owes: bool)
+        ensures { self.new ≡ record self.old {
+          notices = set_if owes self.old.notices (sender.number - 1)
+              (record (notice_to (notes_in self.old) sender.number) { is_owed = true });
+        } }
+    {
+        if owes {
+            self.notices[sender.place()].is_owed = true;
+        }
+    }
+
+    /// Notes that a player was heard, if it was.
+    fn hear(&mut self, sender: Player, is_alive: bool)
+        ensures { notes_in self.new ≡ record (notes_in self.old) {
+          silent = set_if is_alive (notes_in self.old).silent (sender.number - 1) 0;
+        } }
+    {
+        if is_alive {
+            self.silence.heard(sender);
         }
     }
 
@@ -151,14 +212,15 @@ impl Schedule {
     }
 
     /// How many turns have begun since the last sign of life of the player, or since the start.
-    pub fn silent(&self, player: Player) -> u64 {
+    pub fn silent(&self, player: Player) -> u64
+        ensures { result ≡ silent_for (notes_in self.now) player.number }
+    {
         self.silence.turns(player)
     }
 
     /// Player 1 drops this player in the next turn, however long it has been silent.
     pub fn give_up(&mut self, player: Player)
-        ensures greeters { self.new.greeters ≡ self.old.greeters }
-        ensures resting { resting_of self.new ≡ resting_of self.old }
+        ensures { notes_in self.new ≡ notes_in self.old }
     {
         self.given_up[player.place()] = true;
     }
@@ -181,159 +243,26 @@ impl Schedule {
 
     /// Notes whether the checkpoint goes on after this part.
     pub fn saved(&mut self, part: Check)
-        ensures greeters { self.new.greeters ≡ self.old.greeters }
-        ensures resting { resting_of self.new ≡ resting_of self.old }
+        ensures { notes_in self.new ≡ notes_in self.old }
     {
         self.is_saving = matches!(part, Check::Piece(_));
     }
 
-    /// Which datagram is due to another player at one of the places 0 to [`MOST_DUE`] - 1 of a turn, if any. HELLO if the
-    /// link is not open, WELCOME if the player has greeted, DATA if the link is open, also beside a WELCOME; then, for each
-    /// leaver, the datagram of its drop round.
-    pub fn due<D: Disk>(&self, peer: &Peer<'_, D>, to: Player, place: u8) -> Option<Kind>
-        requires { place < MOST_DUE }
-        ensures { option_map saying_of result ≡ due_to peer.now.me (known_by peer.now) peer.now.state.memory
-            (has self.now.greeters (to.number - 1)) to.number place }
-    {
-        let is_linked = peer.is_linked(to);
-        let has_greeted = self.greeters[to.place()];
-        match place {
-            0 if !is_linked => Some(Kind::Hello),
-            1 if has_greeted => Some(Kind::Welcome),
-            2 if is_linked => Some(Kind::Data),
-            0..=2 => None,
-            _ => round(peer, to, Player::new(place - 2)?),
-        }
-    }
-
-    /// A turn ends: it has greeted back all who had greeted.
+    /// A turn ends. It has answered all who had greeted, and said each REFUSED that was due. It counts as last words if it said that
+    /// the player leaves or that the match is over, and as rest if the peer is done.
     pub fn end<D: Disk>(&mut self, peer: &Peer<'_, D>)
-        ensures greeters { self.new.greeters ≡ no_greeters }
-        ensures resting { resting_of self.new ≡ rested_after (resting_of self.old) peer.now }
+        ensures { notes_in self.new ≡ turn_ended peer.now (notes_in self.old) }
     {
-        self.greeters = [false; MOST_PLAYERS];
+        self.last_words = if self.are_last_words(peer) {
+            self.last_words.saturating_add(1)
+        } else {
+            0
+        };
         if self.is_done(peer) {
             self.rested = self.rested.saturating_add(1);
         }
+        self.greeters = [false; MOST_PLAYERS];
+        let [one, two, three, four] = self.notices;
+        self.notices = [one.end(), two.end(), three.end(), four.end()];
     }
-
-    /// Whether all frames are confirmed here, and every player without a cut has acknowledged this player's inputs of
-    /// all frames.
-    fn is_done<D: Disk>(&self, peer: &Peer<'_, D>) -> bool
-        ensures { result ≡ is_done self.now.frames peer.now }
-    {
-        peer.confirmed() >= self.frames
-            && self.needs_nothing(peer, Player { number: 1 })
-            && self.needs_nothing(peer, Player { number: 2 })
-            && self.needs_nothing(peer, Player { number: 3 })
-            && self.needs_nothing(peer, Player { number: 4 })
-    }
-
-    /// Whether this peer may end without waiting for the player.
-    fn needs_nothing<D: Disk>(&self, peer: &Peer<'_, D>, player: Player) -> bool
-        ensures { result ≡ needs_nothing self.now.frames peer.now player.number }
-    {
-        player.number > peer.players()
-            || player == peer.me()
-            || peer.cut_of(player).is_some()
-            || peer.acked(player) >= self.frames
-    }
-
-    /// Whether everything has been confirmed and acknowledged for more turns than this peer rests.
-    pub fn has_rested<D: Disk>(&self, peer: &Peer<'_, D>) -> bool
-        ensures { IsTrue result ↔ (turns_to_rest self.now.is_brief peer.now < self.now.rested) }
-    {
-        self.rested > self.turns_to_rest(peer)
-    }
-
-    /// How many turns the peer goes on after everything is confirmed and acknowledged.
-    fn turns_to_rest<D: Disk>(&self, peer: &Peer<'_, D>) -> u32
-        ensures { result ≡ turns_to_rest self.now.is_brief peer.now }
-    {
-        if !self.is_brief && peer.me().is_chair() && has_a_leave(peer) {
-            REST_AFTER_A_DROP
-        } else {
-            REST
-        }
-    }
-}
-
-/// Whether the peer's journal has the LEAVE of a player. Player 1's has that of each player that it dropped.
-fn has_a_leave<D: Disk>(peer: &Peer<'_, D>) -> bool
-    ensures { result ≡ has_a_leave (known_by peer.now) }
-{
-    peer.leaving(Player { number: 1 })
-        || peer.leaving(Player { number: 2 })
-        || peer.leaving(Player { number: 3 })
-        || peer.leaving(Player { number: 4 })
-}
-
-/// Which datagram of a leaver's drop round a player gets, if any. Player 1 sends FREEZE to the stayers until the cut, and
-/// CUT to all after it. The others send FROZEN to player 1 until they have the cut.
-fn round<D: Disk>(peer: &Peer<'_, D>, to: Player, leaver: Player) -> Option<Kind>
-    ensures { option_map saying_of result ≡ due_of_leaver peer.now.me (known_by peer.now) to.number leaver.number }
-{
-    let is_cut = peer.cut_of(leaver).is_some();
-    if peer.me().is_chair() {
-        if is_cut {
-            Some(Kind::Cut(leaver))
-        } else if peer.leaving(leaver) && !peer.leaving(to) {
-            Some(Kind::Freeze(leaver))
-        } else {
-            None
-        }
-    } else if to.is_chair() && peer.frozen(leaver) && !is_cut {
-        Some(Kind::Frozen(leaver))
-    } else {
-        None
-    }
-}
-
-/// Whether a datagram to a peer names a later epoch of it than its own, or acknowledges more inputs in this one than it
-/// has. Both are recorded before anything of them is sent.
-fn shows_a_loss<D: Disk>(peer: &Peer<'_, D>, datagram: &Datagram<'_>) -> bool {
-    let (named, own) = (datagram.header().addressee_epoch(), peer.epoch());
-    named > own || (named == own && acknowledged(datagram) > peer.count(peer.me()))
-}
-
-/// How many inputs of its addressee a datagram acknowledges.
-fn acknowledged(datagram: &Datagram<'_>) -> u32 {
-    match datagram {
-        Datagram::Welcome(welcome) => welcome.ack(),
-        Datagram::Data(data) => data.ack(),
-        Datagram::Hello(_)
-        | Datagram::Freeze(_)
-        | Datagram::Frozen(_)
-        | Datagram::Cut(_)
-        | Datagram::Show(_)
-        | Datagram::Seen(_) => 0,
-    }
-}
-
-/// Whether a datagram with this answer is one of this match to this player, and the peer is open.
-fn is_of_match(answer: Result<Heard, Refused>) -> bool {
-    !matches!(
-        answer,
-        Err(
-            Refused::Down
-                | Refused::Dropped
-                | Refused::Wire(_)
-                | Refused::OtherWire
-                | Refused::Hand(HandError::Session | HandError::NotMine)
-        )
-    )
-}
-
-/// Whether the links admitted the datagram, whatever came after that.
-fn is_admitted(answer: Result<Heard, Refused>) -> bool {
-    !matches!(
-        answer,
-        Err(
-            Refused::Down
-                | Refused::Dropped
-                | Refused::Wire(_)
-                | Refused::OtherWire
-                | Refused::Hand(_)
-        )
-    )
 }

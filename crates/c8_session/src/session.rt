@@ -1,17 +1,18 @@
 //! The session of a peer.
 ghost use Rattle.std.specs.Prelude.{◌≡◌, ◌≢◌, ◌<◌, ◌⊎◌, ◌↔◌, true, false, IfNone, IfSome, IsTrue};
 ghost use Rattle.c8_peer.specs.Peer.{IsSound};
-ghost use Rattle.c8_session.specs.Due.{is_speaking};
-ghost use Rattle.c8_session.specs.Notes.{notes_of, no_notes, rests_briefly, after_turn};
-ghost use Rattle.c8_session.specs.Rest.{IsOver};
+ghost use Rattle.c8_wire.specs.Format.{has_lives};
+ghost use Rattle.c8_session.specs.Due.{is_speaking, signs_of};
+ghost use Rattle.c8_session.specs.Ending.{after_turn, ends_at, says_bye, end_of, IsOver};
+ghost use Rattle.c8_session.specs.Notes.{notes_of, no_notes, counts, rests_briefly, begun, silent_for};
 
+use crate::ending::SessionEnd;
 use crate::rollbacks::Rollbacks;
 use crate::schedule::Schedule;
 use crate::silence::Life;
-use crate::speaking::MOST_WATCHERS;
 use c8_disk::Disk;
 use c8_game::{Game, Player};
-use c8_peer::Peer;
+use c8_peer::{Peer, Signs};
 use std::fmt;
 
 /// A peer, and what its session remembers from turn to turn.
@@ -19,8 +20,6 @@ use std::fmt;
 pub struct Session<'g, D: Disk> {
     pub(crate) peer: Peer<'g, D>,
     pub(crate) schedule: Schedule,
-    /// Which watchers are shown the confirmed rows, by seat.
-    pub(crate) is_shown: [bool; MOST_WATCHERS],
     /// The next place of this turn at which a datagram may be due, or [`NOT_SPEAKING`].
     pub(crate) place: u8,
     pub(crate) rollbacks: Rollbacks,
@@ -54,7 +53,6 @@ impl<'g, D: Disk> Session<'g, D> {
         Session {
             peer,
             schedule: Schedule::new(game, patience, interval),
-            is_shown: [false; MOST_WATCHERS],
             place: NOT_SPEAKING,
             rollbacks: Rollbacks::default(),
         }
@@ -74,7 +72,7 @@ impl<'g, D: Disk> Session<'g, D> {
         self.peer.is_sound();
     }
 
-    /// Returns the number of frames of the game.
+    /// Returns the number of frames after which the match ends: that of the game, unless `end_at` has named fewer.
     pub fn frames(&self) -> u32
         ensures { result ≡ (notes_of self.now).resting.frames }
     {
@@ -84,12 +82,14 @@ impl<'g, D: Disk> Session<'g, D> {
     /// Begins a turn: each player has been silent for one turn more.
     pub fn begin(&mut self)
         ensures peer { self.new.peer ≡ self.old.peer }
-        ensures notes { notes_of self.new ≡ notes_of self.old }
+        ensures notes { notes_of self.new ≡ begun (notes_of self.old) }
+        ensures speaks { is_speaking self.new ≡ is_speaking self.old }
     {
         self.schedule.begin();
     }
 
-    /// Ends a turn after its datagrams: it has answered all who had greeted. Returns whether there was one to end.
+    /// Ends a turn after its datagrams: it has answered all who had greeted, and told all who were owed a REFUSED. Returns whether
+    /// there was one to end.
     pub fn end(&mut self) -> bool
         ensures peer { self.new.peer ≡ self.old.peer }
         ensures ended { result ≡ is_speaking self.old }
@@ -118,10 +118,10 @@ impl<'g, D: Disk> Session<'g, D> {
     }
 
     /// Counts this as a sign of life of a player from now on. Without this call it is a datagram that an open link
-    /// admitted.
+    /// admitted, as always in version 3.
     pub fn counts(&mut self, life: Life)
         ensures peer { self.new.peer ≡ self.old.peer }
-        ensures notes { notes_of self.new ≡ notes_of self.old }
+        ensures notes { notes_of self.new ≡ counts life (notes_of self.old) }
     {
         self.schedule.counts(life);
     }
@@ -135,8 +135,28 @@ impl<'g, D: Disk> Session<'g, D> {
         self.schedule.rests_briefly();
     }
 
+    /// Ends the match after this many frames, as the caller's machine says, or with the game if that has no more. Another number
+    /// than before starts the rest again. All players have to name the same.
+    pub fn end_at(&mut self, frames: u32)
+        ensures peer { self.new.peer ≡ self.old.peer }
+        ensures notes { notes_of self.new ≡ ends_at frames (notes_of self.old) }
+    {
+        self.schedule.end_at(frames);
+    }
+
+    /// Leaves the match: in version 3 the next turns say so, and player 1 drops the player without patience. The session is over once
+    /// six turns have said it. Returns whether turns say it: versions 1 and 2 have no word for it, and nothing changes.
+    pub fn bye(&mut self) -> bool
+        ensures peer { self.new.peer ≡ self.old.peer }
+        ensures notes { notes_of self.new ≡ says_bye self.old.peer (notes_of self.old) }
+        ensures says { result ≡ has_lives self.old.peer.rules.wire }
+    {
+        self.schedule.bye(&self.peer)
+    }
+
     /// Returns whether the others know more of this player than its journal does: a later epoch, or more inputs. The
-    /// journal that this came from is gone. Such a player cannot play on, and player 1 may drop it.
+    /// journal that this came from is gone. Such a player cannot play on, and player 1 may drop it. In version 3 the answer is
+    /// always no: a player without its journal is another life, and `why_over` tells it.
     pub fn is_lost(&self) -> bool
         ensures { result ≡ self.now.schedule.is_lost }
     {
@@ -144,17 +164,26 @@ impl<'g, D: Disk> Session<'g, D> {
     }
 
     /// Returns how many turns have begun since the last sign of life of the player, or since the start.
-    pub fn silent(&self, player: Player) -> u64 {
+    pub fn silent(&self, player: Player) -> u64
+        ensures { result ≡ silent_for (notes_of self.now) player.number }
+    {
         self.schedule.silent(player)
     }
 
-    /// Returns whether the session is over: the peer knows that it was dropped, or it has rested. After all frames are
-    /// confirmed and acknowledged it rests for 120 turns, and player 1 for 1,200 if it has dropped a player: nothing
-    /// acknowledges a CUT, so a player that was away may need it still.
+    /// Returns why the session is over, if it is.
+    pub fn why_over(&self) -> Option<SessionEnd>
+        ensures { result ≡ end_of (notes_of self.now) self.now.peer }
+    {
+        self.schedule.end_of(&self.peer)
+    }
+
+    /// Returns whether the session is over: it cannot go on, or it need not. In versions 1 and 2 it rests for 120 turns after all
+    /// frames are confirmed and acknowledged, and player 1 for 1,200 if it has dropped a player: nothing acknowledges a CUT, so a
+    /// player that was away may need it still.
     pub fn is_over(&self) -> bool
         ensures { IsTrue result ↔ IsOver self.now }
     {
-        self.peer.dropped() || self.schedule.has_rested(&self.peer)
+        self.why_over().is_some()
     }
 
     /// Makes player 1 drop this player in the next turn, whether or not it is silent. At another player's peer it
@@ -164,6 +193,14 @@ impl<'g, D: Disk> Session<'g, D> {
         ensures notes { notes_of self.new ≡ notes_of self.old }
     {
         self.schedule.give_up(player);
+    }
+
+    /// Returns what a DATA of version 3 tells of the session now: whom it hears, whether the player leaves, and whether it is over. The
+    /// turns say it by themselves.
+    pub fn signs(&self) -> Signs
+        ensures { result ≡ signs_of (notes_of self.now) self.now.peer }
+    {
+        self.schedule.signs(&self.peer)
     }
 
     /// Returns the other player with this number: `None` for this peer's own number and for one that nobody has.

@@ -1,22 +1,17 @@
 //! The datagrams of a turn, one after another.
-ghost use Rattle.std.specs.Prelude.{◌≡◌, ◌≤◌, ◌<◌, ◌-◌, ◌∷◌, [], true, IfSome, IfNone, take, slice_set};
+ghost use Rattle.std.specs.Prelude.{◌≡◌, ◌≤◌, ◌<◌, ◌∷◌, [], IfSome, IfNone, take};
 ghost use Rattle.c8_peer.specs.Peer.{IsSaid};
 ghost use Rattle.c8_peer.specs.State.{Call};
-ghost use Rattle.c8_session.specs.Due.{has, shown_at, said_if_due, said_at, left_to_say, is_speaking, first_watcher};
-ghost use Rattle.c8_session.specs.Notes.{notes_of};
+ghost use Rattle.c8_session.specs.Due.{has, shown_at, said_if_due, said_at, left_to_say, is_speaking};
+ghost use Rattle.c8_session.specs.Notes.{notes_of, shows_to};
 ghost use Rattle.c8_session.specs.Turns.{IsSayingTo};
 
-use crate::schedule::MOST_DUE;
+use crate::due::MOST_DUE;
+use crate::schedule::{FIRST_WATCHER, MOST_WATCHERS};
 use crate::session::Session;
 use c8_disk::Disk;
 use c8_game::MOST_PLAYERS;
 use c8_wire::{LONGEST_DATAGRAM, Seat, Watcher};
-
-/// The seat of the first watcher.
-const FIRST_WATCHER: u8 = 5;
-
-/// How many watchers a match has.
-pub(crate) const MOST_WATCHERS: usize = 2;
 
 /// How many places of a turn are about players. Each watcher has one place after them.
 const PLACES_OF_PLAYERS: u8 = MOST_DUE * MOST_PLAYERS as u8;
@@ -29,12 +24,10 @@ impl<'g, D: Disk> Session<'g, D> {
     /// acknowledged. Only player 1's peer shows rows.
     pub fn show_to(&mut self, watcher: Watcher)
         ensures peer { self.new.peer ≡ self.old.peer }
-        ensures notes { notes_of self.new ≡ record (notes_of self.old) {
-          shown = slice_set self.old.is_shown (watcher.number - first_watcher) true;
-        } }
+        ensures notes { notes_of self.new ≡ shows_to watcher.number (notes_of self.old) }
         ensures speaks { is_speaking self.new ≡ is_speaking self.old }
     {
-        self.is_shown[usize::from(watcher.number - FIRST_WATCHER)] = true;
+        self.schedule.show_to(watcher);
     }
 
     /// Writes the next datagram of this turn to the front of `out`, and returns its addressee and its length, at most
@@ -50,8 +43,6 @@ impl<'g, D: Disk> Session<'g, D> {
         ensures over { IfNone result (left_to_say self.old ≡ []) }
         ensures stays_over { IfNone result (left_to_say self.new ≡ []) }
         ensures fits { IfSome result (λ said. said.1 ≤ LONGEST_DATAGRAM) }
-        ensures greeters { self.new.schedule.greeters ≡ self.old.schedule.greeters }
-        ensures shown { self.new.is_shown ≡ self.old.is_shown }
         ensures notes { notes_of self.new ≡ notes_of self.old }
         ensures speaks { is_speaking self.new ≡ is_speaking self.old }
     {
@@ -69,9 +60,9 @@ impl<'g, D: Disk> Session<'g, D> {
         requires { place < MOST_DATAGRAMS }
         ensures said { IfSome result (λ said. (call : Call) × IsSayingTo said.0.number call
             × IsSaid self.now.peer call (take said.1 out.new)
-            × (said_at self.now.peer self.now.schedule.greeters self.now.is_shown place ≡ call ∷ [])) }
+            × (said_at (notes_of self.now) self.now.peer place ≡ call ∷ [])) }
         ensures silent { IfNone result
-            (said_at self.now.peer self.now.schedule.greeters self.now.is_shown place ≡ []) }
+            (said_at (notes_of self.now) self.now.peer place ≡ []) }
         ensures fits { IfSome result (λ said. said.1 ≤ LONGEST_DATAGRAM) }
     {
         if place >= PLACES_OF_PLAYERS {
@@ -90,9 +81,9 @@ impl<'g, D: Disk> Session<'g, D> {
         requires { place < MOST_WATCHERS }
         ensures said { IfSome result (λ said. (call : Call) × IsSayingTo said.0.number call
             × IsSaid self.now.peer call (take said.1 out.new)
-            × (said_if_due self.now.peer (shown_at self.now.is_shown place) ≡ call ∷ [])) }
+            × (said_if_due self.now.peer (shown_at self.now.schedule.is_shown place) ≡ call ∷ [])) }
         ensures silent { IfNone result
-            (said_if_due self.now.peer (shown_at self.now.is_shown place) ≡ []) }
+            (said_if_due self.now.peer (shown_at self.now.schedule.is_shown place) ≡ []) }
         ensures fits { IfSome result (λ said. said.1 ≤ LONGEST_DATAGRAM) }
     {
         if !self.shows(place) {
@@ -108,8 +99,8 @@ impl<'g, D: Disk> Session<'g, D> {
     /// Whether this watcher, the first or the second, is shown the rows.
     fn shows(&self, place: u8) -> bool
         requires { place < MOST_WATCHERS }
-        ensures { result ≡ has self.now.is_shown place }
+        ensures { result ≡ has self.now.schedule.is_shown place }
     {
-        self.is_shown[usize::from(place)]
+        self.schedule.is_shown[usize::from(place)]
     }
 }

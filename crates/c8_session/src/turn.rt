@@ -1,24 +1,27 @@
 //! The part of a turn between ticking and speaking.
 ghost use Rattle.std.specs.Prelude.{◌≡◌, true, IfOk, OnOk, IfErr};
+ghost use Rattle.c8_news.specs.News.{news_of};
+ghost use Rattle.c8_session.specs.Ending.{says_goodbye};
 ghost use Rattle.c8_session.specs.Due.{left_to_say, said_in_turn, is_speaking};
 ghost use Rattle.c8_session.specs.Notes.{notes_of};
 ghost use Rattle.c8_session.specs.Runs.{IsStopped};
 ghost use Rattle.c8_session.specs.Turns.{Drops, Cuts, Saves, HasCalled, HasCalledOnce, HasTurned};
 
+use crate::ending::says_goodbye;
 use crate::laws::{doings_join, peers_run_on};
 use crate::session::Session;
 use c8_disk::{Disk, DiskError};
+use c8_game::Player;
 use c8_peer::{CheckError, DecideError, LeaveError};
 
 impl<'g, D: Disk> Session<'g, D> {
-    /// Makes the part of a turn between ticking and speaking. Player 1 drops players who were silent for too long, and cuts
-    /// those whose drop round is ready. Every peer records a part of a checkpoint if one is due. Then `next_datagram`
+    /// Makes the part of a turn between ticking and speaking. Player 1 drops players who were silent for too long or say that they
+    /// leave, and cuts those whose drop round is ready. Every peer records a part of a checkpoint if one is due. Then `next_datagram`
     /// returns the datagrams of this turn. If the disk refuses a record the peer is down, and the turn stops there.
     pub fn turn(&mut self) -> Result<(), DiskError>
         ensures turned { HasTurned D.Disk self.old.peer self.new.peer }
         ensures stopped { IfErr result (IsStopped D.Disk self.old.peer self.new.peer) }
-        ensures due { IfOk result (λ done. left_to_say self.new
-            ≡ said_in_turn self.new.peer self.new.schedule.greeters self.new.is_shown) }
+        ensures due { IfOk result (λ done. left_to_say self.new ≡ said_in_turn (notes_of self.new) self.new.peer) }
         ensures speaks { OnOk result (is_speaking self.new ≡ true) }
         ensures notes { notes_of self.new ≡ notes_of self.old }
     {
@@ -32,7 +35,7 @@ impl<'g, D: Disk> Session<'g, D> {
         Ok(())
     }
 
-    /// If this is player 1, drops the players who have been silent for too long, and those of `give_up`.
+    /// If this is player 1, drops the players who have been silent for too long, those of `give_up`, and those who say that they leave.
     fn drop_silent(&mut self) -> Result<(), DiskError>
         ensures ran { HasCalled D.Disk Drops self.old.peer self.new.peer }
         ensures stopped { IfErr result (IsStopped D.Disk self.old.peer self.new.peer) }
@@ -43,13 +46,20 @@ impl<'g, D: Disk> Session<'g, D> {
         peers_run_on::<D>();
         for number in 1..self.peer.players() + 1 {
             if let Some(player) = self.other(number)
-                && self.schedule.drops(player)
+                && self.drops(player)
                 && let Err(LeaveError::Disk(error)) = self.leave(player)
             {
                 return Err(error);
             }
         }
         Ok(())
+    }
+
+    /// Whether player 1 drops a player in this turn: its schedule says so, or the player says that it leaves.
+    fn drops(&self, player: Player) -> bool
+        ensures { says_goodbye (news_of self.now.peer.state.memory.news player.number) ≡ true → result ≡ true }
+    {
+        self.schedule.drops(player) || says_goodbye(self.peer.news(player))
     }
 
     /// If this is player 1, cuts the leavers whose drop round is ready.

@@ -15,7 +15,7 @@ use Rattle.c8_spectator.specs.declared.taken.Taken.TheVariants as answers
 pub drop_one : {X : Type 0} (n : ℕ) (xs : List X) (x : X) → slice_get xs n ≡ Some x → drop n xs ≡ x ∷ drop (n + 1) xs
 drop_one {X = X} n xs x is = drop_more xs n x (slice_get_within xs n x is) ∙ ap (λ (y : X). y ∷ drop (n + 1) xs) (get_or_from_slice_get xs n x x is)
 
--- ---- keys of players who are not in the game
+-- ---- inputs of players who are not in the game
 
 of_game_one : (rules : Rules) (n : ℕ) (rows : List Row) (row : Row) → slice_get rows n ≡ Some row
     → are_of_game rules (drop n rows) ≡ (is_of_game rules row && are_of_game rules (drop (n + 1) rows))

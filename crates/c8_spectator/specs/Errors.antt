@@ -10,3 +10,4 @@ number_of errors.Gap = 3
 number_of errors.Differs = 4
 number_of errors.Full = 5
 number_of errors.Absent = 6
+number_of errors.Restarted = 7

@@ -8,14 +8,18 @@ use thiserror::Error;
 /// Why a watcher does not take a datagram: the first of these that applies, in this order.
 #[derive(Clone, Copy, Debug, PartialEq, Eq, Error)]
 pub enum WatchError {
-    /// The datagram is of another match, or in another version of the format than the game's.
+    /// The datagram is of another game or room, or in another version of the format or with inputs of another width than the
+    /// game's.
     #[error("from another match, or in another version of the format")]
     Session,
     /// The datagram is not a SHOW, or not for this seat.
     #[error("no rows for this watcher")]
     NotMine,
-    /// A row has keys of a player that is not in the game.
-    #[error("keys of a player who is not in the game")]
+    /// The rows are of another match than those that the watcher has: player 1 came back without its journal.
+    #[error("rows of another match of this room")]
+    Restarted,
+    /// A row has an input of a player that is not in the game.
+    #[error("an input of a player who is not in the game")]
     Absent,
     /// The rows go beyond the last frame of the game.
     #[error("rows past the last frame")]
@@ -40,6 +44,7 @@ impl WatchError {
             WatchError::Differs => 4,
             WatchError::Full => 5,
             WatchError::Absent => 6,
+            WatchError::Restarted => 7,
         }
     }
 
@@ -52,6 +57,7 @@ impl WatchError {
             WatchError::Differs => "Differs",
             WatchError::Full => "Full",
             WatchError::Absent => "Absent",
+            WatchError::Restarted => "Restarted",
         }
     }
 }

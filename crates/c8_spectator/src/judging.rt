@@ -3,10 +3,10 @@ ghost use Rattle.std.specs.Prelude.{◌≡◌, ◌==◌, ◌||◌, nat_lt};
 ghost use Rattle.c8_wire.specs.Lent.{shown};
 ghost use Rattle.c8_spectator.specs.Watching.{is_of_game, are_of_game, are_same, differ};
 
-use c8_game::{Game, Keys, Row};
+use c8_game::{Game, Input, Row};
 use c8_wire::ShownRows;
 
-/// Returns whether no row has keys of a player that is not in the game.
+/// Returns whether no row has an input of a player that is not in the game.
 pub(crate) fn are_of_game(game: &Game, rows: ShownRows<'_>) -> bool
     ensures { result ≡ are_of_game game.now (shown rows.entry) }
 {
@@ -18,23 +18,23 @@ pub(crate) fn are_of_game(game: &Game, rows: ShownRows<'_>) -> bool
     true
 }
 
-/// Returns whether a row has no keys of a player that is not in the game.
+/// Returns whether a row has no input but 0 of a player that is not in the game.
 fn is_of_game(game: &Game, row: &Row) -> bool
     ensures { result ≡ is_of_game game.now row.now }
 {
     let players = game.players();
-    let [one, two, three, four] = row.sets;
+    let [one, two, three, four] = row.inputs;
     may_hold(players, 0, one)
         && may_hold(players, 1, two)
         && may_hold(players, 2, three)
         && may_hold(players, 3, four)
 }
 
-/// Returns whether these are the keys of a player of the game, or none.
-fn may_hold(players: u8, place: u8, keys: Keys) -> bool
-    ensures { result ≡ (nat_lt place players || keys.0 == 0) }
+/// Returns whether this is the input of a player of the game, or 0.
+fn may_hold(players: u8, place: u8, input: Input) -> bool
+    ensures { result ≡ (nat_lt place players || input == 0) }
 {
-    place < players || keys.0 == 0
+    place < players || input == Input(0)
 }
 
 /// Returns whether some row of a SHOW differs from the row taken for its frame. Both lists start at the same frame.
@@ -49,14 +49,11 @@ pub(crate) fn differ(taken: &[Row], rows: ShownRows<'_>) -> bool
     false
 }
 
-/// Returns whether two rows have the same four key sets.
+/// Returns whether two rows have the same four inputs.
 fn are_same(row: &Row, other: &Row) -> bool
     ensures { result ≡ are_same row.now other.now }
 {
-    let [one, two, three, four] = row.sets;
-    let [other_one, other_two, other_three, other_four] = other.sets;
-    one.0 == other_one.0
-        && two.0 == other_two.0
-        && three.0 == other_three.0
-        && four.0 == other_four.0
+    let [one, two, three, four] = row.inputs;
+    let [other_one, other_two, other_three, other_four] = other.inputs;
+    one == other_one && two == other_two && three == other_three && four == other_four
 }

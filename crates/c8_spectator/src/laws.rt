@@ -1,6 +1,6 @@
 //! Facts for callers that belong to no single call: laws of watching. Each is the contract of a function that does
 //! nothing.
-ghost use Rattle.std.specs.Prelude.{◌≡◌, ◌≢◌, ◌+◌, ◌<◌, ◌≤◌, ◌++◌, List, length, Ok, Err, Result};
+ghost use Rattle.std.specs.Prelude.{◌≡◌, ◌≢◌, ℕ, ◌+◌, ◌<◌, ◌≤◌, ◌++◌, List, length, Ok, Err, Result};
 ghost use Rattle.c8_game.specs.declared.row.Row.{Row};
 ghost use Rattle.c8_known.specs.Growth.{Begins, Stands};
 ghost use Rattle.c8_wire.specs.declared.error.WireError.{WireError};
@@ -13,7 +13,7 @@ ghost use Rattle.c8_spectator.specs.declared.taken.Taken.TheVariants as answers;
 ghost use Rattle.c8_spectator.specs.Watching.{WatchValue, fresh_rows, taken_of, hear};
 ghost use Rattle.c8_spectator.specs.Growth.{IsStillWatched, IsTaken, ShowsRowsOf};
 
-/// No datagram takes a row back, or changes the match or the seat.
+/// No datagram takes a row back, or changes the game, the room, the seat, or the match of the rows that the watcher has.
 pub fn what_is_heard_takes_nothing_back()
     ensures { (w : WatchValue) (told : Result Packet WireError)
         → IsStillWatched w (hear w told).watch }
@@ -26,8 +26,8 @@ pub fn what_is_still_watched_chains()
         → IsStillWatched a c }
 {}
 
-/// A packet is taken exactly if it is a SHOW of the match to this seat, with rows of the game that leave
-/// no gap and agree with all rows that the watcher has. The watcher then has all its rows.
+/// A packet is taken exactly if it is a SHOW of the game and room to this seat, and of the match of the rows
+/// that the watcher has, with rows of the game that leave no gap and agree with these. The watcher then has all its rows.
 pub fn what_is_taken()
     ensures is { (w : WatchValue) (p : Packet) (taken : Taken)
         → (hear w (Ok p)).answer ≡ Ok taken → IsTaken w p }
@@ -66,5 +66,16 @@ pub fn what_is_shown_of_one_list_begins_it()
         → Begins w.rows truth → ShowsRowsOf truth p → Begins (hear w (Ok p)).watch.rows truth }
     ensures agrees { (truth : List Row) (w : WatchValue) (p : Packet)
         → Begins w.rows truth → ShowsRowsOf truth p
+        → (hear w (Ok p)).answer ≢ Err (refusals.Watch errors.Differs) }
+{}
+
+/// If all rows shown to a watcher are those of the match that their packet names, its rows are the beginning of those of its
+/// own match, and no packet is refused because a row differs.
+pub fn what_is_shown_of_its_match_begins_it()
+    ensures begins { (truth : ℕ → List Row) (w : WatchValue) (p : Packet)
+        → Begins w.rows (truth w.match_number) → ShowsRowsOf (truth p.head.match_number) p
+        → Begins (hear w (Ok p)).watch.rows (truth (hear w (Ok p)).watch.match_number) }
+    ensures agrees { (truth : ℕ → List Row) (w : WatchValue) (p : Packet)
+        → Begins w.rows (truth w.match_number) → ShowsRowsOf (truth p.head.match_number) p
         → (hear w (Ok p)).answer ≢ Err (refusals.Watch errors.Differs) }
 {}

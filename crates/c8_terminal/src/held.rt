@@ -1,13 +1,13 @@
 //! The keys that are held in each frame.
-ghost use Rattle.std.specs.Prelude.{◌≡◌, ◌<◌, ◌↔◌, ℕ, IsTrue};
-ghost use Rattle.c8_game.specs.Rules.{HasKey};
+ghost use Rattle.std.specs.Prelude.{◌≡◌, ◌<◌, ◌^◌, ◌↔◌, ℕ, IsTrue};
+ghost use Rattle.c8_game.specs.Rules.{HasBit};
 ghost use Rattle.c8_terminal.specs.Decoder.{IsOfKeypad};
 ghost use Rattle.c8_terminal.specs.Held.{hold_of, press_at};
 ghost use Rattle.c8_terminal.specs.Strokes.{after_frame, is_held, no_press, noted};
 
 use crate::press::Press;
 use crate::signal::Signal;
-use c8_game::Keys;
+use c8_game::Input;
 
 /// The number of keys of the keypad, 0 to 15.
 const KEYS: usize = 16;
@@ -62,23 +62,24 @@ impl Held {
         }
     }
 
-    /// Starts a frame, and returns the keys held in it.
-    pub fn frame(&mut self) -> Keys
+    /// Starts a frame, and returns its input: bit `k` is 1 exactly if key `k` is held. No other bit is.
+    pub fn frame(&mut self) -> Input
         ensures keys { (key : ℕ) → key < 16
-            → HasKey result.0 key ↔ IsTrue (is_held (press_at self.old key)) }
+            → HasBit result key ↔ IsTrue (is_held (press_at self.old key)) }
+        ensures no_more { result < 2 ^ 16 }
         ensures hold { hold_of self.new ≡ hold_of self.old }
         ensures presses { (key : ℕ) → key < 16
             → press_at self.new key ≡ after_frame (press_at self.old key) }
     {
-        let keys = self.keys();
+        let input = Input(u64::from(self.keys()));
         self.count_frame();
-        keys
+        input
     }
 
-    /// Returns the keys that are held.
-    fn keys(&self) -> Keys
+    /// Returns a bit for each key: 1 if the key is held.
+    fn keys(&self) -> u16
         ensures { (key : ℕ) → key < 16
-            → HasKey result.0 key ↔ IsTrue (is_held (press_at self.now key)) }
+            → HasBit result key ↔ IsTrue (is_held (press_at self.now key)) }
     {
         let mut keys = 0;
         for key in 0..KEYS {
@@ -86,7 +87,7 @@ impl Held {
                 keys |= 1 << key;
             }
         }
-        Keys(keys)
+        keys
     }
 
     /// Counts a frame for each key.

@@ -2,6 +2,7 @@
 
 use arrayvec::ArrayVec;
 use c8_game::{Game, Player};
+use c8_machine::Keys;
 use std::io::Write;
 
 /// How the line of a game text begins that has the keys of a player, before the player's number. Such a line is a comment.
@@ -54,7 +55,7 @@ impl KeyWords {
     /// These words; or if there are none, the letters of the player's keys in a game, as `keys 4 r f`.
     pub fn or_letters(self, game: &Game, player: Player) -> KeyWords {
         if self.bytes.is_empty() {
-            letters_of(game.mask(player).0)
+            letters_of(Keys::from(game.mask(player)).0)
         } else {
             self
         }

@@ -9,7 +9,7 @@ use Rattle.c8_texts.specs.declared.error.RunError.{RunError}
 use Rattle.c8_texts.specs.declared.error.RunError.TheVariants.{Game, Keys}
 
 abbrev pub keys_error_number : KeysError → ℕ
-keys_error_number Line = 1
+keys_error_number (Line digits) = 1
 keys_error_number Long = 2
 keys_error_number Memory = 3
 

@@ -1,8 +1,10 @@
 pub mod Errors
+pub mod InputLines
 pub mod KeyLines
-pub mod KeySets
 pub mod Report
+pub mod ReportObject
 pub mod Run
 pub mod ShowErrors
 pub mod Shown
+pub mod Told
 pub mod checked

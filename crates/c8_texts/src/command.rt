@@ -2,8 +2,8 @@
 
 ghost use Rattle.std.specs.Prelude.{IfOk, Result};
 ghost use Rattle.c8_texts.specs.Errors.{run_part};
-ghost use Rattle.c8_texts.specs.Report.{IsTold};
 ghost use Rattle.c8_texts.specs.Run.{IsPlayOfRead, IsOutcomeOfRun};
+ghost use Rattle.c8_texts.specs.Told.{IsTold};
 ghost use Rattle.c8_texts.specs.declared.error.RunError.{RunError};
 ghost use Rattle.c8_texts.specs.declared.lines.Played.{Played};
 
@@ -61,7 +61,7 @@ pub fn run<W: Write, E: Write>(
 ) -> io::Result<Status>
     ensures { IfOk result (λ status. (outcome : Result Played RunError)
         × IsOutcomeOfRun game.entry.bytes.now keys.entry.bytes.now outcome
-        × IsTold run_part (W.contents out.old) (W.contents out.new) outcome status) }
+        × IsTold false run_part (W.contents out.old) (W.contents out.new) outcome status) }
 {
     let outcome = played_from(Game::read(alloc, game.bytes), keys.bytes);
     let site = match outcome {
@@ -89,7 +89,7 @@ fn tell<W: Write, E: Write>(
     refused: &mut E,
 ) -> io::Result<Status>
     ensures { IfOk result
-        (IsTold run_part (W.contents out.old) (W.contents out.new) outcome) }
+        (IsTold false run_part (W.contents out.old) (W.contents out.new) outcome) }
 {
     match outcome {
         Ok(played) => {

@@ -1,10 +1,10 @@
 //! Where the texts of `run` are at fault.
 
 use crate::error::RunError;
+use crate::inputs::faulty_input;
 use crate::lines::faulty_key_line;
-use crate::sets::faulty_key_set;
 use c8_command::{Site, Text};
-use c8_game::{Game, GameError, Lines};
+use c8_game::{Game, GameError, Lines, Width};
 use std::alloc::Global;
 
 /// Finds the fault for which `run` refuses its two texts.
@@ -31,9 +31,9 @@ pub fn game_site<'a>(alloc: Global, game: Text<'a>, error: GameError) -> Site<'a
     site_at(game, Game::faulty_line(alloc, game.bytes).unwrap_or(None))
 }
 
-/// Finds the first line of a text that is not four hexadecimal digits.
-pub fn key_sets_site(keys: Text<'_>) -> Site<'_> {
-    site_at(keys, faulty_key_set(keys.bytes))
+/// Finds the first line of a text that spells no input of a width.
+pub fn inputs_site(inputs: Text<'_>, width: Width) -> Site<'_> {
+    site_at(inputs, faulty_input(inputs.bytes, width))
 }
 
 /// Returns the line of a text at a place, if there is one; otherwise the file.

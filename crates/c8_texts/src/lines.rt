@@ -1,13 +1,13 @@
-//! Key lines: the keys of all players, one line a frame.
+//! Key lines: the inputs of all players, one line a frame.
 
 ghost use Rattle.std.specs.Prelude.{◌≡◌, ◌≤◌, ◌+◌, ◌*◌, true, false, Some, MatchOption, MatchResult, length};
 ghost use Rattle.std.specs.Str.Lines.{lines};
 ghost use Rattle.c8_game.specs.Faults.{AreFaultless, IsFirstPlace};
-ghost use Rattle.c8_texts.specs.KeyLines.{is_key_line, are_keys_at, keys_at, row_of, key_line_fault, IsFaultOf, IsRunOf};
+ghost use Rattle.c8_texts.specs.KeyLines.{is_key_line, is_input_at, input_at, stride, row_of, key_line_fault, IsFaultOf, IsRunOf};
 
 use crate::error::KeysError;
-use c8_game::{Game, Keys, Lines, Row};
-use c8_machine::Machine;
+use c8_game::{Game, Input, Lines, MOST_PLAYERS, Row, Width};
+use c8_machine::{Keys, Machine};
 
 /// How many frames were played, and the machine after them.
 #[derive(Clone, Copy)]
@@ -29,10 +29,10 @@ pub fn play(game: &Game, keys: &[u8]) -> Result<Played, KeysError>
         if played.frames == game.frames() {
             return Err(KeysError::Long);
         }
-        let Some(row) = row_in(line, game.players()) else {
-            return Err(KeysError::Line);
+        let Some(row) = row_in(line, game.width(), game.players()) else {
+            return Err(KeysError::line(game.width()));
         };
-        played.machine.frame(game, game.joined(&row));
+        played.machine.frame(game, Keys::from(game.joined(&row)));
         played.frames += 1;
     }
     Ok(played)
@@ -50,7 +50,7 @@ pub fn faulty_key_line(game: &Game, keys: &[u8]) -> Option<usize>
         if frames == game.frames() {
             return Some(frames as usize);
         }
-        if row_in(line, game.players()).is_none() {
+        if row_in(line, game.width(), game.players()).is_none() {
             return Some(frames as usize);
         }
         frames += 1;
@@ -58,33 +58,41 @@ pub fn faulty_key_line(game: &Game, keys: &[u8]) -> Option<usize>
     None
 }
 
-/// Returns the row that a key line spells: four digits for each player, and one space between two players.
-fn row_in(line: &[u8], players: u8) -> Option<Row>
+/// Returns the row that a key line spells: the digits of an input for each player, and one space between two players.
+fn row_in(line: &[u8], width: Width, players: u8) -> Option<Row>
     requires { players ≤ 4 }
     ensures { MatchOption result
-        (is_key_line players line.now ≡ false)
-        (λ row. (is_key_line players line.now ≡ true) × (row ≡ row_of players line.now)) }
+        (is_key_line width.bytes players line.now ≡ false)
+        (λ row. (is_key_line width.bytes players line.now ≡ true) × (row ≡ row_of width.bytes players line.now)) }
 {
-    if line.len() + 1 != 5 * usize::from(players) {
+    if line.len() + 1 != stride(width) * usize::from(players) {
         return None;
     }
-    let mut sets = [Keys(0); 4];
+    let mut inputs = [Input(0); MOST_PLAYERS];
     for place in 0..usize::from(players) {
-        sets[place] = keys_at(line, place)?;
+        inputs[place] = input_at(line, width, place)?;
     }
-    Some(Row { sets })
+    Some(Row { inputs })
 }
 
-/// Returns the key set of the player at a place of a line; player 1 is at 0.
-fn keys_at(line: &[u8], place: usize) -> Option<Keys>
-    requires { 5 * place + 4 ≤ length line.now }
+/// Returns the input of the player at a place of a line; player 1 is at 0.
+fn input_at(line: &[u8], width: Width, place: usize) -> Option<Input>
+    requires { stride width.bytes * place + 2 * width.bytes ≤ length line.now }
     ensures { MatchOption result
-        (are_keys_at line.now place ≡ false)
-        (λ keys. (are_keys_at line.now place ≡ true) × (keys ≡ keys_at line.now place)) }
+        (is_input_at width.bytes line.now place ≡ false)
+        (λ input. (is_input_at width.bytes line.now place ≡ true) × (input ≡ input_at width.bytes line.now place)) }
 {
-    let start = 5 * place;
+    let start = stride(width) * place;
     if place > 0 && line[start - 1] != b' ' {
         return None;
     }
-    Keys::from_hex(&line[start..start + 4])
+    Input::from_hex(&line[start..start + stride(width) - 1], width)
+}
+
+/// Returns how many bytes of a line each player has: the digits of an input, and a space or the line's end.
+fn stride(width: Width) -> usize
+    ensures value { result ≡ stride width.bytes }
+    ensures few { result ≤ 17 }
+{
+    2 * usize::from(width.bytes) + 1
 }

@@ -4,7 +4,7 @@
 ghost use Rattle.std.specs.Prelude.{◌≡◌, ◌≤◌, length};
 ghost use Rattle.c8_wire.specs.declared.sizes.TheConstants.{LONGEST_DATAGRAM};
 
-use c8_game::{Game, Keys, Player};
+use c8_game::{Game, Input, Player};
 use c8_peer::Kind;
 use c8_rig::{Entry, Ether, Room, Unnamed};
 use c8_wire::LONGEST_DATAGRAM;
@@ -70,7 +70,7 @@ fn note<B: Room, R: Wait>(rt: &R, ether: &Ether<B>, entry: &mut Entry) -> Result
     ensures { entry.new.ether ≡ B.ether }
 {
     let notes = entry.notes().len();
-    let act = Act::Tick(entry.player(), Keys(4));
+    let act = Act::Tick(entry.player(), Input(4));
     match ether.note(rt, entry, act) {
         Ok(()) => Ok(()),
         Err(error) if entry.notes().len() != notes => Err(error),

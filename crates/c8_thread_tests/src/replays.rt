@@ -1,6 +1,7 @@
 //! A match in threads, written as a script, and played again in one thread.
 use c8_disk::MemDisk;
-use c8_game::{Game, Keys, Player};
+use c8_game::{Game, Input, Player, Width};
+use c8_news::Signs;
 use c8_peer::{Kind, Peer};
 use c8_rig::{Gathering, Note, Watch, rig};
 use c8_script::{Transcript, play_script, read_script, write_act, write_script};
@@ -79,8 +80,8 @@ fn is_played(alloc: Global, game: &str, script: &[u8], peers: &[Peer<'_, MemDisk
 }
 
 /// Whether a script has the acts of a log, one for one.
-fn is_read(alloc: Global, script: &[u8], log: &[Note]) -> bool {
-    let Ok(events) = read_script(alloc, script) else {
+fn is_read(alloc: Global, script: &[u8], log: &[Note], width: Width) -> bool {
+    let Ok(events) = read_script(alloc, script, width) else {
         return false;
     };
     let mut is_so = events.len() == log.len();
@@ -91,19 +92,25 @@ fn is_read(alloc: Global, script: &[u8], log: &[Note]) -> bool {
 }
 
 /// Whether a writer with room for four bytes refuses the script of a log.
-fn is_refused(log: &[Note]) -> bool {
+fn is_refused(log: &[Note], width: Width) -> bool {
     let mut bytes = [0; 4];
     let mut room = bytes.as_mut_slice();
-    write_script(&mut room, log).is_err()
+    write_script(&mut room, log, width).is_err()
 }
 
 /// Whether the script of a log has its acts, and leads to the end of these peers.
-fn is_replayed(alloc: Global, game: &str, log: &[Note], peers: &[Peer<'_, MemDisk>]) -> bool {
+fn is_replayed(
+    alloc: Global,
+    game: &Game,
+    text: &str,
+    log: &[Note],
+    peers: &[Peer<'_, MemDisk>],
+) -> bool {
     let mut script = Vec::new(alloc);
-    is_refused(log)
-        && write_script(&mut script, log).is_ok()
-        && is_read(alloc, &script, log)
-        && is_played(alloc, game, &script, peers)
+    is_refused(log, game.width())
+        && write_script(&mut script, log, game.width()).is_ok()
+        && is_read(alloc, &script, log, game.width())
+        && is_played(alloc, text, &script, peers)
 }
 
 /// Plays a match in threads, and its script in one.
@@ -117,7 +124,7 @@ where
     let Gathering::Gathered { log, peers, .. } = gathering else {
         return false;
     };
-    is_replayed(rt.alloc(), text, &log, &peers)
+    is_replayed(rt.alloc(), game, text, &log, &peers)
 }
 
 #[test]
@@ -146,24 +153,26 @@ const FIVE: Watcher = Watcher { number: 5 };
 
 const SIX: Watcher = Watcher { number: 6 };
 
-const ACTS: [Act; 16] = [
-    Act::Open(FOUR),
-    Act::Tick(TWO, Keys(0x0a1f)),
-    Act::Say(ONE, THREE, Kind::Hello),
-    Act::Say(THREE, ONE, Kind::Welcome),
-    Act::Say(FOUR, TWO, Kind::Data),
-    Act::Say(ONE, TWO, Kind::Freeze(THREE)),
-    Act::Say(TWO, ONE, Kind::Frozen(FOUR)),
-    Act::Say(ONE, FOUR, Kind::Cut(TWO)),
-    Act::Give(18_446_744_073_709_551_615, THREE),
-    Act::Leave(TWO),
-    Act::Decide(THREE),
-    Act::Check(FOUR),
-    Act::Show(FIVE),
-    Act::Hear(19, SIX),
-    Act::Seen(SIX),
-    Act::Fresh(FIVE),
-];
+fn acts() -> [Act; 16] {
+    [
+        Act::Open(FOUR),
+        Act::Tick(TWO, Input(0x0a1f)),
+        Act::Say(ONE, THREE, Kind::Hello),
+        Act::Say(THREE, ONE, Kind::Welcome),
+        Act::Say(FOUR, TWO, Kind::Data(Signs::none())),
+        Act::Say(ONE, TWO, Kind::Freeze(THREE)),
+        Act::Say(TWO, ONE, Kind::Frozen(FOUR)),
+        Act::Say(ONE, FOUR, Kind::Cut(TWO)),
+        Act::Give(18_446_744_073_709_551_615, THREE),
+        Act::Leave(TWO),
+        Act::Decide(THREE),
+        Act::Check(FOUR),
+        Act::Show(FIVE),
+        Act::Hear(19, SIX),
+        Act::Seen(SIX),
+        Act::Fresh(FIVE),
+    ]
+}
 
 const LINES: &str = "open 4
 tick 2 0a1f
@@ -184,8 +193,8 @@ fresh 5
 ";
 
 fn write_acts(out: &mut Vec<u8>) -> io::Result<()> {
-    for act in &ACTS {
-        write_act(out, *act)?;
+    for act in &acts() {
+        write_act(out, *act, Width::DEFAULT)?;
     }
     Ok(())
 }

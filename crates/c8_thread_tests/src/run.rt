@@ -2,10 +2,10 @@
 ghost use Rattle.std.specs.Prelude.{◌≡◌, ◌≤◌, []};
 ghost use Rattle.c8_thread_tests.specs.Idle.{IsIdleRun, first_start, idle_rows};
 
-use c8_game::{Game, Keys, MOST_FRAMES, Row};
+use c8_game::{Game, MOST_FRAMES, Row};
 use c8_live::laws::the_first_start_is_serial;
 use c8_live::{Board, Pen};
-use c8_machine::Machine;
+use c8_machine::{Keys, Machine};
 use std::alloc::Global;
 use std::test::Fail;
 
@@ -36,7 +36,7 @@ impl<'g> Run<'g> {
         ensures count { self.old.count ≤ self.new.count }
     {
         if self.count < MOST_FRAMES {
-            let keys = self.game.joined(&Row::default());
+            let keys = Keys::from(self.game.joined(&Row::default()));
             self.machine.frame(self.game, keys);
             self.count += 1;
         }

@@ -6,14 +6,15 @@ ghost use Rattle.c8_peer.specs.Peer.{known_by, begun_by};
 ghost use Rattle.c8_live.specs.Published.{MayShow, pen_at};
 
 use c8_disk::MemDisk;
-use c8_game::{Game, Keys, Player};
+use c8_game::{Game, Input, Player, Width};
 use c8_live::{
-    Board, Counters, KeySource, Look, Pen, Relay, Standing, Viewer, game_worker, inlet, open_board,
+    Board, Counters, InputSource, Look, Pen, Relay, Standing, Viewer, game_worker, inlet,
+    open_board,
 };
 use c8_machine::Machine;
 use c8_peer::Peer;
 use c8_session::Session;
-use c8_texts::key_sets;
+use c8_texts::read_inputs;
 use c8_transport::{Gate, Wire};
 use std::alloc::{AllocError, Global};
 
@@ -67,32 +68,32 @@ fn session_of<'g>(
         return Err(AllocError);
     };
     let disk = MemDisk::new(alloc, 100_000, 4000)?;
-    match Peer::open(alloc, disk, game, me, 7) {
+    match Peer::open(alloc, disk, game, me, 7, 1) {
         Ok(peer) => Ok(Session::new(peer, game, None, 0)),
         Err(_) => Err(AllocError),
     }
 }
 
-/// The key sets of key lines, one a tick. After the last one no key is held.
+/// The inputs of key lines, one a tick. After the last one no key is held.
 #[derive(Drop)]
 pub(crate) struct Hand {
-    sets: Vec<Keys>,
+    inputs: Vec<Input>,
     taken: usize,
 }
 
 impl Hand {
     /// Reads key lines. Any fault is the error.
     fn of(alloc: Global, lines: &str) -> Result<Hand, AllocError> {
-        match key_sets(alloc, lines.as_bytes()) {
-            Ok(sets) => Ok(Hand { sets, taken: 0 }),
+        match read_inputs(alloc, lines.as_bytes(), Width::DEFAULT) {
+            Ok(inputs) => Ok(Hand { inputs, taken: 0 }),
             Err(_) => Err(AllocError),
         }
     }
 }
 
-impl KeySource for Hand {
-    fn next_keys(&mut self) -> Option<Keys> {
-        Some(self.sets.get(self.taken).copied().unwrap_or_default())
+impl InputSource for Hand {
+    fn next_input(&mut self) -> Option<Input> {
+        Some(self.inputs.get(self.taken).copied().unwrap_or_default())
     }
 
     fn taken(&mut self) {

@@ -4,7 +4,8 @@
 use crate::rig_gates::Turns;
 use crate::rig_matches::games;
 use c8_disk::MemDisk;
-use c8_game::{Game, Keys, Player};
+use c8_game::{Game, Input, Player};
+use c8_news::Signs;
 use c8_peer::{Kind, Peer};
 use c8_rig::{Gathering, Note, rig};
 use c8_wire::LONGEST_DATAGRAM;
@@ -24,7 +25,7 @@ const FIRST: u32 = 40;
 /// A kind of turn.
 #[derive(Clone, Copy)]
 enum Turn {
-    Tick(Keys),
+    Tick(Input),
     Hear(u64),
     Say(Player, Kind),
     Leave(Player),
@@ -78,13 +79,13 @@ impl Words {
     /// The next turn, by the table.
     fn turn(&mut self) -> Turn {
         match self.next() % 8 {
-            0 | 1 => Turn::Tick(Keys((self.next() % 65536) as u16)),
+            0 | 1 => Turn::Tick(Input(u64::from(self.next() % 65536))),
             2 | 3 | 4 => Turn::Hear(u64::from(self.next())),
             5 => match self.next() % 2 {
                 0 => Turn::Say(self.other(), Kind::Hello),
                 _ => Turn::Say(self.other(), Kind::Welcome),
             },
-            6 => Turn::Say(self.other(), Kind::Data),
+            6 => Turn::Say(self.other(), Kind::Data(Signs::none())),
             _ => self.round(),
         }
     }
@@ -172,9 +173,9 @@ impl<'a> List<'a> {
 fn is_made(peer: &mut Peer<'_, MemDisk>, list: &mut List<'_>, turn: Turn) -> bool {
     let me = peer.me();
     match turn {
-        Turn::Tick(keys) => {
-            let _ticked = peer.tick(keys);
-            list.has(Act::Tick(me, keys), b"")
+        Turn::Tick(input) => {
+            let _ticked = peer.tick(input);
+            list.has(Act::Tick(me, input), b"")
         }
         Turn::Hear(choice) => match list.heard(choice, me) {
             Some(bytes) => {
@@ -212,7 +213,7 @@ fn follows(
 ) -> Result<bool, Fail> {
     let mut list = List::new(alloc, log, me)?;
     let disk = MemDisk::new(alloc, 144 * 202 + 1, 1000)?;
-    let Ok(mut peer) = Peer::open(alloc, disk, game, me, 0) else {
+    let Ok(mut peer) = Peer::open(alloc, disk, game, me, 0, 1) else {
         return Err(Fail::new("not opened"));
     };
     let mut words = Words {

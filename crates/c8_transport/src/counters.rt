@@ -1,11 +1,14 @@
 //! The counters of the packets that this machine seals.
-ghost use Rattle.std.specs.Prelude.{◌≡◌, ◌+◌, ◌-◌, ◌*◌, ◌^◌, ◌<◌, min};
+ghost use Rattle.std.specs.Prelude.{◌≡◌, ◌+◌, ◌-◌, ◌*◌, ◌/◌, ◌^◌, ◌<◌, min};
 
 /// How many packets may be sealed after one opening: 2^32 - 1.
 const MOST_SEALED: u32 = u32::MAX;
 
-/// The greatest first counter of a watcher.
+/// The greatest first counter.
 const LAST_START: u64 = u64::MAX - u32::MAX as u64;
+
+/// How many counters an epoch has, and a second between the lives of a player.
+const OF_EPOCH: u64 = 1 << 32;
 
 /// How many counters a millisecond has.
 const OF_MILLISECOND: u64 = 1 << 20;
@@ -19,14 +22,17 @@ pub struct Counters {
 }
 
 impl Counters {
-    /// The counters of a player's epoch: from epoch * 2^32 on. The journal records an epoch before anything is sent in
-    /// it, so no counter comes twice as long as the journal stands.
-    pub fn of_epoch(epoch: u32) -> Counters
-        ensures next { result.next ≡ epoch * 2 ^ 32 }
+    /// The counters of a player's epoch in this life: from (s + epoch) * 2^32 on, where s is the upper half of the life's
+    /// number, the seconds from 1970 to its beginning. In versions 1 and 2 the life is 0. The journal records an epoch before
+    /// anything is sent in it, so no counter comes twice as long as the journal stands. A later life begins above those
+    /// of an earlier one if the clock does not go back and a life has fewer epochs than seconds.
+    pub fn of_epoch(life: u64, epoch: u32) -> Counters
+        ensures next { result.next ≡ min ((life / 2 ^ 32 + epoch) * 2 ^ 32) (2 ^ 64 - 2 ^ 32) }
         ensures left { result.left ≡ 2 ^ 32 - 1 }
     {
+        let started = life / OF_EPOCH + u64::from(epoch);
         Counters {
-            next: u64::from(epoch) * (1 << 32),
+            next: started.saturating_mul(OF_EPOCH).min(LAST_START),
             left: MOST_SEALED,
         }
     }

@@ -8,7 +8,8 @@
 //! [`Membership`] asks. [`address_at`] finds the addresses of hosts by their names,
 //! [`Reached`] all that a command line names ([`Named`]), and [`NoAddress`] says why a word is none.
 //!
-//! Packets over UDP as an ether ([`RelaySocket`]), and what a relay did with them, in numbers ([`batch`], [`Counts`]).
+//! Packets over UDP as an ether ([`RelaySocket`]), what a relay did with them, in numbers ([`batch`], [`Counts`]), and its
+//! [`Lines`] while it runs.
 #![tactic(auto)]
 
 mod addresses;
@@ -23,6 +24,7 @@ mod names;
 mod no_address;
 mod passed;
 mod polled;
+mod progress;
 mod reached;
 mod route;
 mod serving;
@@ -39,6 +41,7 @@ pub use names::address_at;
 pub use no_address::{LEARNT, NoAddress, Wanted};
 pub use passed::Passed;
 pub use polled::{Bell, PolledUdp};
+pub use progress::{Lines, Load, Progress};
 pub use reached::{Named, Reached, Unreached, is_same_place};
 pub use route::Route;
 pub use serving::batch;

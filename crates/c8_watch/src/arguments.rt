@@ -2,8 +2,9 @@
 
 use crate::help::WATCH_ENDING;
 use c8_command::{Argument, Form, Outline, is_explained, word_of};
+use c8_files::Card;
+use c8_net::number_of;
 use c8_net::options::{LOCAL, RELAY};
-use c8_net::{Card, number_of};
 use c8_wire::Watcher;
 use clap::ArgMatches;
 use clap::builder::ValueParser;

@@ -11,11 +11,9 @@ use crate::person::Person;
 use crate::stage::Stage;
 use crate::worker::Picture;
 use c8_command::{Status, Terminals, Threaded, read_file, word_of};
-use c8_files::warn_of_readers;
+use c8_files::{Card, card_in, millis, warn_of_readers};
 use c8_game::Game;
-use c8_net::{
-    Card, Fault, Line, PeerError, Sealing, card_in, game_at, refuse_among, watch_sealing_at,
-};
+use c8_net::{Fault, Line, PeerError, Sealing, game_at, refuse_among, watch_sealing_at};
 use c8_peer::OpenError;
 use c8_spectator::Spectator;
 use c8_texts::{Played, write_report};
@@ -31,7 +29,7 @@ use std::net::Net;
 use std::rt::Files;
 use std::sync::Wait;
 use std::thread::Threads;
-use std::time::{Clock, SystemTime};
+use std::time::Clock;
 
 /// The refusal of words that name no seat.
 const NO_SEAT: &str =
@@ -114,6 +112,10 @@ fn mistake_in(
     None
 }
 
+/// What a watcher is told once player 1 plays another match.
+const PAST: &str =
+    "player 1 came back without its journal, so this match is over; the same line watches the next one";
+
 /// Watches a match. The report of the machine after the frames that player 1 has shown goes to `out`, and before it the
 /// screen, if asked for. The line of a refusal, and its explanation if asked for, go to `refused`. The error is a
 /// writer's.
@@ -167,7 +169,12 @@ where
     let sealing = watch_sealing_at(rt, asked.secret, seat, session, reached.relay())?;
     let casting = Casting::open(rt, asked, &game, millis(rt), refused);
     let mut person = Person::at(rt, asked.screen, casting);
-    match watched_at(rt, asked, &game, &reached, sealing, out, &mut person) {
+    let played = watched_at(rt, asked, &game, &reached, sealing, out, &mut person);
+    let is_past = person.is_past();
+    if is_past {
+        let _ = writeln!(refused, "{PAST}");
+    }
+    match played {
         Ok(played) => Ok(played),
         Err(error) => {
             let file = match error {
@@ -221,17 +228,6 @@ where
             }
         },
         Err(fault) => Err(PeerError::Socket(SocketError::Failed(fault))),
-    }
-}
-
-/// Returns the system's time in milliseconds since 1970; 0 if it cannot be read.
-fn millis<R: Clock>(rt: &R) -> u64 {
-    let Ok(now) = SystemTime::now(rt) else {
-        return 0;
-    };
-    match now.duration_since(SystemTime::UNIX_EPOCH) {
-        Ok(since) => u64::try_from(since.as_millis()).unwrap_or(u64::MAX),
-        Err(_) => 0,
     }
 }
 

@@ -1,6 +1,7 @@
 //! The screen of a watched match, drawn on a terminal.
 
 use crate::row::WatchRow;
+use crate::turn::Heard;
 use crate::worker::Picture;
 use c8_spectator::Spectator;
 use c8_terminal::{Beat, ENTER, LEAVE, Painter};
@@ -104,6 +105,10 @@ impl<'r, 'w, 'p, R: Clock, W: Write, P: Picture> Picture for Drawing<'r, 'w, 'p,
     fn hear(&mut self, losses: Losses, relaying: Relaying) {
         self.row.hear(losses, relaying);
         self.more.hear(losses, relaying);
+    }
+
+    fn turned(&mut self, heard: Heard) {
+        self.more.turned(heard);
     }
 
     fn has_left(&mut self) -> bool {

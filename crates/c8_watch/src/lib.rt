@@ -23,5 +23,5 @@ mod worker;
 pub use arguments::{WATCH, WatchAsked};
 pub use command::{watch, watch_given, watch_on};
 pub use row::WatchRow;
-pub use turn::watch_turn;
+pub use turn::{Heard, watch_turn};
 pub use worker::{Picture, open_watch_board, watch_worker};

@@ -1,5 +1,6 @@
 //! The person at the keyboard of a watched match.
 
+use crate::turn::Heard;
 use crate::worker::Picture;
 use c8_spectator::Spectator;
 use c8_terminal::{Decoder, Signal};
@@ -19,7 +20,11 @@ const KEY_BYTES: usize = 64;
 /// An escape without a next byte for this many milliseconds is the key itself.
 const SILENCE: u64 = 25;
 
-/// Ends the watching when the person presses Escape or control-C, where there is a terminal; and passes all on.
+/// After so many seconds with rows of another match alone the match is over.
+const PATIENCE: u64 = 3;
+
+/// Ends the watching when the person presses Escape or control-C, where there is a terminal, or when player 1 plays another match;
+/// and passes all on.
 #[derive(Drop)]
 pub(crate) struct Person<'r, R, P> {
     rt: &'r R,
@@ -28,6 +33,8 @@ pub(crate) struct Person<'r, R, P> {
     /// When the last byte came.
     last: Duration,
     has_left: bool,
+    /// Since when player 1 has shown rows of another match alone.
+    other_since: Option<Duration>,
     /// Who sees the match.
     pub(crate) more: P,
 }
@@ -43,7 +50,21 @@ impl<'r, R: Files<File = File> + Clock, P: Picture> Person<'r, R, P> {
             decoder: Decoder::new(),
             last: Duration::from_secs(0),
             has_left: false,
+            other_since: None,
             more,
+        }
+    }
+
+    /// The time; the last one if the clock cannot be read.
+    fn now(&self) -> Duration {
+        self.rt.monotonic().unwrap_or(self.last)
+    }
+
+    /// Whether player 1 plays another match.
+    pub(crate) fn is_past(&self) -> bool {
+        match self.other_since {
+            Some(since) => self.now().saturating_sub(since) >= Duration::from_secs(PATIENCE),
+            None => false,
         }
     }
 
@@ -57,7 +78,7 @@ impl<'r, R: Files<File = File> + Clock, P: Picture> Person<'r, R, P> {
             Ok(size) => size,
             Err(_) => 0,
         };
-        let now = self.rt.monotonic().unwrap_or(self.last);
+        let now = self.now();
         if size > 0 {
             self.last = now;
             for byte in &bytes[..size.min(KEY_BYTES)] {
@@ -84,9 +105,18 @@ impl<'r, R: Files<File = File> + Clock, P: Picture> Picture for Person<'r, R, P>
         self.more.hear(losses, relaying);
     }
 
+    fn turned(&mut self, heard: Heard) {
+        if heard.is_shown {
+            self.other_since = None;
+        } else if heard.is_other && self.other_since.is_none() {
+            self.other_since = Some(self.now());
+        }
+        self.more.turned(heard);
+    }
+
     fn has_left(&mut self) -> bool {
         self.read();
-        self.has_left || self.more.has_left()
+        self.has_left || self.is_past() || self.more.has_left()
     }
 
     fn end(&mut self, spectator: &Spectator<'_>) {

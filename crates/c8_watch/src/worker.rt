@@ -11,7 +11,7 @@ ghost use Rattle.c8_watch.specs.Turns.{AreTurns};
 ghost use Rattle.c8_watch.specs.Published.{MayShow, IsShown, beginning, pen_at};
 
 use crate::laws::{a_turn_takes_nothing_back, turns_join};
-use crate::turn::watch_turn;
+use crate::turn::{Heard, watch_turn};
 use c8_game::Game;
 use c8_live::laws::the_first_start_is_serial;
 use c8_live::{Board, Pen, Viewer};
@@ -27,6 +27,9 @@ pub trait Picture {
 
     /// Called before that, with what the wire has turned away so far, and hears of a relay.
     fn hear(&mut self, _losses: Losses, _relaying: Relaying) {}
+
+    /// Called before that, with the matches of which rows were shown.
+    fn turned(&mut self, _heard: Heard) {}
 
     /// Whether the watching ends; called before each turn.
     fn has_left(&mut self) -> bool {
@@ -66,8 +69,9 @@ pub fn watch_worker<W: Wire, G: Gate, P: Picture>(
         if is_whole || has_left || board.stop_asked(pen) || !gate.before(Worker::Game, turn) {
             break;
         }
-        watch_turn(spectator, wire)?;
+        let heard = watch_turn(spectator, wire)?;
         published = publish_more(spectator, published, board, pen);
+        picture.turned(heard);
         picture.hear(wire.losses(), wire.relaying());
         picture.show(spectator);
         gate.after(Worker::Game, turn);

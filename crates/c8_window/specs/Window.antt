@@ -1,6 +1,5 @@
 -- How many of the own inputs each player has acknowledged, and which are still to be sent to it.
 use Rattle.std.specs.Prelude.{ℕ, ◌==◌, ◌≤◌, List, take, drop, max, slice_index, if◌then◌else◌}
-use Rattle.c8_wire.specs.Sizes.{longest_run}
 use Rattle.c8_known.specs.Known.{KnownValue, player_in}
 
 -- how many of the own inputs each of four players has acknowledged
@@ -22,7 +21,7 @@ with_acked w q count = record {
   four = if q == 4 then count else w.four;
 }
 
--- the empty sets of the delay need not be sent: every player has them
+-- the inputs of 0 of the delay need not be sent: every player has them
 abbrev pub first_window : ℕ → WindowValue
 first_window delay = record { one = delay; two = delay; three = delay; four = delay }
 
@@ -30,9 +29,13 @@ first_window delay = record { one = delay; two = delay; three = delay; four = de
 abbrev pub acked_more : WindowValue → ℕ → ℕ → WindowValue
 acked_more w q count = with_acked w q (max (acked_of w q) count)
 
--- the first 64 of the own inputs that a player has not acknowledged
+-- the most inputs that are offered to one datagram, which carries as many of them as fit
+abbrev pub most_pending : ℕ
+most_pending = 64
+
+-- the first of the own inputs that a player has not acknowledged
 abbrev pub pending_of : WindowValue → KnownValue → ℕ → List ℕ
-pending_of w k q = take longest_run (drop (acked_of w q) (player_in k k.me).held)
+pending_of w k q = take most_pending (drop (acked_of w q) (player_in k k.me).held)
 
 -- what the counts of the code stand for
 abbrev pub seen : List ℕ → WindowValue

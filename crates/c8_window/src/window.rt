@@ -1,10 +1,11 @@
 //! Which own inputs each player has acknowledged.
 ghost use Rattle.std.specs.Prelude.{◌≡◌, ◌≢◌, ℕ, ◌≤◌, ◌<◌, length, MatchResult};
+ghost use Rattle.c8_wire.specs.Packet.{AreInputs};
 ghost use Rattle.c8_known.specs.Known.{count_in};
 ghost use Rattle.c8_window.specs.Window.{acked_of, first_window, acked_more, pending_of};
 
 use crate::error::BadAck;
-use c8_game::{Game, MOST_PLAYERS, Player};
+use c8_game::{Game, Input, MOST_PLAYERS, Player};
 use c8_known::Known;
 use c8_wire::LONGEST_RUN;
 use std::marker::Model;
@@ -24,7 +25,7 @@ impl Model for Window {
 }
 
 impl Window {
-    /// Makes the window at the start: only the empty sets of the delay are acknowledged.
+    /// Makes the window at the start: only the inputs of 0 of the delay are acknowledged.
     pub fn new(game: &Game) -> Window
         ensures { result ≡ first_window game.now.delay }
     {
@@ -62,9 +63,10 @@ impl Window {
     }
 
     /// Returns the own inputs that a player has not acknowledged, at most the first 64 of them.
-    pub fn pending<'a>(&self, player: Player, known: &'a Known) -> &'a [u16]
+    pub fn pending<'a>(&self, player: Player, known: &'a Known) -> &'a [Input]
         ensures pending { result.now ≡ pending_of self.now known.entry.now player.number }
         ensures most { length result.now ≤ LONGEST_RUN }
+        ensures fits { AreInputs known.entry.now.width result.now }
     {
         let me = known.me();
         let count = known.count(me);

@@ -1,80 +1,53 @@
--- HELLO and WELCOME: their bytes are those of what they say, and what they say is read again.
-use Rattle.std.proofs.Common.{◌≡◌, true, ℕ, ◌+◌, ◌≤◌, List, [], ◌++◌, length, drop, refl, arith}
+-- HELLO and WELCOME: their bodies are those of what they say, and what they say is read again.
+use Rattle.std.proofs.Common.{◌≡◌, ℕ, ◌≤◌, List, [], ◌∷◌, length, refl, arith}
 use Rattle.std.proofs.lemmas.List.{drop_all}
-use Rattle.std.proofs.lemmas.Bool.Decides.{nat_tests}
+use Rattle.std.proofs.lemmas.Bool.{ltb-false}
 use Rattle.byteorder.specs.Endian.{big_bytes}
 use Rattle.byteorder.specs.Numbers.{big_number-reads_back}
 use Rattle.c8_game.specs.Rules.{most_inputs}
 use Rattle.c8_game.specs.declared.wire.WireVersion.{WireVersion}
 use Rattle.c8_wire.specs.declared.kinds.DatagramKind.TheVariants as kinds
-use Rattle.c8_wire.specs.Seats.{are_seats}
-use Rattle.c8_wire.specs.Packet.{AreBytes, HeadValue, Hello, Welcome}
-use Rattle.c8_wire.specs.Spelling.{header_bytes, body_bytes}
-use Rattle.c8_wire.specs.Reading.{number_at, size_at}
-use Rattle.c8_wire.specs.Refusal.{applies}
+use Rattle.c8_wire.specs.Packet.{AreBytes, Welcome}
+use Rattle.c8_wire.specs.Spelling.{body_bytes}
+use Rattle.c8_wire.specs.Reading.{number_at}
 use Rattle.c8_wire.specs.checked.NumberLaws.{spelled_at}
-use Rattle.c8_wire.proofs.HeadLemmas.{then, HasHead, seated, front_accepted}
-use Rattle.c8_wire.proofs.TableLemmas.{IsAccepted}
+use Rattle.c8_wire.proofs.HeadLemmas.{then}
+use Rattle.c8_wire.proofs.RunLemmas.{not_above}
+use Rattle.c8_wire.proofs.BodyLemmas.{IsRight, IsBody}
 
-pub length-hello : (bytes : List ℕ) → length bytes ≡ 24 + size_at bytes → IsAccepted kinds.Hello bytes → length bytes ≡ 24
-unfolding applies
-length-hello bytes sized a = let fixed = a.length in grind (arith, nat_tests)
+pub hello_found : (version : WireVersion) (width : ℕ) (body : List ℕ) → IsRight kinds.Hello version width body → IsBody kinds.Hello version width body
+hello_found version width [] right = record { named = refl; fits = tt; message = tt; room = refl; spelled = refl }
+hello_found version width (byte ∷ body) right = let none = right.size in absurd (omega (arith, none))
 
-pub spelled_hello : (version : WireVersion) (bytes : List ℕ) → length bytes ≡ 24 → drop 24 bytes ≡ body_bytes version Hello
-spelled_hello version bytes long = drop_all 24 bytes (omega arith)
-
-pub record IsWelcomeShaped (bytes : List ℕ) : Type 0 where
-  pub size : length bytes ≡ 28
-  pub ack : number_at 24 4 bytes ≤ most_inputs
-
-pub welcome_shaped : (bytes : List ℕ) → length bytes ≡ 24 + size_at bytes → IsAccepted kinds.Welcome bytes → IsWelcomeShaped bytes
-unfolding applies
-welcome_shaped bytes sized a =
-    let fixed = a.length in
-    let beyond = a.beyond in
-    record { size = grind (arith, nat_tests); ack = grind (arith, nat_tests) }
-
-pub spelled_welcome : (version : WireVersion) (bytes : List ℕ) → AreBytes bytes → IsWelcomeShaped bytes
-    → drop 24 bytes ≡ body_bytes version (Welcome (number_at 24 4 bytes))
-spelled_welcome version bytes fits is = then (big_bytes 4 (number_at 24 4 bytes))
-    (spelled_at 24 4 28 bytes refl (omega (arith, is.size)) fits) (drop_all 28 bytes (omega (arith, is.size)))
-
-pub ack_again : (head : HeadValue) (size ack : ℕ) → ack ≤ most_inputs
-    → number_at 24 4 (header_bytes head size ++ body_bytes head.version (Welcome ack)) ≡ ack
-unfolding number_at
-ack_again head size ack few = big_number-reads_back 4 ack [] (omega arith)
-
--- no refusal applies to the spelling
-pub hello_accepted : (bytes : List ℕ) (head : HeadValue) → are_seats kinds.Hello head.from head.to ≡ true → HasHead bytes head 0
-    → length bytes ≡ 24 → IsAccepted kinds.Hello bytes
-unfolding applies
-hello_accepted bytes head seats has long =
-    let front = front_accepted kinds.Hello bytes head 0 has long in
+pub welcome_found : (version : WireVersion) (width : ℕ) (body : List ℕ) → AreBytes body → IsRight kinds.Welcome version width body
+    → IsBody kinds.Welcome version width body
+welcome_found version width body fits right =
+    let size : length body ≡ 4 = right.size in
     record {
-      short = front.short;
-      magic = front.magic;
-      version = front.version;
-      length = grind (arith, nat_tests, has.sized);
-      player = seated kinds.Hello bytes head 0 has seats;
-      reserved = refl;
-      count = refl;
-      pairs = refl;
-      beyond = refl;
+      named = refl;
+      fits = tt;
+      message = ltb-false most_inputs (number_at 0 4 body) right.beyond;
+      room = refl;
+      spelled = then (big_bytes 4 (number_at 0 4 body)) (spelled_at 0 4 4 body refl (omega (arith, size)) fits) (drop_all 4 body (omega
+          (arith, size)));
     }
 
-pub welcome_accepted : (bytes : List ℕ) (head : HeadValue) (ack : ℕ) → are_seats kinds.Welcome head.from head.to ≡ true → ack ≤ most_inputs
-    → HasHead bytes head 4 → length bytes ≡ 28 → number_at 24 4 bytes ≡ ack → IsAccepted kinds.Welcome bytes
-unfolding applies
-welcome_accepted bytes head ack seats few has long body =
-    let front = front_accepted kinds.Welcome bytes head 4 has long in
+pub ack_again : (ack : ℕ) → ack ≤ most_inputs → number_at 0 4 (big_bytes 4 ack) ≡ ack
+unfolding number_at
+ack_again ack few = big_number-reads_back 4 ack [] (omega (arith, few))
+
+pub hello_right : (version : WireVersion) (width : ℕ) → IsRight kinds.Hello version width []
+hello_right version width =
+    record { size = refl; leaver = refl; reserved = refl; count = refl; pairs = refl; beyond = refl }
+
+pub welcome_right : (version : WireVersion) (width ack : ℕ) → ack ≤ most_inputs
+    → IsRight kinds.Welcome version width (body_bytes version width (Welcome ack))
+welcome_right version width ack few =
     record {
-      short = front.short;
-      magic = front.magic;
-      version = front.version;
-      length = grind (arith, nat_tests, has.sized);
-      player = seated kinds.Welcome bytes head 4 has seats;
+      size = refl;
+      leaver = refl;
       reserved = refl;
       count = refl;
       pairs = refl;
-      beyond = grind (arith, nat_tests);
+      beyond = not_above most_inputs (number_at 0 4 (big_bytes 4 ack)) (omega (arith, ack_again ack few, few));
     }

@@ -6,7 +6,8 @@ use Rattle.c8_wire.specs.declared.error.WireError.{WireError}
 use Rattle.c8_wire.specs.declared.error.WireError.TheVariants as errors
 use Rattle.c8_wire.specs.declared.kinds.DatagramKind.{DatagramKind}
 use Rattle.c8_wire.specs.declared.kinds.DatagramKind.TheVariants as kinds
-use Rattle.c8_wire.specs.Kinds.{shape_of, all_kinds, kind_of_code}
+use Rattle.c8_game.specs.declared.wire.WireVersion.{WireVersion}
+use Rattle.c8_wire.specs.Kinds.{shape_of, all_kinds, kind_of_code, is_in, kind_among, kind_in}
 use Rattle.c8_wire.specs.Reading.{kind_at}
 use Rattle.c8_wire.specs.Refusal.{applies, first_of, front_refusals, body_refusals, refusal}
 
@@ -51,6 +52,32 @@ kind_of_its_code kinds.Frozen = refl
 kind_of_its_code kinds.Cut = refl
 kind_of_its_code kinds.Show = refl
 kind_of_its_code kinds.Seen = refl
+kind_of_its_code kinds.Pass = refl
+kind_of_its_code kinds.Refused = refl
+
+-- the kind that a code names in a version has that code, and the version has it
+pub record IsNamed (version : WireVersion) (code : ℕ) (kind : DatagramKind) : Type 0 where
+  pub code_is : code ≡ (shape_of kind).code
+  pub is_in : is_in version kind ≡ true
+
+named_among : (version : WireVersion) (code : ℕ) (found : Option DatagramKind) (kind : DatagramKind) → kind_of_code code ≡ found
+    → kind_among version found ≡ Some kind → IsNamed version code kind
+named_among version code None kind is e = absurd cc
+named_among version code (Some other) kind is e = elim (found_in (is_in version other) other kind None e) [
+  | inl here ↦ record {
+    code_is = code_of_found code kind (is ∙ ap Some here.1);
+    is_in = ap (λ (k : DatagramKind). is_in version k) (sym here.1) ∙ here.0;
+  }
+  | inr none ↦ absurd cc
+]
+
+pub named_in : (version : WireVersion) (code : ℕ) (kind : DatagramKind) → kind_in version code ≡ Some kind → IsNamed version code kind
+named_in version code kind e = named_among version code (kind_of_code code) kind refl e
+
+pub kind_in_its_version : (version : WireVersion) (kind : DatagramKind) → is_in version kind ≡ true
+    → kind_in version (shape_of kind).code ≡ Some kind
+kind_in_its_version version kind has =
+    ap (kind_among version) (kind_of_its_code kind) ∙ ap (λ (b : Bool). cond b (Some kind) None) has
 
 -- no refusal applies to a datagram of this kind
 pub record IsAccepted (kind : DatagramKind) (bytes : List ℕ) : Type 0 where

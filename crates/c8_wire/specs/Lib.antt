@@ -1,4 +1,5 @@
 pub mod Sizes
+pub mod Format
 pub mod Kinds
 pub mod Seats
 pub mod Errors

@@ -1,5 +1,5 @@
 -- The table of refusals: when each applies, and which one is the answer.
-use Rattle.std.specs.Prelude.{ℕ, ◌+◌, ◌*◌, ◌==◌, ◌||◌, ◌&&◌, Bool, false, not, ◌-◌, ◌%◌, drop, nat_lt, nat_le, List, [], ◌∷◌, ◌++◌, length}
+use Rattle.std.specs.Prelude.{ℕ, ◌+◌, ◌*◌, ◌==◌, ◌||◌, ◌&&◌, Bool, false, not, ◌-◌, ◌%◌, drop, nat_lt, List, [], ◌∷◌, ◌++◌, length}
 use Rattle.std.specs.Prelude.{slice_index, Option, Some, None, is_none, find, if◌then◌else◌}
 use Rattle.c8_game.specs.Rules.{most_frames, most_inputs}
 use Rattle.c8_game.specs.declared.wire.WireVersion.{WireVersion}
@@ -9,82 +9,109 @@ use Rattle.c8_wire.specs.declared.error.WireError.{WireError}
 use Rattle.c8_wire.specs.declared.error.WireError.TheVariants as errors
 use Rattle.c8_wire.specs.declared.kinds.DatagramKind.{DatagramKind}
 use Rattle.c8_wire.specs.declared.kinds.DatagramKind.TheVariants as kinds
-use Rattle.c8_wire.specs.Sizes.{header_length, longest_run, most_pairs, most_rows, row_length}
+use Rattle.c8_wire.specs.Sizes.{header_length, pairs_bytes, most_rows, row_length}
+use Rattle.c8_pairs.specs.Sizes.{longest_run}
 use Rattle.c8_wire.specs.declared.kinds.Tail.{Tail}
 use Rattle.c8_wire.specs.declared.kinds.Tail.TheVariants as tails
-use Rattle.c8_wire.specs.Kinds.{shape_of, is_run, has_tail, run_place}
+use Rattle.c8_wire.specs.Kinds.{shape_of, is_run, has_tail, lead_length, has_news}
+use Rattle.c8_wire.specs.Packet.{NewsValue}
 use Rattle.c8_wire.specs.Seats.{is_within, are_seats}
-use Rattle.c8_wire.specs.Reading.{number_at, version_at, kind_at, size_at}
+use Rattle.c8_wire.specs.Reading.{number_at, version_at, width_at, kind_at, size_at, news_in, body_at}
 
--- the length of the body differs from what the header says or from what the kind needs
+-- how many bytes follow the header before a run or rows
+abbrev pub fixed_in : WireVersion → DatagramKind → ℕ
+fixed_in version kind = lead_length version (shape_of kind).lead + (shape_of kind).fixed
+
+-- the length of what follows the header differs from what it says or from what the kind needs
 abbrev pub is_misfit : DatagramKind → List ℕ → Bool
 is_misfit kind bytes = not (length bytes == header_length + size_at bytes)
-    || (if has_tail (shape_of kind).tail then nat_lt (size_at bytes) (shape_of kind).fixed else not (size_at bytes == (shape_of kind).fixed))
+    || (if has_tail (shape_of kind).tail then nat_lt (size_at bytes) (fixed_in (version_at bytes) kind) else not (size_at bytes == fixed_in
+    (version_at bytes) kind))
 
--- Sender and addressee cannot exchange such a datagram, or the leaver is not 2 to 4.
+-- The player that the body begins with is not 2 to 4, or sender and addressee cannot exchange such a datagram.
+abbrev pub misnames_leaver : DatagramKind → List ℕ → Bool
+misnames_leaver kind body = (shape_of kind).names_leaver && not (is_within 2 4 (slice_index body 0))
+
 abbrev pub misnames_players : DatagramKind → List ℕ → Bool
-misnames_players kind bytes = ((shape_of kind).names_leaver && not (is_within 2 4 (slice_index bytes 24)))
-    || not (are_seats kind (slice_index bytes 12) (slice_index bytes 13))
+misnames_players kind bytes = misnames_leaver kind (body_at kind bytes) || not (are_seats kind (slice_index bytes 12) (slice_index bytes 13))
 
--- the byte after the leaver is not 0
+-- the byte after that player is not 0
 abbrev pub fills_reserved : DatagramKind → List ℕ → Bool
-fills_reserved kind bytes = (shape_of kind).names_leaver && not (slice_index bytes 25 == 0)
+fills_reserved kind body = (shape_of kind).names_leaver && not (slice_index body 1 == 0)
 
--- the start and the count of a run, or of rows, are the last six bytes of the fixed part
-abbrev pub start_at : DatagramKind → List ℕ → ℕ
-start_at kind bytes = number_at (18 + (shape_of kind).fixed) 4 bytes
+-- the last byte of the news has a bit that means nothing
+abbrev pub fills_ends : DatagramKind → List ℕ → Bool
+fills_ends kind bytes = has_news (version_at bytes) (shape_of kind).lead && nat_lt 3 (news_in bytes).ends
 
-abbrev pub count_at : DatagramKind → List ℕ → ℕ
-count_at kind bytes = number_at (22 + (shape_of kind).fixed) 2 bytes
+abbrev pub is_reserved : DatagramKind → List ℕ → Bool
+is_reserved kind bytes = fills_reserved kind (body_at kind bytes) || fills_ends kind bytes
+
+-- the start and the count of a run, or of rows, are the last six bytes of the fixed part of a body
+abbrev pub start_in : DatagramKind → List ℕ → ℕ
+start_in kind body = number_at ((shape_of kind).fixed - 6) 4 body
+
+abbrev pub count_in : DatagramKind → List ℕ → ℕ
+count_in kind body = number_at ((shape_of kind).fixed - 2) 2 body
 
 abbrev pub run_end : DatagramKind → List ℕ → ℕ
-run_end kind bytes = start_at kind bytes + count_at kind bytes
+run_end kind body = start_in kind body + count_in kind body
 
--- A run of this many inputs cannot have this many bytes: two for each in version 1; at most 42 whole
--- pairs in version 2.
-abbrev pub has_wrong_size : WireVersion → ℕ → ℕ → Bool
-has_wrong_size versions.One count size = not (size == 2 * count)
-has_wrong_size versions.Two count size = not (size % 3 == 0) || nat_lt (3 * most_pairs) size
+-- A run of this many inputs cannot have this many bytes: an input for each in version 1; whole pairs in the others, not too many.
+abbrev pub has_wrong_size : WireVersion → ℕ → ℕ → ℕ → Bool
+has_wrong_size versions.One width count size = not (size == width * count)
+has_wrong_size versions.Two width count size = not (size % (width + 1) == 0) || nat_lt (pairs_bytes versions.Two) size
+has_wrong_size versions.Three width count size = not (size % (width + 1) == 0) || nat_lt (pairs_bytes versions.Three) size
 
 -- the run is too long, or has a wrong number of bytes; it ends the body
-abbrev pub miscounts_run : DatagramKind → List ℕ → Bool
-miscounts_run kind bytes =
-    nat_lt longest_run (count_at kind bytes) || has_wrong_size (version_at bytes) (count_at kind bytes) (size_at bytes - (shape_of kind).fixed)
+abbrev pub miscounts_run : DatagramKind → WireVersion → ℕ → List ℕ → Bool
+miscounts_run kind version width body =
+    nat_lt (longest_run width) (count_in kind body)
+    || has_wrong_size version width (count_in kind body) (length (drop (shape_of kind).fixed body))
 
--- there are too many rows, or not eight bytes for each
-abbrev pub miscounts_rows : DatagramKind → List ℕ → Bool
-miscounts_rows kind bytes =
-    nat_lt most_rows (count_at kind bytes) || not (size_at bytes == (shape_of kind).fixed + row_length * count_at kind bytes)
+-- there are too many rows, or not four inputs for each
+abbrev pub miscounts_rows : DatagramKind → ℕ → List ℕ → Bool
+miscounts_rows kind width body =
+    nat_lt (most_rows width) (count_in kind body) || not (length body == (shape_of kind).fixed + row_length width * count_in kind body)
 
-abbrev pub miscounts_tail : Tail → DatagramKind → List ℕ → Bool
-miscounts_tail tails.Nothing kind bytes = false
-miscounts_tail tails.Run kind bytes = miscounts_run kind bytes
-miscounts_tail tails.Rows kind bytes = miscounts_rows kind bytes
+abbrev pub miscounts_tail : Tail → DatagramKind → WireVersion → ℕ → List ℕ → Bool
+miscounts_tail tails.Nothing kind version width body = false
+miscounts_tail tails.Run kind version width body = miscounts_run kind version width body
+miscounts_tail tails.Rows kind version width body = miscounts_rows kind width body
 
-abbrev pub miscounts : DatagramKind → List ℕ → Bool
-miscounts kind bytes = miscounts_tail (shape_of kind).tail kind bytes
+abbrev pub miscounts : DatagramKind → WireVersion → ℕ → List ℕ → Bool
+miscounts kind version width body = miscounts_tail (shape_of kind).tail kind version width body
 
--- in version 2: a pair has no inputs, two neighbours have the same key set, or the total is not the
--- count
-abbrev pub are_no_run : WireVersion → ℕ → List ℕ → Bool
-are_no_run versions.One count bytes = false
-are_no_run versions.Two count bytes = not (are_run (pairs_at bytes) count)
+-- These bytes are not the pairs of a run of this many inputs. Version 1 has no pairs.
+abbrev pub are_no_run : WireVersion → ℕ → ℕ → List ℕ → Bool
+are_no_run versions.One width count bytes = false
+are_no_run versions.Two width count bytes = not (are_run (pairs_at width bytes) count)
+are_no_run versions.Three width count bytes = not (are_run (pairs_at width bytes) count)
 
-abbrev pub mispairs : DatagramKind → List ℕ → Bool
-mispairs kind bytes = is_run (shape_of kind).tail && are_no_run (version_at bytes) (count_at kind bytes) (drop (run_place kind) bytes)
+abbrev pub mispairs : DatagramKind → WireVersion → ℕ → List ℕ → Bool
+mispairs kind version width body = is_run (shape_of kind).tail && are_no_run version width (count_in kind body) (drop (shape_of kind).fixed body)
 
 -- A number of inputs is above the most that a list can have, or one of rows above the most that a game
 -- can have, or a run or rows end too late.
 abbrev pub goes_beyond : DatagramKind → List ℕ → Bool
-goes_beyond kinds.Hello bytes = false
-goes_beyond kinds.Welcome bytes = nat_lt most_inputs (number_at 24 4 bytes)
-goes_beyond kinds.Data bytes = nat_lt most_inputs (number_at 24 4 bytes) || nat_lt most_inputs (number_at 28 4 bytes)
-    || nat_lt most_inputs (run_end kinds.Data bytes)
-goes_beyond kinds.Freeze bytes = nat_lt most_inputs (number_at 26 4 bytes)
-goes_beyond kinds.Frozen bytes = nat_lt most_inputs (number_at 26 4 bytes) || nat_lt (number_at 26 4 bytes) (run_end kinds.Frozen bytes)
-goes_beyond kinds.Cut bytes = nat_lt most_inputs (number_at 26 4 bytes) || nat_lt (number_at 26 4 bytes) (run_end kinds.Cut bytes)
-goes_beyond kinds.Show bytes = nat_lt most_frames (run_end kinds.Show bytes)
-goes_beyond kinds.Seen bytes = nat_lt most_frames (number_at 24 4 bytes)
+goes_beyond kinds.Hello body = false
+goes_beyond kinds.Welcome body = nat_lt most_inputs (number_at 0 4 body)
+goes_beyond kinds.Data body = nat_lt most_inputs (number_at 0 4 body) || nat_lt most_inputs (number_at 4 4 body)
+    || nat_lt most_inputs (run_end kinds.Data body)
+goes_beyond kinds.Freeze body = nat_lt most_inputs (number_at 2 4 body)
+goes_beyond kinds.Frozen body = nat_lt most_inputs (number_at 2 4 body) || nat_lt (number_at 2 4 body) (run_end kinds.Frozen body)
+goes_beyond kinds.Cut body = nat_lt most_inputs (number_at 2 4 body) || nat_lt (number_at 2 4 body) (run_end kinds.Cut body)
+goes_beyond kinds.Show body = nat_lt most_frames (run_end kinds.Show body)
+goes_beyond kinds.Seen body = nat_lt most_frames (number_at 0 4 body)
+goes_beyond kinds.Pass body = nat_lt most_inputs (run_end kinds.Pass body)
+goes_beyond kinds.Refused body = false
+
+-- the same of news
+abbrev pub are_beyond : NewsValue → Bool
+are_beyond news = nat_lt most_inputs news.one || (nat_lt most_inputs news.two || (nat_lt most_inputs news.three || nat_lt most_frames
+    news.confirmed))
+
+abbrev pub is_beyond : DatagramKind → List ℕ → Bool
+is_beyond kind bytes = goes_beyond kind (body_at kind bytes) || (has_news (version_at bytes) (shape_of kind).lead && are_beyond (news_in bytes))
 
 -- whether there is a kind and the test is true for it
 abbrev pub is_kind_and : Option DatagramKind → (DatagramKind → Bool) → Bool
@@ -95,14 +122,14 @@ is_kind_and (Some kind) test = test kind
 unfoldable pub applies : WireError → Option DatagramKind → List ℕ → Bool
 applies errors.Short kind bytes = nat_lt (length bytes) header_length
 applies errors.Magic kind bytes = not (number_at 0 2 bytes == 0x4338)
-applies errors.Version kind bytes = not (slice_index bytes 2 == 1) && not (slice_index bytes 2 == 2)
+applies errors.Version kind bytes = not (is_within 1 10 (slice_index bytes 2))
 applies errors.Kind kind bytes = is_none kind
 applies errors.Length kind bytes = is_kind_and kind (λ k. is_misfit k bytes)
 applies errors.Player kind bytes = is_kind_and kind (λ k. misnames_players k bytes)
-applies errors.Reserved kind bytes = is_kind_and kind (λ k. fills_reserved k bytes)
-applies errors.Count kind bytes = is_kind_and kind (λ k. miscounts k bytes)
-applies errors.Pairs kind bytes = is_kind_and kind (λ k. mispairs k bytes)
-applies errors.Beyond kind bytes = is_kind_and kind (λ k. goes_beyond k bytes)
+applies errors.Reserved kind bytes = is_kind_and kind (λ k. is_reserved k bytes)
+applies errors.Count kind bytes = is_kind_and kind (λ k. miscounts k (version_at bytes) (width_at bytes) (body_at k bytes))
+applies errors.Pairs kind bytes = is_kind_and kind (λ k. mispairs k (version_at bytes) (width_at bytes) (body_at k bytes))
+applies errors.Beyond kind bytes = is_kind_and kind (λ k. is_beyond k bytes)
 
 -- the refusals in the order of the table: four for the header, then six that need the kind
 abbrev pub front_refusals : List WireError

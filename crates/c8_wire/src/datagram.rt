@@ -6,6 +6,7 @@ use crate::handshake::{Hello, Welcome};
 use crate::header::Header;
 use crate::kinds::DatagramKind;
 use crate::leaving::{Cut, Freeze, Frozen};
+use crate::passing::{Pass, Refused};
 use crate::showing::{Seen, Show};
 
 /// A valid datagram, borrowed from the received bytes. Nothing is copied.
@@ -19,6 +20,8 @@ pub enum Datagram<'a> {
     Cut(Cut<'a>),
     Show(Show<'a>),
     Seen(Seen<'a>),
+    Pass(Pass<'a>),
+    Refused(Refused<'a>),
 }
 
 impl<'a> Datagram<'a> {
@@ -59,6 +62,14 @@ impl<'a> Datagram<'a> {
             },
             Datagram::Seen(lent) => Header {
                 kind: DatagramKind::Seen,
+                bytes: lent.bytes,
+            },
+            Datagram::Pass(lent) => Header {
+                kind: DatagramKind::Pass,
+                bytes: lent.bytes,
+            },
+            Datagram::Refused(lent) => Header {
+                kind: DatagramKind::Refused,
                 bytes: lent.bytes,
             },
         }

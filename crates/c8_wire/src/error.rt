@@ -13,28 +13,27 @@ pub enum WireError {
     /// The first two bytes are not `43 38` (hexadecimal).
     #[error("the first two bytes are those of no datagram")]
     Magic,
-    /// Byte 2 is neither 1 nor 2.
+    /// Byte 2 is not 1 to 10: versions 1 and 2, and version 3 with inputs of 1 to 8 bytes.
     #[error("another version of the format")]
     Version,
-    /// No kind has the number in byte 3.
+    /// No kind of this version has the number in byte 3.
     #[error("a datagram of no known kind")]
     Kind,
-    /// The length of the body differs from what the header says or from what the kind needs.
+    /// The length of what follows the header differs from what it says or from what the kind needs.
     #[error("the body has another length than it should have")]
     Length,
     /// The sender or the addressee is not 1 to 4, or both are the same. In SHOW they are not 1 and a
-    /// watcher (5 or 6), in SEEN not a watcher and 1. Or the leaver is not 2 to 4.
+    /// watcher (5 or 6), in SEEN not a watcher and 1. Or the leaver, or in PASS the player, is not 2 to 4.
     #[error("a player who cannot stand there")]
     Player,
-    /// The byte after the leaver is not 0.
+    /// The byte after the leaver is not 0, or in version 3 a bit of the news that means nothing is set.
     #[error("a byte that must be 0 is not")]
     Reserved,
-    /// More than 64 inputs, or a wrong number of bytes for them: two for each input in version 1, three
-    /// for each of at most 42 pairs in version 2. In SHOW, more than 16 rows, or not eight bytes for
-    /// each.
+    /// More inputs than a run may have, or a wrong number of bytes for them: two for each input in version 1, whole pairs
+    /// in the others, at most 128 bytes, in version 3 102. In SHOW, more rows than it may have, or not four inputs for each.
     #[error("more inputs or rows than allowed, or not as many bytes as they may have")]
     Count,
-    /// In version 2: a pair has no inputs, two neighbours have the same key set, or the total of the
+    /// From version 2 on: a pair has no inputs, two neighbours have the same input, or the total of the
     /// pairs is not the count.
     #[error("pairs that are not those of a run")]
     Pairs,

@@ -1,8 +1,9 @@
 //! HELLO and WELCOME, borrowed from their bytes.
-ghost use Rattle.std.specs.Prelude.{◌≡◌, ◌≤◌, length};
+ghost use Rattle.std.specs.Prelude.{◌≡◌, ◌≤◌, [], length};
 ghost use Rattle.std.proofs.Props.{props};
 ghost use Rattle.c8_wire.specs.declared.kinds.DatagramKind.TheVariants as kinds;
-ghost use Rattle.c8_wire.specs.Reading.{packet_at};
+ghost use Rattle.c8_wire.specs.Kinds.{body_place};
+ghost use Rattle.c8_wire.specs.Reading.{version_at, packet_in};
 ghost use Rattle.c8_wire.specs.Spelling.{Spells};
 
 use crate::layout::ACK_AT;
@@ -13,16 +14,18 @@ use c8_game::MOST_INPUTS;
 #[derive(Clone, Copy, Debug)]
 pub struct Hello<'a> {
     pub(crate) bytes: &'a [u8],
-    pub(crate) ghost size: { length bytes.now ≡ 24 },
-    pub(crate) ghost spelled: { Spells bytes.now (packet_at kinds.Hello bytes.now) } by { Prim.hlevel props },
+    pub(crate) ghost whole: { body_place (version_at bytes.now) kinds.Hello ≤ length bytes.now },
+    pub(crate) ghost spelled: { Spells bytes.now (packet_in kinds.Hello bytes.now []) } by { Prim.hlevel props },
 }
 
 /// A WELCOME datagram: the answer to a HELLO. It opens the addressee's link.
 #[derive(Clone, Copy, Debug)]
 pub struct Welcome<'a> {
     pub(crate) bytes: &'a [u8],
-    pub(crate) ghost size: { length bytes.now ≡ 28 },
-    pub(crate) ghost spelled: { Spells bytes.now (packet_at kinds.Welcome bytes.now) } by { Prim.hlevel props },
+    pub(crate) body: &'a [u8],
+    pub(crate) ghost whole: { body_place (version_at bytes.now) kinds.Welcome ≤ length bytes.now },
+    pub(crate) ghost size: { length body.now ≡ 4 },
+    pub(crate) ghost spelled: { Spells bytes.now (packet_in kinds.Welcome bytes.now body.now) } by { Prim.hlevel props },
 }
 
 impl<'a> Welcome<'a> {
@@ -33,6 +36,6 @@ impl<'a> Welcome<'a> {
         ensures value { result ≡ ack_of self.now }
         ensures most { result ≤ MOST_INPUTS }
     {
-        u32_at(self.bytes, ACK_AT)
+        u32_at(self.body, ACK_AT)
     }
 }

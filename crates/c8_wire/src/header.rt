@@ -1,15 +1,20 @@
-//! The header of a datagram: sender, addressee, match, epochs, and version of the format.
-ghost use Rattle.std.specs.Prelude.{◌≡◌, ◌≤◌, true, false, length, MatchOption};
-ghost use Rattle.c8_wire.specs.Reading.{kind_at, head_at};
+//! The header of a datagram: sender, addressee, session, epochs, version of the format, and in version 3 match and life.
+ghost use Rattle.std.specs.Prelude.{◌≡◌, ◌≤◌, ◌<◌, true, false, length, MatchOption};
+ghost use Rattle.c8_wire.specs.Format.{has_lives};
+ghost use Rattle.c8_wire.specs.Kinds.{shape_of, is_in, has_life, body_place};
+ghost use Rattle.c8_game.specs.Wire.{version_number};
+ghost use Rattle.c8_wire.specs.Reading.{version_at, head_at};
 ghost use Rattle.c8_wire.specs.Packet.{IsHead};
 ghost use Rattle.c8_wire.specs.Seats.{are_seats};
 
 use crate::kinds::DatagramKind;
-use crate::layout::{ADDRESSEE_EPOCH_AT, FROM_AT, SENDER_EPOCH_AT, SESSION_AT, TO_AT};
+use crate::layout::{
+    ADDRESSEE_EPOCH_AT, FROM_AT, LIFE_AT, MATCH_AT, SENDER_EPOCH_AT, SESSION_AT, TO_AT,
+};
 use crate::numbers::{u32_at, u64_at};
-use crate::version::version_in;
+use crate::version::{has_lives, version_in, width_in};
 use crate::watcher::Watcher;
-use c8_game::{Player, WireVersion};
+use c8_game::{Player, Width, WireVersion};
 
 /// The sender or the addressee of a datagram: a player, 1 to 4, or a watcher, 5 or 6.
 #[derive(Clone, Copy, Debug, PartialEq, Eq, Hash)]
@@ -65,18 +70,29 @@ impl From<Watcher> for Seat {
     }
 }
 
-/// The fields of a header by value, without the length of the body.
+/// The fields of a header by value, without the length of what follows it.
 #[derive(Clone, Copy, Debug, PartialEq, Eq, Hash)]
 pub struct Head {
     pub kind: DatagramKind,
     pub version: WireVersion,
-    /// The match that the datagram belongs to.
+    /// How many bytes an input has: 2 in versions 1 and 2.
+    pub width: Width,
+    /// The game and the room that the datagram belongs to.
     pub session: u64,
     pub from: Seat,
     pub to: Seat,
     pub sender_epoch: u32,
     /// 0 if the sender does not know it.
     pub addressee_epoch: u32,
+    /// In version 3 the match that the datagram belongs to: the life of player 1. 0 if it names none.
+    pub match_number: u64,
+    /// In HELLO and WELCOME of version 3 the life of the one of the two who is not player 1, and between two others that of
+    /// the sender. Else 0.
+    pub life: u64,
+    pub ghost early: { version_number version < 3 → width.bytes ≡ 2 },
+    pub ghost unmatched: { has_lives version ≡ false → match_number ≡ 0 },
+    pub ghost lifeless: { has_life version (shape_of kind).lead ≡ false → life ≡ 0 },
+    pub ghost known: { is_in version kind ≡ true },
     pub ghost seats: { are_seats kind from.number to.number ≡ true },
 }
 
@@ -85,7 +101,7 @@ pub struct Head {
 pub struct Header<'a> {
     pub(crate) kind: DatagramKind,
     pub(crate) bytes: &'a [u8],
-    pub(crate) ghost whole: { 24 ≤ length bytes.now },
+    pub(crate) ghost whole: { body_place (version_at bytes.now) kind ≤ length bytes.now },
     pub(crate) ghost valid: { IsHead (head_at kind bytes.now) },
 }
 
@@ -100,14 +116,21 @@ impl<'a> Header<'a> {
         self.kind
     }
 
-    /// Returns the version of the format: 1 or 2, in byte 2.
+    /// Returns the version of the format, which byte 2 names.
     pub fn version(&self) -> WireVersion
         ensures { result ≡ (head_of self.now).version }
     {
         version_in(self.bytes)
     }
 
-    /// The match that the datagram belongs to.
+    /// Returns how many bytes an input has, which byte 2 names.
+    pub fn width(&self) -> Width
+        ensures { result.bytes ≡ (head_of self.now).width }
+    {
+        width_in(self.bytes)
+    }
+
+    /// Returns the session: it stands for the game and the room.
     pub fn session(&self) -> u64
         ensures { result ≡ (head_of self.now).session }
     {
@@ -146,6 +169,30 @@ impl<'a> Header<'a> {
         u32_at(self.bytes, ADDRESSEE_EPOCH_AT)
     }
 
+    /// Returns the match: the life of player 1. 0 if none is named, and in versions 1 and 2.
+    #[tactic(auto, using(crate::proofs::LeadLemmas::match_room))]
+    pub fn match_number(&self) -> u64
+        ensures { result ≡ (head_of self.now).match_number }
+    {
+        if has_lives(self.version()) {
+            u64_at(self.bytes, MATCH_AT)
+        } else {
+            0
+        }
+    }
+
+    /// Returns the life in a HELLO or WELCOME of version 3; 0 if none is named, and in other datagrams.
+    #[tactic(auto, using(crate::proofs::LeadLemmas::life_room))]
+    pub fn life(&self) -> u64
+        ensures { result ≡ (head_of self.now).life }
+    {
+        if self.kind.shape().lead.has_life(self.version()) {
+            u64_at(self.bytes, LIFE_AT)
+        } else {
+            0
+        }
+    }
+
     /// Returns all fields by value.
     pub fn head(&self) -> Head
         ensures { head_value result ≡ head_of self.now }
@@ -153,11 +200,14 @@ impl<'a> Header<'a> {
         Head {
             kind: self.kind,
             version: self.version(),
+            width: self.width(),
             session: self.session(),
             from: self.from(),
             to: self.to(),
             sender_epoch: self.sender_epoch(),
             addressee_epoch: self.addressee_epoch(),
+            match_number: self.match_number(),
+            life: self.life(),
         }
     }
 }

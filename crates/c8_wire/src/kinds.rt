@@ -1,9 +1,11 @@
 //! The kinds of datagrams: a row for each, which code and definitions read.
-ghost use Rattle.std.specs.Prelude.{◌≡◌, true, false};
-ghost use Rattle.c8_wire.specs.Kinds.{IsSized, shape_of, shape_value};
+ghost use Rattle.std.specs.Prelude.{◌≡◌, ◌≤◌, true, false};
+ghost use Rattle.c8_wire.specs.Kinds.{IsSized, shape_of, shape_value, is_in, lead_length, has_life, has_news};
 ghost use Rattle.c8_wire.specs.Seats.{are_parties, is_player, is_watcher};
 
 use crate::error::WireError;
+use crate::version::has_lives;
+use c8_game::WireVersion;
 use std::fmt;
 
 /// The kind of a datagram.
@@ -25,6 +27,21 @@ pub enum DatagramKind {
     Show,
     /// How many rows a watcher has.
     Seen,
+    /// Inputs of a third player, from player one. Version 3 alone has it.
+    Pass,
+    /// A life of the sender has refused one of the addressee, or was refused by it. Version 3 alone has it.
+    Refused,
+}
+
+/// What a datagram of version 3 has between header and body.
+#[derive(Clone, Copy, Debug, PartialEq, Eq, Hash)]
+pub enum Lead {
+    /// The match, in 8 bytes.
+    Match,
+    /// The match and a life, in 16 bytes.
+    Life,
+    /// The match and news, in 26 bytes.
+    News,
 }
 
 /// What the body of a datagram ends with.
@@ -56,6 +73,8 @@ pub enum Wanted {
     Known,
     /// It also names an epoch of its sender that is linked.
     Open,
+    /// No epochs count, and no link changes: it names lives.
+    Life,
     /// Players take none.
     Never,
 }
@@ -74,10 +93,14 @@ pub struct Shape {
     pub name: &'static str,
     /// Byte 3 of its datagrams.
     pub code: u8,
+    /// Whether version 3 alone has the kind.
+    pub late: bool,
+    /// What a datagram of version 3 has between header and body.
+    pub lead: Lead,
     /// The length in bytes of the body before its run or rows; of the whole body if it has neither.
     pub fixed: usize,
     pub tail: Tail,
-    /// Whether the body begins with a dropped player and a byte 0.
+    /// Whether the body begins with another player than player one and a byte 0.
     pub names_leaver: bool,
     pub parties: Parties,
     pub link: Wanted,
@@ -91,49 +114,84 @@ impl DatagramKind {
         ensures sized { IsSized (shape_of self) }
     {
         match self {
-            DatagramKind::Hello => asking("HELLO", 1, 0, Wanted::Nothing),
-            DatagramKind::Welcome => asking("WELCOME", 2, 4, Wanted::Known),
-            DatagramKind::Data => telling("DATA", 3, 22, Tail::Run, false),
-            DatagramKind::Freeze => telling("FREEZE", 4, 6, Tail::Nothing, true),
-            DatagramKind::Frozen => telling("FROZEN", 5, 12, Tail::Run, true),
-            DatagramKind::Cut => telling("CUT", 6, 12, Tail::Run, true),
+            DatagramKind::Hello => Shape {
+                link: Wanted::Nothing,
+                ..row("HELLO", 1, Lead::Life, 0, Tail::Nothing)
+            },
+            DatagramKind::Welcome => Shape {
+                link: Wanted::Known,
+                ..row("WELCOME", 2, Lead::Life, 4, Tail::Nothing)
+            },
+            DatagramKind::Data => row("DATA", 3, Lead::News, 22, Tail::Run),
+            DatagramKind::Freeze => telling("FREEZE", 4, 6, Tail::Nothing),
+            DatagramKind::Frozen => telling("FROZEN", 5, 12, Tail::Run),
+            DatagramKind::Cut => telling("CUT", 6, 12, Tail::Run),
             DatagramKind::Show => watching("SHOW", 7, 6, Tail::Rows, Parties::ToWatcher),
             DatagramKind::Seen => watching("SEEN", 8, 4, Tail::Nothing, Parties::FromWatcher),
+            DatagramKind::Pass => Shape {
+                late: true,
+                ..telling("PASS", 9, 8, Tail::Run)
+            },
+            DatagramKind::Refused => Shape {
+                late: true,
+                link: Wanted::Life,
+                ..row("REFUSED", 10, Lead::Match, 16, Tail::Nothing)
+            },
+        }
+    }
+
+    /// Returns whether datagrams of this version have the kind.
+    pub fn is_in(self, version: WireVersion) -> bool
+        ensures { result ≡ is_in version self }
+    {
+        has_lives(version) || !self.shape().late
+    }
+}
+
+impl Lead {
+    /// Returns how many bytes stand between header and body: none in versions 1 and 2.
+    pub fn length(self, version: WireVersion) -> usize
+        ensures value { result ≡ lead_length version self }
+        ensures few { result ≤ 26 }
+    {
+        match (version, self) {
+            (WireVersion::One | WireVersion::Two, _) => 0,
+            (WireVersion::Three, Lead::Match) => 8,
+            (WireVersion::Three, Lead::Life) => 16,
+            (WireVersion::Three, Lead::News) => 26,
+        }
+    }
+
+    /// Returns whether there is a life in a datagram of this version.
+    pub fn has_life(self, version: WireVersion) -> bool
+        ensures { result ≡ has_life version self }
+    {
+        match (version, self) {
+            (WireVersion::Three, Lead::Life) => true,
+            (WireVersion::One | WireVersion::Two, _) | (WireVersion::Three, _) => false,
+        }
+    }
+
+    /// Returns whether there are news in a datagram of this version.
+    pub fn has_news(self, version: WireVersion) -> bool
+        ensures { result ≡ has_news version self }
+    {
+        match (version, self) {
+            (WireVersion::Three, Lead::News) => true,
+            (WireVersion::One | WireVersion::Two, _) | (WireVersion::Three, _) => false,
         }
     }
 }
 
-/// The row of a kind by which players make a link.
-fn asking(name: &'static str, code: u8, fixed: usize, link: Wanted) -> Shape
+/// The row of a kind of all versions that linked players exchange, and that begins with no player.
+fn row(name: &'static str, code: u8, lead: Lead, fixed: usize, tail: Tail) -> Shape
     ensures { shape_value result ≡ record {
       code = code;
-      fixed = fixed;
-      tail = Tail.Nothing;
-      names_leaver = false;
-      parties = Parties.Players;
-      link = link;
-      key = KeyOf.Players;
-    } }
-{
-    Shape {
-        name,
-        code,
-        fixed,
-        tail: Tail::Nothing,
-        names_leaver: false,
-        parties: Parties::Players,
-        link,
-        key: KeyOf::Players,
-    }
-}
-
-/// The row of a kind by which linked players tell inputs.
-fn telling(name: &'static str, code: u8, fixed: usize, tail: Tail, names_leaver: bool) -> Shape
-    ensures { shape_value result ≡ record {
-      code = code;
+      late = false;
+      lead = lead;
       fixed = fixed;
       tail = tail;
-      names_leaver = names_leaver;
+      names_leaver = false;
       parties = Parties.Players;
       link = Wanted.Open;
       key = KeyOf.Players;
@@ -142,12 +200,34 @@ fn telling(name: &'static str, code: u8, fixed: usize, tail: Tail, names_leaver:
     Shape {
         name,
         code,
+        late: false,
+        lead,
         fixed,
         tail,
-        names_leaver,
+        names_leaver: false,
         parties: Parties::Players,
         link: Wanted::Open,
         key: KeyOf::Players,
+    }
+}
+
+/// The row of a kind that tells of another player.
+fn telling(name: &'static str, code: u8, fixed: usize, tail: Tail) -> Shape
+    ensures { shape_value result ≡ record {
+      code = code;
+      late = false;
+      lead = Lead.Match;
+      fixed = fixed;
+      tail = tail;
+      names_leaver = true;
+      parties = Parties.Players;
+      link = Wanted.Open;
+      key = KeyOf.Players;
+    } }
+{
+    Shape {
+        names_leaver: true,
+        ..row(name, code, Lead::Match, fixed, tail)
     }
 }
 
@@ -155,6 +235,8 @@ fn telling(name: &'static str, code: u8, fixed: usize, tail: Tail, names_leaver:
 fn watching(name: &'static str, code: u8, fixed: usize, tail: Tail, parties: Parties) -> Shape
     ensures { shape_value result ≡ record {
       code = code;
+      late = false;
+      lead = Lead.Match;
       fixed = fixed;
       tail = tail;
       names_leaver = false;
@@ -164,14 +246,10 @@ fn watching(name: &'static str, code: u8, fixed: usize, tail: Tail, parties: Par
     } }
 {
     Shape {
-        name,
-        code,
-        fixed,
-        tail,
-        names_leaver: false,
         parties,
         link: Wanted::Never,
         key: KeyOf::Watchers,
+        ..row(name, code, Lead::Match, fixed, tail)
     }
 }
 
@@ -194,6 +272,8 @@ impl TryFrom<u8> for DatagramKind {
             6 => Ok(DatagramKind::Cut),
             7 => Ok(DatagramKind::Show),
             8 => Ok(DatagramKind::Seen),
+            9 => Ok(DatagramKind::Pass),
+            10 => Ok(DatagramKind::Refused),
             _ => Err(WireError::Kind),
         }
     }

@@ -1,11 +1,12 @@
 //! Laws of datagrams that no single call can promise. Each is the contract of a function that does
 //! nothing.
-ghost use Rattle.std.specs.Prelude.{◌≡◌, ℕ, ◌*◌, ◌%◌, ◌<◌, ◌≤◌, List, length, take, true, None, Ok, Err, Some};
+ghost use Rattle.std.specs.Prelude.{◌≡◌, ℕ, ◌*◌, ◌%◌, ◌≤◌, List, length, take, true, None, Ok, Err, Some};
 ghost use Rattle.c8_game.specs.declared.wire.WireVersion.{WireVersion};
 ghost use Rattle.c8_game.specs.declared.wire.WireVersion.TheVariants as versions;
 ghost use Rattle.c8_wire.specs.declared.error.WireError.{WireError};
-ghost use Rattle.c8_wire.specs.Packet.{AreBytes, AreWords, Packet, has_few_stretches};
-ghost use Rattle.c8_wire.specs.Sizes.{longest_run, longest_datagram, longest_datagram_in_pairs};
+ghost use Rattle.c8_wire.specs.Packet.{AreBytes, AreInputs, Packet, has_few_stretches};
+ghost use Rattle.c8_wire.specs.Sizes.{longest_datagram, longest_datagram_in_pairs};
+ghost use Rattle.c8_pairs.specs.Sizes.{longest_run};
 ghost use Rattle.c8_wire.specs.Carried.{are_carried, carried};
 ghost use Rattle.c8_wire.specs.Spelling.{words_bytes, Spells};
 ghost use Rattle.c8_wire.specs.Reading.{words_of};
@@ -39,13 +40,14 @@ pub fn what_is_not_read_is_refused()
         → refusal bytes ≡ Some error → read bytes ≡ Err error }
 {}
 
-/// Key sets, two bytes each, survive a round trip in both directions. The runs of version 1 and the
-/// records use them.
+/// Inputs one after the other survive a round trip in both directions. The runs of version 1 and the records use them.
 pub fn words_are_their_bytes()
-    ensures again { (words : List ℕ) → AreWords words → words_of (words_bytes words) ≡ words }
-    ensures spelled { (bytes : List ℕ) → length bytes % 2 ≡ 0 → AreBytes bytes
-        → words_bytes (words_of bytes) ≡ bytes }
-    ensures size { (words : List ℕ) → length (words_bytes words) ≡ 2 * length words }
+    ensures again { (width : ℕ) (words : List ℕ) → 1 ≤ width → AreInputs width words
+        → words_of width (words_bytes width words) ≡ words }
+    ensures spelled { (width : ℕ) (bytes : List ℕ) → 1 ≤ width → length bytes % width ≡ 0
+        → AreBytes bytes → words_bytes width (words_of width bytes) ≡ bytes }
+    ensures size { (width : ℕ) (words : List ℕ)
+        → length (words_bytes width words) ≡ width * length words }
 {}
 
 /// A datagram has at most 174 bytes, and in version 2 at most 172.
@@ -56,17 +58,18 @@ pub fn a_datagram_is_short()
         → p.head.version ≡ versions.Two → length bytes ≤ longest_datagram_in_pairs }
 {}
 
-/// The inputs that one datagram carries are the longest prefix that fits: at most 64 inputs, in version
-/// 2 in at most 42 stretches. The prefix is empty only if there are no inputs. In version 1 it is the
-/// first 64.
+/// The inputs that one datagram carries are the longest prefix that fits: not more than a run may have, from version 2 on
+/// in not more stretches than it has pairs. It has at least ten inputs, or all. In version 1 it is the first 64.
 pub fn a_datagram_carries_what_fits()
-    ensures few { (version : WireVersion) (words : List ℕ)
-        → length (carried version words) ≤ longest_run }
-    ensures room { (version : WireVersion) (words : List ℕ)
-        → has_few_stretches version (carried version words) ≡ true }
-    ensures most { (version : WireVersion) (words : List ℕ) (n : ℕ) → n ≤ length words
-        → are_carried version (take n words) ≡ true → n ≤ length (carried version words) }
-    ensures some { (version : WireVersion) (words : List ℕ)
-        → 0 < length words → 0 < length (carried version words) }
-    ensures first { (words : List ℕ) → carried versions.One words ≡ take longest_run words }
+    ensures few { (version : WireVersion) (width : ℕ) (words : List ℕ)
+        → length (carried version width words) ≤ longest_run width }
+    ensures room { (version : WireVersion) (width : ℕ) (words : List ℕ)
+        → has_few_stretches version width (carried version width words) ≡ true }
+    ensures most { (version : WireVersion) (width : ℕ) (words : List ℕ) (n : ℕ) → n ≤ length words
+        → are_carried version width (take n words) ≡ true → n ≤ length (carried version width words) }
+    ensures some { (version : WireVersion) (width : ℕ) (words : List ℕ)
+        → 1 ≤ width → width ≤ 8 → 10 ≤ length words → 10 ≤ length (carried version width words) }
+    ensures short { (version : WireVersion) (width : ℕ) (words : List ℕ)
+        → 1 ≤ width → width ≤ 8 → length words ≤ 10 → carried version width words ≡ words }
+    ensures first { (words : List ℕ) → carried versions.One 2 words ≡ take 64 words }
 {}

@@ -1,70 +1,64 @@
-//! A run of inputs, borrowed from its bytes in either version.
-ghost use Rattle.std.specs.Prelude.{◌≡◌, ◌+◌, ◌*◌, ◌%◌, ◌^◌, ◌==◌, ◌<◌, ◌≤◌, ℕ, true, false, length, drop, Some, slice_get, slice_index, MatchOption};
+//! A run of inputs, borrowed from its bytes in either form.
+ghost use Rattle.std.specs.Prelude.{◌≡◌, ◌+◌, ◌*◌, ◌%◌, ◌==◌, ◌<◌, ◌≤◌, ℕ, true, false, length, drop, Some, slice_get, slice_index, MatchOption};
 ghost use Rattle.std.specs.Iterator.{YieldsFirst, item_count};
-ghost use Rattle.c8_game.specs.declared.wire.WireVersion.TheVariants as versions;
-ghost use Rattle.c8_wire.specs.Spelling.{SpellsWords, inputs_bytes};
+ghost use Rattle.c8_game.specs.Inputs.{Fits};
+ghost use Rattle.c8_wire.specs.Format.{is_plain_in};
+ghost use Rattle.c8_wire.specs.Spelling.{SpellsWords};
 ghost use Rattle.c8_wire.specs.Reading.{words_of, inputs_of};
+ghost use Rattle.c8_pairs.specs.Sizes.{longest_run};
 ghost use Rattle.c8_wire.specs.Refusal.{has_wrong_size, are_no_run};
-ghost use Rattle.c8_wire.specs.Lent.{version_of, words, spelled, touched, is_begun_at, IsSliceFrom, words_left};
+ghost use Rattle.c8_wire.specs.Lent.{is_plain, width_of, words, spelled, spelled_as, touched, is_begun_at, IsSliceFrom, words_left};
 
-use crate::sizes::LONGEST_RUN;
 use crate::words::{Words, WordsIter};
-use c8_game::WireVersion;
-use c8_pairs::{Pairs, PairsIter};
+use c8_game::{Input, Width, WireVersion};
+use c8_pairs::{LONGEST_RUN, Pairs, PairsIter, RUN_BYTES};
 
-/// Consecutive inputs of one player, at most 64. `==` compares the bytes, the version and the start, not
-/// the inputs: two runs of the same inputs can differ.
+/// Consecutive inputs of one player, at most 64. `==` compares the bytes, the form and the start, not the inputs: two
+/// runs of the same inputs can differ.
 #[derive(Clone, Copy, Debug)]
 pub enum Run<'a> {
-    /// Version 1: two bytes for each input.
+    /// Version 1 and records: the bytes of each input.
     Words(Words<'a>),
-    /// Version 2: a pair of three bytes for each stretch of equal key sets.
+    /// Versions 2 and 3: a pair for each stretch of equal inputs, a byte for its length and those of the input.
     Pairs(Pairs<'a>),
 }
 
 impl<'a> Run<'a> {
-    /// Wraps bytes as a run in version 1: two bytes for each input, at most 64 inputs.
-    pub fn new(bytes: &'a [u8]) -> Run<'a>
-        requires even { length bytes.now % 2 ≡ 0 }
-        requires short { length bytes.now ≤ 2 * LONGEST_RUN }
-        ensures version { version_of result ≡ versions.One }
+    /// Wraps bytes as a run of inputs one after the other, `width` bytes each, at most 64 inputs and 128 bytes.
+    pub fn new(bytes: &'a [u8], width: Width) -> Run<'a>
+        requires whole { length bytes.now % width.bytes ≡ 0 }
+        requires short { length bytes.now ≤ RUN_BYTES }
+        requires few { length bytes.now ≤ width.bytes * LONGEST_RUN }
+        ensures plain { is_plain result ≡ true }
+        ensures width { width_of result ≡ width.bytes }
         ensures slice { spelled result ≡ bytes.entry.now }
-        ensures spells { SpellsWords bytes.entry.now (words result) }
+        ensures spells { SpellsWords width.bytes bytes.entry.now (words result) }
     {
-        Run::Words(Words::new(bytes))
+        Run::Words(Words::new(bytes, width))
     }
 
-    /// Wraps bytes that are known to be a run of `count` inputs in this version.
-    pub(crate) fn of(version: WireVersion, count: usize, bytes: &'a [u8]) -> Run<'a>
-        requires few { count ≤ LONGEST_RUN }
-        requires sized { has_wrong_size version count (length bytes.now) ≡ false }
-        requires paired { are_no_run version count bytes.now ≡ false }
-        ensures version { version_of result ≡ version }
-        ensures words { words result ≡ inputs_of version bytes.entry.now }
+    /// Wraps bytes that are known to be a run of `count` inputs in this version and width.
+    pub(crate) fn of(version: WireVersion, width: Width, count: usize, bytes: &'a [u8]) -> Run<'a>
+        requires few { count ≤ longest_run width.bytes }
+        requires sized { has_wrong_size version width.bytes count (length bytes.now) ≡ false }
+        requires paired { are_no_run version width.bytes count bytes.now ≡ false }
+        ensures plain { is_plain result ≡ is_plain_in version }
+        ensures width { width_of result ≡ width.bytes }
+        ensures words { words result ≡ inputs_of version width.bytes bytes.entry.now }
         ensures whole { touched result ≡ words result }
         ensures slice { spelled result ≡ bytes.entry.now }
     {
         match version {
-            WireVersion::One => Run::Words(Words::new(bytes)),
-            WireVersion::Two => Run::Pairs(Pairs::new(bytes, count)),
+            WireVersion::One => Run::Words(Words::new(bytes, width)),
+            WireVersion::Two | WireVersion::Three => Run::Pairs(Pairs::new(bytes, count, width)),
         }
     }
 
-    /// Returns the version in which the run is encoded.
-    pub fn version(&self) -> WireVersion
-        ensures { result ≡ version_of self.now }
-    {
-        match self {
-            Run::Words(_) => WireVersion::One,
-            Run::Pairs(_) => WireVersion::Two,
-        }
-    }
-
-    /// Returns how many inputs there are, 0 to 64. Each is a set of 16 keys.
+    /// Returns how many inputs there are, 0 to 64. Each fits the width.
     pub fn len(&self) -> usize
         ensures count { result ≡ length (words self.now) }
         ensures short { result ≤ LONGEST_RUN }
-        ensures sets { (i : ℕ) → slice_index (words self.now) i < 2 ^ 16 }
+        ensures fits { (i : ℕ) → Fits (width_of self.now) (slice_index (words self.now) i) }
     {
         match self {
             Run::Words(run) => run.len(),
@@ -78,8 +72,8 @@ impl<'a> Run<'a> {
         self.len() == 0
     }
 
-    /// Returns the input at a place, from 0. In version 2 this walks over the pairs.
-    pub fn get(&self, place: usize) -> u16
+    /// Returns the input at a place, from 0. This walks over pairs.
+    pub fn get(&self, place: usize) -> Input
         requires { place < length (words self.now) }
         ensures { slice_get (words self.now) place ≡ Some result }
     {
@@ -92,7 +86,8 @@ impl<'a> Run<'a> {
     /// Returns the inputs from a place on, borrowed from the same bytes. `place` may be the length.
     pub fn from_place(&self, place: usize) -> Run<'a>
         requires { place ≤ length (words self.now) }
-        ensures version { version_of result ≡ version_of self.now }
+        ensures plain { is_plain result ≡ is_plain self.now }
+        ensures width { width_of result ≡ width_of self.now }
         ensures words { words result ≡ drop place (words self.now) }
         ensures slice { IsSliceFrom self.now place result }
     {
@@ -112,12 +107,12 @@ impl<'a> Run<'a> {
         }
     }
 
-    /// Returns the bytes of the run as they were received, at most 128. In version 2 they are whole
-    /// pairs, and the run can begin inside the first: see [`Run::skip`].
+    /// Returns the bytes of the run as they were received, at most 128. Of pairs they are whole ones, and the run can
+    /// begin inside the first: see [`Run::skip`].
     pub fn bytes(&self) -> &'a [u8]
         ensures slice { result.now ≡ spelled self.now }
-        ensures spells { inputs_bytes (version_of self.now) (touched self.now) ≡ result.now }
-        ensures short { length result.now ≤ 2 * LONGEST_RUN }
+        ensures spells { spelled_as self.now (touched self.now) ≡ result.now }
+        ensures short { length result.now ≤ RUN_BYTES }
     {
         match self {
             Run::Words(run) => run.bytes(),
@@ -125,8 +120,8 @@ impl<'a> Run<'a> {
         }
     }
 
-    /// Returns how many inputs of the first pair come before the run; 0 in version 1 and for an empty
-    /// run.
+    /// Returns how many inputs of the first pair come before the run; 0 if there are no pairs, and for
+    /// an empty run.
     pub fn skip(&self) -> usize
         ensures words { words self.now ≡ drop result (touched self.now) }
         ensures begun { is_begun_at result self.now ≡ true }
@@ -146,13 +141,13 @@ pub enum Inputs<'a> {
 }
 
 impl<'a> Iterator for Inputs<'a> {
-    type Item = u16;
+    type Item = Input;
 
     ghost next_gives = { YieldsFirst words_left };
 
     ghost remaining = { item_count words_left };
 
-    fn next(&mut self) -> Option<u16> {
+    fn next(&mut self) -> Option<Input> {
         match self {
             Inputs::Words(words) => words.next(),
             Inputs::Pairs(pairs) => pairs.next(),
@@ -161,7 +156,7 @@ impl<'a> Iterator for Inputs<'a> {
 }
 
 impl<'a> IntoIterator for &Run<'a> {
-    type Item = u16;
+    type Item = Input;
 
     type IntoIter = Inputs<'a>;
 

@@ -1,6 +1,7 @@
 //! What a datagram to be written says.
 use crate::header::Head;
-use c8_game::{Player, Row};
+use crate::news::News;
+use c8_game::{Input, Player, Row};
 
 /// The body to be written, by kind. A run or rows are borrowed from the caller.
 #[derive(Clone, Copy, Debug)]
@@ -18,7 +19,7 @@ pub enum Body<'a> {
         mark_frame: u32,
         mark: [u8; 8],
         start: u32,
-        run: &'a [u16],
+        run: &'a [Input],
     },
     /// Player one drops `leaver` and holds `have` of its inputs.
     Freeze {
@@ -30,14 +31,14 @@ pub enum Body<'a> {
         leaver: Player,
         held: u32,
         start: u32,
-        run: &'a [u16],
+        run: &'a [Input],
     },
     /// The leaver's inputs from `start` on. The first `length` of its inputs count for all who stay.
     Cut {
         leaver: Player,
         length: u32,
         start: u32,
-        run: &'a [u16],
+        run: &'a [Input],
     },
     /// Rows of the match from frame `start` on.
     Show {
@@ -48,11 +49,24 @@ pub enum Body<'a> {
     Seen {
         ack: u32,
     },
+    /// Inputs of `player` from `start` on, which player one passes on.
+    Pass {
+        player: Player,
+        start: u32,
+        run: &'a [Input],
+    },
+    /// The sender's life `mine` has refused the addressee's life `yours`, or was refused by it.
+    Refused {
+        mine: u64,
+        yours: u64,
+    },
 }
 
 /// A datagram to be written. `head.kind` must be the kind of `body`.
 #[derive(Clone, Copy, Debug)]
 pub struct Said<'a> {
     pub head: Head,
+    /// In a DATA of version 3; else `None`.
+    pub news: Option<News>,
     pub body: Body<'a>,
 }

@@ -3,21 +3,28 @@ ghost use Rattle.std.specs.Prelude.{◌≡◌, ◌≤◌, ◌<◌, ◌+◌, ◌*
 ghost use Rattle.std.specs.List.{slice_get};
 ghost use Rattle.std.proofs.Props.{props};
 ghost use Rattle.c8_wire.specs.declared.kinds.DatagramKind.TheVariants as kinds;
-ghost use Rattle.c8_wire.specs.Reading.{number_at, packet_at, row_at};
+ghost use Rattle.c8_wire.specs.Kinds.{body_place};
+ghost use Rattle.c8_wire.specs.Reading.{number_at, version_at, width_at, packet_in, row_at};
+ghost use Rattle.c8_wire.specs.Sizes.{row_length, most_rows};
 ghost use Rattle.c8_wire.specs.Spelling.{Spells};
 
-use crate::layout::{ROW_LENGTH, ROWS_AT, SEEN_ACK_AT, SHOW_COUNT_AT, SHOW_START_AT};
-use crate::numbers::{u16_at, u32_at};
-use crate::sizes::MOST_ROWS;
-use c8_game::{Keys, MOST_FRAMES, Row};
+use crate::layout::{ROWS_AT, SEEN_ACK_AT, SHOW_COUNT_AT, SHOW_START_AT};
+use crate::numbers::{input_at, u16_at, u32_at};
+use crate::sizes::{MOST_ROWS, row_length};
+use crate::version::width_in;
+use c8_game::{MOST_FRAMES, Row, Width};
 
 /// A SHOW datagram: player one sends rows of the match to a watcher.
 #[derive(Clone, Copy, Debug)]
 pub struct Show<'a> {
     pub(crate) bytes: &'a [u8],
-    pub(crate) ghost few: { number_at 28 2 bytes.now ≤ 16 },
-    pub(crate) ghost size: { length bytes.now ≡ 30 + 8 * number_at 28 2 bytes.now },
-    pub(crate) ghost spelled: { Spells bytes.now (packet_at kinds.Show bytes.now) } by { Prim.hlevel props },
+    pub(crate) body: &'a [u8],
+    pub(crate) ghost whole: { body_place (version_at bytes.now) kinds.Show ≤ length bytes.now },
+    pub(crate) ghost some: { 1 ≤ width_at bytes.now },
+    pub(crate) ghost wide: { width_at bytes.now ≤ 8 },
+    pub(crate) ghost few: { number_at 4 2 body.now ≤ most_rows (width_at bytes.now) },
+    pub(crate) ghost size: { length body.now ≡ 6 + row_length (width_at bytes.now) * number_at 4 2 body.now },
+    pub(crate) ghost spelled: { Spells bytes.now (packet_in kinds.Show bytes.now body.now) } by { Prim.hlevel props },
 }
 
 impl<'a> Show<'a> {
@@ -28,17 +35,18 @@ impl<'a> Show<'a> {
         ensures value { result ≡ (show_of self.now).start }
         ensures within { result + length (show_of self.now).rows ≤ MOST_FRAMES }
     {
-        u32_at(self.bytes, SHOW_START_AT)
+        u32_at(self.body, SHOW_START_AT)
     }
 
-    /// Returns the rows, borrowed from the received bytes from byte 30 on: at most 16.
+    /// Returns the rows, borrowed from the received bytes: at most 16.
     pub fn rows(&self) -> ShownRows<'a>
         ensures rows { shown result ≡ (show_of self.now).rows }
         ensures few { length (shown result) ≤ MOST_ROWS }
     {
         ShownRows {
-            bytes: self.bytes,
-            count: usize::from(u16_at(self.bytes, SHOW_COUNT_AT)),
+            width: width_in(self.bytes),
+            body: self.body,
+            count: usize::from(u16_at(self.body, SHOW_COUNT_AT)),
         }
     }
 }
@@ -46,14 +54,22 @@ impl<'a> Show<'a> {
 /// The rows of a SHOW. `get` decodes one from the bytes.
 #[derive(Clone, Copy, Debug)]
 pub struct ShownRows<'a> {
-    pub(crate) bytes: &'a [u8],
+    pub(crate) width: Width,
+    pub(crate) body: &'a [u8],
     pub(crate) count: usize,
     pub(crate) ghost few: { count ≤ 16 },
-    pub(crate) ghost whole: { length bytes.now ≡ 30 + 8 * count },
+    pub(crate) ghost whole: { length body.now ≡ 6 + row_length width.bytes * count },
 }
 
 impl<'a> ShownRows<'a> {
     ghost use Rattle.c8_wire.specs.Lent.{shown};
+
+    /// Returns how many bytes an input of the rows has.
+    pub fn width(&self) -> Width
+        ensures { result.bytes ≡ self.now.width.bytes }
+    {
+        self.width
+    }
 
     /// Returns how many rows there are, 0 to 16.
     pub fn len(&self) -> usize
@@ -75,21 +91,26 @@ impl<'a> ShownRows<'a> {
         requires { place < length (shown self.now) }
         ensures { slice_get (shown self.now) place ≡ Some result }
     {
-        row_at(self.bytes, ROWS_AT + ROW_LENGTH * place)
+        row_at(
+            self.body,
+            ROWS_AT + row_length(self.width) * place,
+            self.width,
+        )
     }
 }
 
-/// Decodes the row at a place: the key sets of four players, two bytes each.
-fn row_at(bytes: &[u8], place: usize) -> Row
-    requires { place + ROW_LENGTH ≤ length bytes.now }
-    ensures { result ≡ row_at place bytes.now }
+/// Decodes the row at a place: the inputs of four players.
+fn row_at(bytes: &[u8], place: usize, width: Width) -> Row
+    requires { place + row_length width.bytes ≤ length bytes.now }
+    ensures { result ≡ row_at width.bytes place bytes.now }
 {
+    let count = usize::from(width.bytes);
     Row {
-        sets: [
-            Keys(u16_at(bytes, place)),
-            Keys(u16_at(bytes, 2 + place)),
-            Keys(u16_at(bytes, 4 + place)),
-            Keys(u16_at(bytes, 6 + place)),
+        inputs: [
+            input_at(bytes, place, width),
+            input_at(bytes, count + place, width),
+            input_at(bytes, 2 * count + place, width),
+            input_at(bytes, 3 * count + place, width),
         ],
     }
 }
@@ -98,8 +119,10 @@ fn row_at(bytes: &[u8], place: usize) -> Row
 #[derive(Clone, Copy, Debug)]
 pub struct Seen<'a> {
     pub(crate) bytes: &'a [u8],
-    pub(crate) ghost size: { length bytes.now ≡ 28 },
-    pub(crate) ghost spelled: { Spells bytes.now (packet_at kinds.Seen bytes.now) } by { Prim.hlevel props },
+    pub(crate) body: &'a [u8],
+    pub(crate) ghost whole: { body_place (version_at bytes.now) kinds.Seen ≤ length bytes.now },
+    pub(crate) ghost size: { length body.now ≡ 4 },
+    pub(crate) ghost spelled: { Spells bytes.now (packet_in kinds.Seen bytes.now body.now) } by { Prim.hlevel props },
 }
 
 impl<'a> Seen<'a> {
@@ -110,6 +133,6 @@ impl<'a> Seen<'a> {
         ensures value { result ≡ seen_of self.now }
         ensures most { result ≤ MOST_FRAMES }
     {
-        u32_at(self.bytes, SEEN_ACK_AT)
+        u32_at(self.body, SEEN_ACK_AT)
     }
 }

@@ -38,7 +38,7 @@ pub holds_no_more : (rules : Rules) (room : ℕ) (J : ℕ → List Record) (p q 
     → count rules p (J q) ≤ count rules p (J p)
 holds_no_more rules room J p q sound plays q_plays = begins_length (held rules p (J q)) (held rules p (J p)) (sound.begins q p q_plays plays)
 
-own_count : (rules : Rules) (p : ℕ) (journal : List Record) → IsPlayer rules p
+pub own_count : (rules : Rules) (p : ℕ) (journal : List Record) → IsPlayer rules p
     → count_in (known_of rules p journal) (known_of rules p journal).me ≡ count rules p journal
 own_count rules p journal plays = ap (λ (me : ℕ). count_in (known_of rules p journal) me) (me_is rules p journal)
     ∙ count_known rules p p journal plays

@@ -13,7 +13,7 @@ use Rattle.c8_game.specs.declared.row.Row.{Row}
 use Rattle.c8_disk.specs.declared.mem_disk.MemDisk.{MemDisk}
 use Rattle.c8_disk.specs.Memory.{bytes_of}
 use Rattle.c8_log.specs.Slots.{kept}
-use Rattle.c8_known.specs.Journal.{Record, has_leave}
+use Rattle.c8_known.specs.Journal.{Record, has_leave, match_of}
 use Rattle.c8_known.specs.Known.{PlayerValue, KnownValue, player_in, known_of}
 use Rattle.c8_known.specs.checked.OneMore.{player_known}
 use Rattle.c8_known.specs.Confirmed.{row, rows_below}
@@ -22,6 +22,8 @@ use Rattle.c8_record.specs.Body.{body_of, records_of}
 use Rattle.c8_record.specs.Allowed.{IsJournal}
 use Rattle.c8_record.specs.Checks.{ChecksValue}
 use Rattle.c8_record.specs.Replay.{AreJournalBodies, IsRefusal, IsReplayed}
+use Rattle.c8_record.specs.Numbers.{value_of, numbers_of}
+use Rattle.c8_record.specs.declared.progress.Numbers.{Numbers}
 use Rattle.c8_record.specs.declared.error.ReplayError.{ReplayError}
 use Rattle.c8_peer.specs.State.{State}
 use Rattle.c8_peer.specs.Opening.{found}
@@ -30,10 +32,10 @@ use Rattle.c8_world.specs.declared.ends.Standing.{Standing}
 use Rattle.c8_world.specs.declared.ends.Tally.{Tally}
 use Rattle.c8_world.specs.declared.node.Node.{Node}
 use Rattle.c8_world.specs.World.{World, peer_of}
-use Rattle.c8_world.specs.Agreement.{IsPlayer, Reads, read_by, AgreeByReads}
+use Rattle.c8_world.specs.Agreement.{IsPlayer, Reads, read_by, AreOfOneMatch, AgreeByReads}
 use Rattle.c8_world.specs.Nodes.{IsNode, Tells}
 use Rattle.c8_world.specs.Table.{TableValue, node_of, Holds}
-use Rattle.c8_world.specs.Ends.{known_at, tally_of, tally_at, both, AreSameRows, HasStayedAt, HaveAgreed, IsRead, IsStanding, AreStandings}
+use Rattle.c8_world.specs.Ends.{known_at, match_in, tally_of, tally_at, both, AreSameRows, HasStayedAt, HaveAgreed, IsRead, IsStanding, AreStandings}
 use Rattle.c8_world.specs.Ends.{HasStayed, known_read, AreEnds}
 use Rattle.c8_world.proofs.TableLemmas.{held_at, node_held}
 use Rattle.c8_world.proofs.NodeLemmas.{found_now}
@@ -53,19 +55,22 @@ same_row_of a b frame same within =
 -- ---- a read of a disk
 
 -- a replay of what a disk keeps gives what the journal says, with the pending record or without
-pub replayed_known : (rules : Rules) (room p : ℕ) (s : State) (disk : MemDisk) (result : Result ℕ ReplayError) (known : KnownValue)
-    (checks : ChecksValue) → Tells s disk
+pub replayed_known : (rules : Rules) (room p : ℕ) (s : State) (disk : MemDisk) (result : Result Numbers ReplayError) (known : KnownValue)
+    (checks : ChecksValue) → Tells rules.width s disk
     → ((finds : Bool) → IsJournal rules p room (found s finds))
-    → ((journal : List Record) → IsJournal rules p room journal → records_of (map body_of journal) ≡ journal)
-    → ((journal : List Record) → IsJournal rules p room journal → AreJournalBodies rules p room (map body_of journal))
+    → ((journal : List Record) → IsJournal rules p room journal → records_of rules.width (map (body_of rules.width) journal) ≡ journal)
+    → ((journal : List Record) → IsJournal rules p room journal → AreJournalBodies rules p room (map (body_of rules.width) journal))
     → ((bodies : List (List ℕ)) (error : ReplayError) → AreJournalBodies rules p room bodies → IsRefusal rules p room bodies error → ⊥)
     → IsReplayed rules p room (kept (bytes_of disk)) result known checks
-    → (finds : Bool) × (known ≡ known_of rules p (found s finds)) × Keeps (found s finds) (bytes_of disk)
+    → (finds : Bool) × (known ≡ known_of rules p (found s finds)) × IfOk result (λ last. value_of last ≡ numbers_of (found s finds))
+    × Keeps rules.width (found s finds) (bytes_of disk)
 replayed_known rules room p s disk (Ok last) known checks tells journals back spell unrefused is =
-    let now = found_now s disk tells in
-    (now.0, is.1 ∙ ap (known_of rules p) (ap records_of now.1 ∙ back (found s now.0) (journals now.0)), now.1)
+    let now = found_now rules.width s disk tells in
+    let same : records_of rules.width (kept (bytes_of disk)) ≡ found s now.0 =
+    ap (records_of rules.width) now.1 ∙ back (found s now.0) (journals now.0) in
+    (now.0, is.1 ∙ ap (known_of rules p) same, is.2 ∙ ap numbers_of same, now.1)
 replayed_known rules room p s disk (Err error) known checks tells journals back spell unrefused is =
-    let now = found_now s disk tells in
+    let now = found_now rules.width s disk tells in
     let bodies : AreJournalBodies rules p room (kept (bytes_of disk)) =
     subst (λ (xs : List (List ℕ)). AreJournalBodies rules p room xs) (sym now.1) (spell (found s now.0) (journals now.0)) in
     absurd (unrefused (kept (bytes_of disk)) error bodies is.0)
@@ -158,7 +163,8 @@ leave_known rules journal p plays = ap (λ (x : PlayerValue). x.leaving) (player
 
 module _ (t : TableValue) (w : World) (standings : List Standing) (reads : Reads) (size : length standings ≡ t.rules.players)
     (some : 2 ≤ t.rules.players)
-    (known : (p : ℕ) (d : Standing) → IsPlayer t.rules p → known_at (slice_index_or standings (p - 1) d) ≡ known_read t.rules w reads p) where
+    (known : (p : ℕ) (d : Standing) → IsPlayer t.rules p → known_at (slice_index_or standings (p - 1) d) ≡ known_read t.rules w reads p)
+    (matches : (p : ℕ) (d : Standing) → IsPlayer t.rules p → match_in (slice_index_or standings (p - 1) d) ≡ match_of p (read_by w reads p)) where
   player_one : IsPlayer t.rules 1
   player_one = record { from_one = omega arith; in_game = omega (arith, some) }
 
@@ -170,19 +176,32 @@ module _ (t : TableValue) (w : World) (standings : List Standing) (reads : Reads
       ap known_at (sym (get_or_from_slice_get standings i one one at))
       ∙ ap (λ (j : ℕ). known_at (slice_index_or standings j one)) (omega arith) ∙ known (i + 1) one (player_at i within)
 
+  match_here : (i : ℕ) (one : Standing) → i < length standings → slice_get standings i ≡ Some one
+      → match_in one ≡ match_of (i + 1) (read_by w reads (i + 1))
+  match_here i one within at =
+      ap match_in (sym (get_or_from_slice_get standings i one one at))
+      ∙ ap (λ (j : ℕ). match_in (slice_index_or standings j one)) (omega arith) ∙ matches (i + 1) one (player_at i within)
+
   stayed_at : (i : ℕ) → i < length standings → HasStayed t.rules w reads (i + 1) → HasStayedAt standings i
-  stayed_at i within stays first at =
-      ap (λ (k : KnownValue). (player_in k (i + 1)).leaving) (known_here 0 first (omega (arith, within)) at)
-      ∙ leave_known t.rules (read_by w reads 1) (i + 1) (player_at i within) ∙ stays
+  stayed_at i within stays first one first_at at = (
+    ap (λ (k : KnownValue). (player_in k (i + 1)).leaving) (known_here 0 first (omega (arith, within)) first_at)
+    ∙ leave_known t.rules (read_by w reads 1) (i + 1) (player_at i within) ∙ stays.0,
+    match_here i one within at ∙ stays.1 ∙ sym (match_here 0 first (omega (arith, within)) first_at),
+  )
 
   has_stayed : (i : ℕ) → i < length standings → HasStayedAt standings i → HasStayed t.rules w reads (i + 1)
   has_stayed i within stays =
       let many : 0 < length standings = omega (arith, within) in
       let d : Standing = first_of standings many in
-      let at = slice_get-get_or standings 0 d many in
-      sym (leave_known t.rules (read_by w reads 1) (i + 1) (player_at i within))
-      ∙ sym (ap (λ (k : KnownValue). (player_in k (i + 1)).leaving) (known_here 0 (slice_index_or standings 0 d) many at))
-      ∙ stays (slice_index_or standings 0 d) at
+      let first : Standing = slice_index_or standings 0 d in
+      let one : Standing = slice_index_or standings i d in
+      let first_at = slice_get-get_or standings 0 d many in
+      let at = slice_get-get_or standings i d within in
+      let both_are = stays first one first_at at in (
+        sym (leave_known t.rules (read_by w reads 1) (i + 1) (player_at i within))
+        ∙ sym (ap (λ (k : KnownValue). (player_in k (i + 1)).leaving) (known_here 0 first many first_at)) ∙ both_are.0,
+        sym (match_here i one within at) ∙ both_are.1 ∙ match_here 0 first many first_at,
+      )
 
   -- any two undropped players, by their numbers
   abbrev Agreed : Type 0
@@ -224,31 +243,36 @@ are_ends t w standings players agree some stand players_are agreed =
     let d : Standing = first_of standings many in
     let picked = all_picked t.rules.players (λ p finds.
     ((other : Standing) → known_at (slice_index_or standings (p - 1) other) ≡ known_of t.rules p (found (peer_of w p) finds))
-    × IsRead (peer_of w p) (node_of t p) finds)
+    × ((other : Standing) → match_in (slice_index_or standings (p - 1) other) ≡ match_of p (found (peer_of w p) finds))
+    × IsRead t.rules.width (peer_of w p) (node_of t p) finds)
     (λ p from to.
     let one = stand.each p d (record { from_one = omega (arith, from); in_game = to }) in
     let within : p - 1 < length standings = omega (arith, from, to, size) in
-    (one.0, (λ other. ap known_at (get_or_default standings (p - 1) other d within) ∙ one.1, one.2))) in
+    let at = λ (other : Standing). get_or_default standings (p - 1) other d within in
+    (one.0, (λ other. ap known_at (at other) ∙ one.1, λ other. ap match_in (at other) ∙ one.2, one.3))) in
     let reads : Reads = picked.0 in
     let known : (p : ℕ) (e : Standing) → IsPlayer t.rules p → known_at (slice_index_or standings (p - 1) e) ≡ known_read t.rules w reads p =
-    λ p e plays. (picked.1 p (omega (arith, plays.from_one)) plays.in_game).0 e in (
+    λ p e plays. (picked.1 p (omega (arith, plays.from_one)) plays.in_game).0 e in
+    let matches : (p : ℕ) (e : Standing) → IsPlayer t.rules p → match_in (slice_index_or standings (p - 1) e) ≡ match_of p (read_by w reads p) =
+    λ p e plays. (picked.1 p (omega (arith, plays.from_one)) plays.in_game).1 e in (
       reads,
       record {
-        read = λ p plays. (picked.1 p (omega (arith, plays.from_one)) plays.in_game).1;
+        read = λ p plays. (picked.1 p (omega (arith, plays.from_one)) plays.in_game).2;
         players_are = players_are ∙ tallies_from standings 1 (known_read t.rules w reads) (λ i e within.
             ap (λ (j : ℕ). known_at (slice_index_or standings j e)) (omega arith)
             ∙ known (1 + i) e (record { from_one = omega arith; in_game = omega (arith, within, size) }))
             ∙ ap (λ (n : ℕ). map (λ p. tally_of (known_read t.rules w reads p)) (range_with_len 1 n)) size;
         agree_is = (
-          λ yes. by_numbers t w standings reads size some known (agreed.0 yes),
-          λ all. agreed.1 (by_places t w standings reads size some known all),
+          λ yes. by_numbers t w standings reads size some known matches (agreed.0 yes),
+          λ all. agreed.1 (by_places t w standings reads size some known matches all),
         );
       },
     )
 
 -- whatever the reads find, undropped players agree
 pub ends_agree : (t : TableValue) (w : World) (reads : Reads) (players : List Tally) (agree : Bool) → AreEnds t w reads players agree
-    → ((p r : ℕ) → IsPlayer t.rules p → IsPlayer t.rules r → AgreeByReads t.rules w reads p r) → agree ≡ true
+    → ((p r : ℕ) → IsPlayer t.rules p → IsPlayer t.rules r → AreOfOneMatch w reads p 1 → AreOfOneMatch w reads r 1
+    → AgreeByReads t.rules w reads p r) → agree ≡ true
 ends_agree t w reads players agree ends law =
     ends.agree_is.1 (λ p r p_plays r_plays p_stays r_stays.
-    (law p r p_plays r_plays p_stays r_stays (both (known_read t.rules w reads p) (known_read t.rules w reads r)) (omega arith) (omega arith)).rows)
+    (law p r p_plays r_plays p_stays.1 r_stays.1 p_stays.0 r_stays.0 (both (known_read t.rules w reads p) (known_read t.rules w reads r)) (omega arith) (omega arith)).rows)

@@ -1,43 +1,49 @@
 -- What a call of an open peer records fits, and its memory stays sound.
 use Rattle.c8_known.specs.Growth.{Stands}
-use Rattle.std.proofs.Common.{◌≡◌, ◌≢◌, ℕ, ◌+◌, ◌-◌, ◌≤◌, ⊎_elim, List, [], ◌∷◌, length, drop, Bool, true, false, not, cond, Option, Some}
+use Rattle.std.proofs.Common.{◌≡◌, ◌≢◌, ℕ, ◌+◌, ◌-◌, ◌≤◌, ◌⊎◌, inl, inr, ⊎_elim, List, [], ◌∷◌, length, drop, Bool, true, false, not, cond, Option, Some}
 use Rattle.std.proofs.Common.{None, Ok, Err, refl, sym, ap, subst, ◌∙◌, arith}
-use Rattle.std.specs.Prelude.{◌==◌, ◌&&◌, ◌||◌, nat_lt, nat_le, is_some}
-use Rattle.std.proofs.lemmas.Bool.{eq-eqb, eqb-true, both_ways, ltb-false, leb-true, and_parts, or_parts, not-false}
+use Rattle.std.specs.Prelude.{◌^◌, ◌==◌, ◌&&◌, ◌||◌, nat_lt, nat_le, is_some, if◌then◌else◌}
+use Rattle.std.proofs.lemmas.Bool.{cases_eq, eq-eqb, eqb-true, both_ways, ltb-false, leb-true, and_parts, or_parts, not-false}
 use Rattle.std.proofs.lemmas.List.{length-drop}
 use Rattle.c8_game.specs.Rules.{Rules}
-use Rattle.c8_wire.specs.Packet.{HeadValue, DataMessage, FreezeMessage, LeaverMessage, Message, Packet, IsPacket, IsMessage}
+use Rattle.c8_wire.specs.Format.{has_lives}
+use Rattle.c8_wire.specs.declared.kinds.DatagramKind.TheVariants as kinds
+use Rattle.c8_wire.specs.Packet.{HeadValue, NewsValue, DataMessage, FreezeMessage, LeaverMessage, PassMessage, RefusedMessage, Message, Packet}
+use Rattle.c8_wire.specs.Packet.{IsPacket, IsMessage, kind_of}
 use Rattle.c8_wire.specs.Packet as packets
 use Rattle.c8_hand.specs.declared.error.HandError.{HandError}
-use Rattle.c8_hand.specs.Links.{LinksValue, link_to, heard}
+use Rattle.c8_hand.specs.declared.error.HandError.TheVariants as hands
+use Rattle.c8_hand.specs.Lives as lives
+use Rattle.c8_hand.specs.Links.{LinksValue, MetValue, link_to, heard}
 use Rattle.c8_hand.specs.Links as links
 use Rattle.c8_hand.specs.checked.LinkLaws.{is_for_me, player_admitted, opens_by_welcome}
+use Rattle.c8_hand.specs.checked.LifeLaws.{names_match}
+use Rattle.c8_hand.specs.checked.NamedLaws.{welcome_at_one, welcome_again}
 use Rattle.c8_known.specs.declared.error.KnownError.{KnownError}
 use Rattle.c8_known.specs.declared.error.KnownError.TheVariants as knowns
-use Rattle.c8_known.specs.Journal.{Record, held, count, has_freeze, has_leave, cut_of}
+use Rattle.c8_known.specs.Journal.{Record, held, count, has_freeze, has_leave, cut_of, match_of}
 use Rattle.c8_known.specs.Journal as records
 use Rattle.c8_known.specs.Known.{PlayerValue, KnownValue, player_in, count_in, known_of, is_player, is_frozen_of, Plays}
 use Rattle.c8_known.specs.Confirmed.{confirmed}
 use Rattle.c8_known.specs.Fresh.{is_from_leaver, misfit, fresh_words}
 use Rattle.c8_known.specs.checked.StartLaws.{players_known}
-use Rattle.c8_window.specs.Window.{acked_more}
 use Rattle.c8_round.specs.Round.{ChairValue, report_of, with_report, with_have, is_ready}
 use Rattle.c8_record.specs.Checks.{Pieces, frames_of}
 use Rattle.c8_peer.specs.Told.{Told, told_of}
 use Rattle.c8_refusals.specs.declared.error.Refused.TheVariants as refusals
 use Rattle.c8_peer.specs.State.{Memory, Saying, Call, Tick, Deliver, Say, Show, Leave, Decide, Reply, Outcome, answered, recorded, Checkpoint}
 use Rattle.c8_peer.specs.Calls.{tick, leave, decide, next_piece, checkpoint}
-use Rattle.c8_peer.specs.Hearing.{is_of_other_wire, refused, unless_misfit, got, is_desync, hear_data, hear_welcome, hear_freeze}
-use Rattle.c8_peer.specs.Hearing.{hear_frozen, hear_end, hear_cut, hear_message, hear_seen, hear_from, seen_in, unless_hand, deliver}
+use Rattle.c8_peer.specs.Hearing.{is_of_other_wire, refused, unless_misfit, got, is_desync, after_data, hear_data, hear_pass, met, hear_welcome, learnt, hear_freeze}
+use Rattle.c8_peer.specs.Hearing.{hear_frozen, hear_end, hear_cut, hear_message, hear_seen, hear_from, seen_in, after_refusal, unless_hand, deliver}
 use Rattle.c8_peer.specs.Saying.{is_not_mine, lacks_record, lacks_link, say, show}
 use Rattle.c8_peer.specs.Steps.{outcome}
-use Rattle.c8_peer.specs.Truth.{IsFrozenAt, IsTrue, IsTrueMessage}
+use Rattle.c8_peer.specs.Truth.{IsFrozenAt, IsTrue, IsTrueMessage, MayNameOther}
 use Rattle.c8_peer.specs.Lawful.{IsMemory}
 use Rattle.c8_world.specs.checked.Below.{ArePeersLawful}
 use Rattle.c8_world.specs.Agreement.{IsPlayer, IsAmong, Names}
 use Rattle.c8_world.proofs.Journals.{AreSound, MayAdd, Fits}
 use Rattle.c8_world.proofs.Records.{count_known, freeze_known_by, leave_known_by, me_is, names_player, one_unfrozen, stands_entered}
-use Rattle.c8_world.proofs.Records.{fits_own, fits_got, fits_freeze, fits_leave, fits_cut, fits_decision, fits_state, fits_check}
+use Rattle.c8_world.proofs.Records.{fits_own, fits_got, fits_freeze, fits_leave, fits_met, fits_cut, fits_decision, fits_state, fits_check}
 
 -- ---- what holds for the memory
 
@@ -45,23 +51,35 @@ use Rattle.c8_world.proofs.Records.{fits_own, fits_got, fits_freeze, fits_leave,
 abbrev pub AreReported : Rules → (ℕ → List Record) → ℕ → ChairValue → Type 0
 AreReported rules J p c = p ≡ 1 → (L s n : ℕ) → IsPlayer rules s → report_of c L s ≡ Some n → IsFrozenAt rules L n (J s)
 
--- an open link names both epochs
-abbrev pub AreNamed : List Packet → ℕ → LinksValue → Type 0
-AreNamed said p l = (q : ℕ) → (link_to l q).is_open ≡ true → Names said q p (link_to l q).known l.epoch
+-- in version 3 a datagram of match c, and of no other
+abbrev pub IsOfMatch : Rules → ℕ → HeadValue → Type 0
+IsOfMatch rules c head = has_lives rules.wire ≡ true → (head.match_number ≡ c) × (c ≢ 0) × (MayNameOther head → ⊥)
 
+-- an open link names both epochs, by a datagram of match c
+pub record IsNamed (rules : Rules) (said : List Packet) (c q p theirs mine : ℕ) : Type 0 where
+  pub by : Names said q p theirs mine
+  pub of_match : IsOfMatch rules c by.packet.head
+
+abbrev pub AreNamed : Rules → List Packet → ℕ → ℕ → LinksValue → Type 0
+AreNamed rules said c p l = (q : ℕ) → (link_to l q).is_open ≡ true → IsNamed rules said c q p (link_to l q).known l.epoch
+
+-- J has the journals of the match of player p's journal, and this one is among them.
 pub record IsAwake (rules : Rules) (room : ℕ) (J : ℕ → List Record) (said : List Packet) (p : ℕ) (m : Memory) : Type 0 where
   pub lawful : IsMemory rules room p (J p) m
   pub chair : AreReported rules J p m.chair
-  pub links : AreNamed said p m.links
+  pub links : AreNamed rules said (match_of p (J p)) p m.links
 
 -- a player's datagram is true by its journal, a watcher's SEEN by how many frames player 1 counts as confirmed
 abbrev pub IsTold : Rules → (ℕ → List Record) → Packet → Option ℕ → Type 0
 IsTold rules J packet None = IsPlayer rules packet.head.from × IsTrue rules packet.head.from (J packet.head.from) packet
 IsTold rules J packet (Some rows) = rows ≤ confirmed (known_of rules 1 (J 1))
 
--- each datagram that was sent is true, and can be spelled
-pub record IsSaid (rules : Rules) (J : ℕ → List Record) (packet : Packet) : Type 0 where
-  pub told : IsTold rules J packet (seen_in packet.message)
+-- Each datagram that was sent can be spelled, and if it is of match c it is true by the journals of that match. A SEEN may name
+-- none.
+pub record IsSaid (rules : Rules) (J : ℕ → List Record) (c : ℕ) (packet : Packet) : Type 0 where
+  pub told : IsOfMatch rules c packet.head → IsTold rules J packet (seen_in packet.message)
+  pub seen : (rows : ℕ) → seen_in packet.message ≡ Some rows
+      → (has_lives rules.wire ≡ true → (packet.head.match_number ≡ 0) ⊎ (packet.head.match_number ≡ c)) → rows ≤ confirmed (known_of rules 1 (J 1))
   pub spelled : IsPacket packet
 
 -- ---- what must hold after a call
@@ -69,19 +87,19 @@ pub record IsSaid (rules : Rules) (J : ℕ → List Record) (packet : Packet) : 
 pub record IsGood (rules : Rules) (room : ℕ) (J : ℕ → List Record) (said : List Packet) (p : ℕ) (o : Outcome) : Type 0 where
   pub keeps : (r : Record) → o.keeps ≡ Some r → MayAdd rules room J p r → Fits rules room J p r
   pub chair : AreReported rules J p o.memory.chair
-  pub links : AreNamed said p o.memory.links
+  pub links : AreNamed rules said (match_of p (J p)) p o.memory.links
 
 pub branch : (P : Outcome → Type 0) (b : Bool) (x y : Outcome) → (b ≡ true → P x) → (b ≡ false → P y) → P (cond b x y)
 branch P true x y when unless = when refl
 branch P false x y when unless = unless refl
 
 good_answered : (rules : Rules) (room : ℕ) (J : ℕ → List Record) (said : List Packet) (p : ℕ) (m : Memory) (reply : Reply)
-    → AreReported rules J p m.chair → AreNamed said p m.links
+    → AreReported rules J p m.chair → AreNamed rules said (match_of p (J p)) p m.links
     → IsGood rules room J said p (answered m reply)
 good_answered rules room J said p m reply chair named = record { keeps = λ r e. absurd cc; chair = chair; links = named }
 
 good_recorded : (rules : Rules) (room : ℕ) (J : ℕ → List Record) (said : List Packet) (p : ℕ) (m : Memory) (reply : Reply) (r : Record)
-    → AreReported rules J p m.chair → AreNamed said p m.links
+    → AreReported rules J p m.chair → AreNamed rules said (match_of p (J p)) p m.links
     → (MayAdd rules room J p r → Fits rules room J p r) → IsGood rules room J said p (recorded m reply r)
 good_recorded rules room J said p m reply r chair named fits = record {
   keeps = λ s e allowed. let same : r ≡ s = cc in
@@ -124,28 +142,41 @@ unless_misfit_by : (P : Outcome → Type 0) (m : Memory) (o : Option KnownError)
 unless_misfit_by P m None x refuses fits = fits refl
 unless_misfit_by P m (Some error) x refuses fits = refuses error
 
-unless_hand_by : (P : Outcome → Type 0) (m : Memory) (o : Option HandError) (x : Outcome)
-    → ((error : HandError) → P (refused m (refusals.Hand error))) → (o ≡ None → P x) → P (unless_hand m o x)
-unless_hand_by P m None x refuses admits = admits refl
-unless_hand_by P m (Some error) x refuses admits = refuses error
+unless_hand_by : (P : Outcome → Type 0) (m : Memory) (head : HeadValue) (o : Option HandError) (x : Outcome)
+    → ((error : HandError) → P (refused (after_refusal m head error) (refusals.Hand error))) → (o ≡ None → P x) → P (unless_hand m head o x)
+unless_hand_by P m head None x refuses admits = admits refl
+unless_hand_by P m head (Some error) x refuses admits = refuses error
+
+-- what is learnt of other lives moves no link and no answer
+good_refused : (rules : Rules) (room : ℕ) (J : ℕ → List Record) (said : List Packet) (p : ℕ) (m : Memory) (head : HeadValue) (error : HandError)
+    → AreReported rules J p m.chair → AreNamed rules said (match_of p (J p)) p m.links
+    → IsGood rules room J said p (refused (after_refusal m head error) (refusals.Hand error))
+good_refused rules room J said p m head hands.NotOpen chair named = good_answered rules room J said p _ _ chair named
+good_refused rules room J said p m head hands.Stale chair named = good_answered rules room J said p _ _ chair named
+good_refused rules room J said p m head hands.Ahead chair named = good_answered rules room J said p _ _ chair named
+good_refused rules room J said p m head hands.NotMine chair named = good_answered rules room J said p _ _ chair named
+good_refused rules room J said p m head hands.Session chair named = good_answered rules room J said p _ _ chair named
+good_refused rules room J said p m head hands.Restarted chair named = good_answered rules room J said p _ _ chair named
+good_refused rules room J said p m head hands.OtherMatch chair named = good_answered rules room J said p _ _ chair named
 
 -- ---- ticks, leaves and decisions
 
-good_tick : (rules : Rules) (room : ℕ) (J : ℕ → List Record) (said : List Packet) (p : ℕ) (m : Memory) (keys : ℕ) → AreSound rules room J
+good_tick : (rules : Rules) (room : ℕ) (J : ℕ → List Record) (said : List Packet) (p : ℕ) (m : Memory) (input : ℕ) → AreSound rules room J
     → IsPlayer rules p → IsAwake rules room J said p m
-    → IsGood rules room J said p (tick rules (known_of rules p (J p)) m keys)
+    → IsGood rules room J said p (tick rules (known_of rules p (J p)) m input)
 unfolding tick
-good_tick rules room J said p m keys sound plays awake =
+good_tick rules room J said p m input sound plays awake =
     let P : Outcome → Type 0 = IsGood rules room J said p in
     let refuses = λ (reply : Reply). good_answered rules room J said p m reply awake.chair awake.links in
     let k : KnownValue = known_of rules p (J p) in
     branch P (player_in k k.me).leaving _ _ (λ is. refuses _) (λ stays.
     branch P (nat_le rules.frames k.ticks) _ _ (λ is. refuses _) (λ before.
     branch P (nat_le (confirmed k + rules.window) k.ticks) _ _ (λ is. refuses _) (λ within.
-    good_recorded rules room J said p m _ (records.Own k.me (count_in k k.me) keys) awake.chair awake.links (λ allowed.
-    subst (λ (me : ℕ). Fits rules room J p (records.Own me (count_in k k.me) keys)) (sym (me_is rules p (J p)))
-    (fits_own rules room J p (count_in k k.me) keys sound plays
-    (subst (λ (me : ℕ). MayAdd rules room J p (records.Own me (count_in k k.me) keys)) (me_is rules p (J p)) allowed))))))
+    branch P (nat_le (256 ^ rules.width) input) _ _ (λ is. refuses _) (λ few.
+    good_recorded rules room J said p m _ (records.Own k.me (count_in k k.me) input) awake.chair awake.links (λ allowed.
+    subst (λ (me : ℕ). Fits rules room J p (records.Own me (count_in k k.me) input)) (sym (me_is rules p (J p)))
+    (fits_own rules room J p (count_in k k.me) input sound plays
+    (subst (λ (me : ℕ). MayAdd rules room J p (records.Own me (count_in k k.me) input)) (me_is rules p (J p)) allowed)))))))
 
 good_leave : (rules : Rules) (room : ℕ) (J : ℕ → List Record) (said : List Packet) (p : ℕ) (m : Memory) (leaver : ℕ) → AreSound rules room J
     → IsPlayer rules p → IsAwake rules room J said p m
@@ -202,7 +233,7 @@ good_decide laws rules room J said p m leaver sound plays awake =
 -- new inputs of a player, from a run that is in what it entered
 good_got : (rules : Rules) (room : ℕ) (J : ℕ → List Record) (said : List Packet) (p : ℕ) (m : Memory) (q start : ℕ) (words fresh : List ℕ)
     → AreSound rules room J → IsPlayer rules p → IsPlayer rules q
-    → AreReported rules J p m.chair → AreNamed said p m.links
+    → AreReported rules J p m.chair → AreNamed rules said (match_of p (J p)) p m.links
     → fresh ≡ drop (count rules q (J p) - start) words → start ≤ count rules q (J p) → Stands start words (held rules q (J q))
     → (has_freeze q (J p) ≡ true → (K : ℕ) × (cut_of q (J 1) ≡ Some K)
     × (count rules q (J p) + length (drop (count rules q (J p) - start) words) ≤ K))
@@ -235,11 +266,11 @@ from_off : (k : KnownValue) (q : ℕ) → is_from_leaver k q q ≡ false → (pl
 from_off k q e = frozen_off (player_in k q) (and_off (q == q) (is_frozen_of (player_in k q)) (eq-eqb q q refl) e)
 
 -- a DATA of player q, whose inputs are in what q entered
-good_data : (rules : Rules) (room : ℕ) (J : ℕ → List Record) (said : List Packet) (p q : ℕ) (m : Memory) (d : DataMessage)
+good_data : (rules : Rules) (room : ℕ) (J : ℕ → List Record) (said : List Packet) (p q : ℕ) (m : Memory) (news : Option NewsValue) (d : DataMessage)
     → AreSound rules room J → IsPlayer rules p → IsPlayer rules q → IsAwake rules room J said p m
-    → Stands d.start d.words (held rules q (J q)) → IsGood rules room J said p (hear_data (told_of rules p (J p)) (known_of rules p (J p)) m q d)
+    → Stands d.start d.words (held rules q (J q)) → IsGood rules room J said p (hear_data (told_of rules p (J p)) (known_of rules p (J p)) m q news d)
 unfolding hear_data
-good_data rules room J said p q m d sound plays q_plays awake stands =
+good_data rules room J said p q m news d sound plays q_plays awake stands =
     let P : Outcome → Type 0 = IsGood rules room J said p in
     let refuses = λ (reply : Reply). good_answered rules room J said p m reply awake.chair awake.links in
     let k : KnownValue = known_of rules p (J p) in
@@ -249,10 +280,32 @@ good_data rules room J said p q m d sound plays q_plays awake stands =
     let fit = is_fit k q d.start d.words fits in
     let thawed : has_freeze q (J p) ≡ false = sym (freeze_known_by rules p q (J p) q_plays) ∙ from_off k q itself in
     branch P (is_desync (told_of rules p (J p)) d) _ _ (λ is. good_answered rules room J said p _ _ awake.chair awake.links) (λ same.
-    good_got rules room J said p (record m { acks = acked_more m.acks q d.ack }) q d.start d.words (fresh_words k q d.start d.words) sound
+    good_got rules room J said p (after_data k m q news d) q d.start d.words (fresh_words k q d.start d.words) sound
     plays q_plays awake.chair awake.links
     (fresh_is rules p q d.start d.words (J p) q_plays) (no_gap_is rules p q d.start d.words (J p) q_plays fit) stands
     (λ is. absurd (both_ways (has_freeze q (J p)) thawed is))))))
+
+-- A PASS of player 1: inputs of a third player that are in what player 1 holds, so in what that player entered.
+good_pass : (rules : Rules) (room : ℕ) (J : ℕ → List Record) (said : List Packet) (p q : ℕ) (m : Memory) (d : PassMessage)
+    → AreSound rules room J → IsPlayer rules p → IsPlayer rules q → IsAwake rules room J said p m
+    → Stands d.start d.words (held rules d.player (J q)) → IsGood rules room J said p (hear_pass (known_of rules p (J p)) m q d)
+unfolding hear_pass
+good_pass rules room J said p q m d sound plays q_plays awake stands =
+    let P : Outcome → Type 0 = IsGood rules room J said p in
+    let refuses = λ (reply : Reply). good_answered rules room J said p m reply awake.chair awake.links in
+    let k : KnownValue = known_of rules p (J p) in
+    branch P (not (q == 1)) _ _ (λ is. refuses _) (λ chair.
+    branch P (d.player == k.me || not (is_player k d.player)) _ _ (λ is. refuses _) (λ who.
+    branch P (is_from_leaver k d.player d.player) _ _ (λ is. refuses _) (λ itself.
+    unless_misfit_by P m (misfit k d.player d.start d.words) _ (λ error. refuses _) (λ fits.
+    let fit = is_fit k d.player d.start d.words fits in
+    let third : IsPlayer rules d.player = in_game rules p d.player (J p)
+    (not-false (is_player k d.player) (or_parts (d.player == k.me) (not (is_player k d.player)) who).1) in
+    let thawed : has_freeze d.player (J p) ≡ false = sym (freeze_known_by rules p d.player (J p) third) ∙ from_off k d.player itself in
+    good_got rules room J said p m d.player d.start d.words (fresh_words k d.player d.start d.words) sound plays third awake.chair awake.links
+    (fresh_is rules p d.player d.start d.words (J p) third) (no_gap_is rules p d.player d.start d.words (J p) third fit)
+    (stands_entered rules room J q d.player d.start d.words sound q_plays third stands)
+    (λ is. absurd (both_ways (has_freeze d.player (J p)) thawed is))))))
 
 good_freeze : (rules : Rules) (room : ℕ) (J : ℕ → List Record) (said : List Packet) (p q : ℕ) (m : Memory) (f : FreezeMessage)
     → AreSound rules room J → IsPlayer rules p → IsAwake rules room J said p m
@@ -365,55 +418,130 @@ good_cut rules room J said p q m c sound plays q_plays awake apart first cut sta
     (subst (λ (x : ℕ). cut_of c.leaver (J x) ≡ Some c.length) first cut)
     (stands_entered rules room J q c.leaver c.start c.words sound q_plays leaver stands) within))))
 
+-- the links know the match of the journal
+pub links_match : (rules : Rules) (room p : ℕ) (journal : List Record) (m : Memory) → IsMemory rules room p journal m
+    → lives.match_of m.links.lives m.links.me ≡ match_of p journal
+links_match rules room p journal m lawful =
+    ap (λ (me : ℕ). lives.match_of m.links.lives me) lawful.player
+    ∙ (λ i. if p == 1 then lawful.lives.mine i else lawful.lives.met 1 (omega arith) (omega arith) i)
+
+pub links_lives : (rules : Rules) (room p : ℕ) (journal : List Record) (m : Memory) → IsMemory rules room p journal m → has_lives rules.wire ≡ true
+    → has_lives m.links.version ≡ true
+links_lives rules room p journal m lawful is = ap has_lives lawful.version ∙ is
+
+-- a datagram that is admitted, and is neither HELLO, WELCOME nor REFUSED, is of the match of the journal
+pub admitted_match : (rules : Rules) (room p : ℕ) (journal : List Record) (m : Memory) (head : HeadValue) → IsMemory rules room p journal m
+    → links.refusal m.links head ≡ None → (has_lives rules.wire ≡ true → match_of p journal ≢ 0)
+    → head.kind ≢ kinds.Hello → head.kind ≢ kinds.Welcome → head.kind ≢ kinds.Refused → IsOfMatch rules (match_of p journal) head
+admitted_match rules room p journal m head lawful admitted bound hello welcome refused is = (
+  names_match m.links head admitted (links_lives rules room p journal m lawful is) hello welcome refused ∙ links_match rules room p journal m lawful,
+  bound is,
+  λ may. ⊎_elim (λ one. hello one.0) (λ other. refused other) may,
+)
+
+-- a WELCOME that is admitted at a peer of a match is of this match
+pub welcome_match : (rules : Rules) (room p : ℕ) (journal : List Record) (m : Memory) (head : HeadValue) → IsMemory rules room p journal m
+    → links.refusal m.links head ≡ None → head.kind ≡ kinds.Welcome → (has_lives rules.wire ≡ true → match_of p journal ≢ 0)
+    → IsOfMatch rules (match_of p journal) head
+welcome_match rules room p journal m head lawful admitted welcome bound is =
+    let late = links_lives rules room p journal m lawful is in
+    let same = links_match rules room p journal m lawful in
+    let named : head.match_number ≡ lives.match_of m.links.lives m.links.me = elim (cases_eq m.links.me 1) [
+      | inl first ↦
+          (welcome_at_one m.links head admitted late welcome first).0
+          ∙ sym (ap (λ (b : Bool). cond b m.links.lives.mine (lives.life_of m.links.lives 1).met) (eq-eqb m.links.me 1 first))
+      | inr other ↦ welcome_again m.links head admitted late welcome other (λ none. bound is (sym same ∙ none))
+    ] in
+    (named ∙ same, bound is, λ may. ⊎_elim (λ hello. cc (welcome, hello.0)) (λ refused. cc (welcome, refused)) may)
+
 -- a link that a datagram opens is named by it
-named_heard : (said : List Packet) (p : ℕ) (l : LinksValue) (packet : Packet) → l.me ≡ p → IsAmong said packet
-    → links.refusal l packet.head ≡ None → AreNamed said p l → AreNamed said p (heard l packet.head)
-named_heard said p l packet me among admitted named q opens =
+named_heard : (rules : Rules) (room : ℕ) (journal : List Record) (said : List Packet) (p : ℕ) (m : Memory) (packet : Packet)
+    → IsMemory rules room p journal m → IsAmong said packet → links.refusal m.links packet.head ≡ None
+    → (has_lives rules.wire ≡ true → match_of p journal ≢ 0) → AreNamed rules said (match_of p journal) p m.links
+    → AreNamed rules said (match_of p journal) p (heard m.links packet.head)
+named_heard rules room journal said p m packet lawful among admitted bound named q opens =
+    let l : LinksValue = m.links in
     ⊎_elim
     (λ old.
     let was = named q (ap (λ (link : links.LinkValue). link.is_open) (sym old) ∙ opens) in
-    subst (λ (n : ℕ). Names said q p n l.epoch) (ap (λ (link : links.LinkValue). link.known) (sym old)) was)
+    subst (λ (n : ℕ). IsNamed rules said (match_of p journal) q p n l.epoch) (ap (λ (link : links.LinkValue). link.known) (sym old)) was)
     (λ welcome. record {
-      packet = packet;
-      among = among;
-      from = welcome.from;
-      to = welcome.to ∙ me;
-      sender_epoch = welcome.theirs;
-      addressee_epoch = welcome.mine;
+      by = record {
+        packet = packet;
+        among = among;
+        from = welcome.from;
+        to = welcome.to ∙ lawful.player;
+        sender_epoch = welcome.theirs;
+        addressee_epoch = welcome.mine;
+      };
+      of_match = welcome_match rules room p journal m packet.head lawful admitted welcome.kind bound;
     })
     (opens_by_welcome l packet.head (player_admitted l packet.head admitted) q opens)
 
+-- what a HELLO or a WELCOME makes a peer record
+good_met : (rules : Rules) (room : ℕ) (J : ℕ → List Record) (said : List Packet) (p : ℕ) (m : Memory) (o : Option MetValue) → AreSound rules room J
+    → IsPlayer rules p → AreReported rules J p m.chair → AreNamed rules said (match_of p (J p)) p m.links → IsGood rules room J said p (met m o)
+good_met rules room J said p m None sound plays chair named = good_answered rules room J said p m _ chair named
+good_met rules room J said p m (Some life) sound plays chair named =
+    good_recorded rules room J said p m _ (records.Met life.player life.life) chair named (fits_met rules room J p life.player life.life sound plays)
+
 good_welcome : (rules : Rules) (room : ℕ) (J : ℕ → List Record) (said : List Packet) (p : ℕ) (m : Memory) (packet : Packet) (ack : ℕ)
-    → IsAwake rules room J said p m → IsAmong said packet
-    → links.refusal m.links packet.head ≡ None → IsGood rules room J said p (hear_welcome (known_of rules p (J p)) m packet.head ack)
+    → AreSound rules room J → IsPlayer rules p → IsAwake rules room J said p m → IsAmong said packet
+    → links.refusal m.links packet.head ≡ None → (has_lives rules.wire ≡ true → match_of p (J p) ≢ 0)
+    → IsGood rules room J said p (hear_welcome (known_of rules p (J p)) m packet.head ack)
 unfolding hear_welcome
-good_welcome rules room J said p m packet ack awake among admitted =
+good_welcome rules room J said p m packet ack sound plays awake among admitted bound =
     let P : Outcome → Type 0 = IsGood rules room J said p in
     let k : KnownValue = known_of rules p (J p) in
     branch P (nat_lt (count_in k k.me) ack) _ _ (λ is. good_answered rules room J said p m _ awake.chair awake.links)
-    (λ few. good_answered rules room J said p _ _ awake.chair (named_heard said p m.links packet awake.lawful.player among admitted awake.links))
+    (λ few. good_met rules room J said p _ _ sound plays awake.chair
+    (named_heard rules room (J p) said p m packet awake.lawful among admitted bound awake.links))
 
+-- a REFUSED moves nothing but what the peer has learnt
+good_learnt : (rules : Rules) (room : ℕ) (J : ℕ → List Record) (said : List Packet) (p : ℕ) (m : Memory) (head : HeadValue) (r : RefusedMessage)
+    (o : Option HandError) → IsAwake rules room J said p m → IsGood rules room J said p (learnt m head r o)
+good_learnt rules room J said p m head r None awake = good_answered rules room J said p _ _ awake.chair awake.links
+good_learnt rules room J said p m head r (Some error) awake = good_answered rules room J said p _ _ awake.chair awake.links
+
+-- J has the journals of the match of player p's journal, which in version 3 is of one.
 good_message : (laws : ArePeersLawful) (rules : Rules) (room : ℕ) (J : ℕ → List Record) (said : List Packet) (p : ℕ) (m : Memory)
     (packet : Packet) (message : Message) → AreSound rules room J → IsPlayer rules p → IsAwake rules room J said p m → IsAmong said packet
-    → links.refusal m.links packet.head ≡ None → IsPlayer rules packet.head.from → packet.head.from ≢ p
-    → IsTrueMessage rules packet.head.from packet.head.to (J packet.head.from) message → IsMessage message
-    → IsGood rules room J said p (hear_message rules (told_of rules p (J p)) (known_of rules p (J p)) m packet.head message)
-good_message laws rules room J said p m packet packets.Hello sound plays awake among admitted from apart is_true fits =
-    good_answered rules room J said p _ _ awake.chair (named_heard said p m.links packet awake.lawful.player among admitted awake.links)
-good_message laws rules room J said p m packet (packets.Welcome ack) sound plays awake among admitted from apart is_true fits =
-    good_welcome rules room J said p m packet ack awake among admitted
-good_message laws rules room J said p m packet (packets.Data d) sound plays awake among admitted from apart is_true fits =
-    good_data rules room J said p packet.head.from m d sound plays from awake is_true.1
-good_message laws rules room J said p m packet (packets.Freeze f) sound plays awake among admitted from apart is_true fits =
+    → (has_lives rules.wire ≡ true → match_of p (J p) ≢ 0) → links.refusal m.links packet.head ≡ None → packet.head.from ≢ p
+    → packet.head.kind ≡ kind_of message → IsMessage packet.head.width message
+    → (IsOfMatch rules (match_of p (J p)) packet.head
+    → IsPlayer rules packet.head.from × IsTrueMessage rules packet.head.from packet.head.to (J packet.head.from) message)
+    → IsGood rules room J said p (hear_message rules (told_of rules p (J p)) (known_of rules p (J p)) m packet.head packet.news message)
+good_message laws rules room J said p m packet packets.Hello sound plays awake among bound admitted apart kind fits told =
+    good_met rules room J said p _ _ sound plays awake.chair
+    (named_heard rules room (J p) said p m packet awake.lawful among admitted bound awake.links)
+good_message laws rules room J said p m packet (packets.Welcome ack) sound plays awake among bound admitted apart kind fits told =
+    good_welcome rules room J said p m packet ack sound plays awake among admitted bound
+good_message laws rules room J said p m packet (packets.Data d) sound plays awake among bound admitted apart kind fits told =
+    let of = admitted_match rules room p (J p) m packet.head awake.lawful admitted bound (λ e. cc (kind, e)) (λ e. cc (kind, e))
+    (λ e. cc (kind, e)) in
+    good_data rules room J said p packet.head.from m packet.news d sound plays (told of).0 awake (told of).1.1
+good_message laws rules room J said p m packet (packets.Freeze f) sound plays awake among bound admitted apart kind fits told =
     good_freeze rules room J said p packet.head.from m f sound plays awake
-good_message laws rules room J said p m packet (packets.Frozen f) sound plays awake among admitted from apart is_true fits =
-    good_frozen laws rules room J said p packet.head.from m f sound plays from awake fits.leaver_from_two is_true.0 is_true.2
-good_message laws rules room J said p m packet (packets.Cut c) sound plays awake among admitted from apart is_true fits =
-    good_cut rules room J said p packet.head.from m c sound plays from awake apart is_true.0 is_true.1 is_true.2 fits.run.within
-good_message laws rules room J said p m packet (packets.Show shown) sound plays awake among admitted from apart is_true fits =
+good_message laws rules room J said p m packet (packets.Frozen f) sound plays awake among bound admitted apart kind fits told =
+    let of = admitted_match rules room p (J p) m packet.head awake.lawful admitted bound (λ e. cc (kind, e)) (λ e. cc (kind, e))
+    (λ e. cc (kind, e)) in
+    let is_true = (told of).1 in
+    good_frozen laws rules room J said p packet.head.from m f sound plays (told of).0 awake fits.leaver_from_two is_true.0 is_true.2
+good_message laws rules room J said p m packet (packets.Cut c) sound plays awake among bound admitted apart kind fits told =
+    let of = admitted_match rules room p (J p) m packet.head awake.lawful admitted bound (λ e. cc (kind, e)) (λ e. cc (kind, e))
+    (λ e. cc (kind, e)) in
+    let is_true = (told of).1 in
+    good_cut rules room J said p packet.head.from m c sound plays (told of).0 awake apart is_true.0 is_true.1 is_true.2 fits.run.within
+good_message laws rules room J said p m packet (packets.Show shown) sound plays awake among bound admitted apart kind fits told =
     good_answered rules room J said p m _ awake.chair awake.links
-good_message laws rules room J said p m packet (packets.Seen ack) sound plays awake among admitted from apart is_true fits =
+good_message laws rules room J said p m packet (packets.Seen ack) sound plays awake among bound admitted apart kind fits told =
     good_answered rules room J said p m _ awake.chair awake.links
+good_message laws rules room J said p m packet (packets.Pass d) sound plays awake among bound admitted apart kind fits told =
+    let of = admitted_match rules room p (J p) m packet.head awake.lawful admitted bound (λ e. cc (kind, e)) (λ e. cc (kind, e))
+    (λ e. cc (kind, e)) in
+    good_pass rules room J said p packet.head.from m d sound plays (told of).0 awake (told of).1.1
+good_message laws rules room J said p m packet (packets.Refused r) sound plays awake among bound admitted apart kind fits told =
+    good_learnt rules room J said p m packet.head r (links.refusal_of_word m.links packet.head r) awake
 
 good_seen : (rules : Rules) (room : ℕ) (J : ℕ → List Record) (said : List Packet) (p : ℕ) (m : Memory) (head : HeadValue) (ack : ℕ)
     → IsAwake rules room J said p m → IsGood rules room J said p (hear_seen (known_of rules p (J p)) m head ack)
@@ -428,31 +556,39 @@ pub sender_apart : (rules : Rules) (room p : ℕ) (journal : List Record) (m : M
     → links.refusal m.links head ≡ None → head.from ≢ p
 sender_apart rules room p journal m head lawful admitted e = (is_for_me m.links head admitted).apart (e ∙ sym lawful.player)
 
+-- what is told of a datagram without rows
+told_none : (rules : Rules) (J : ℕ → List Record) (packet : Packet) (heard_rows : Option ℕ) → heard_rows ≡ None → IsTold rules J packet heard_rows
+    → IsPlayer rules packet.head.from × IsTrueMessage rules packet.head.from packet.head.to (J packet.head.from) packet.message
+told_none rules J packet None is told = (told.0, told.1.message)
+told_none rules J packet (Some rows) is told = absurd (cc is)
+
 -- a datagram that is not refused before its sender matters
 good_from : (laws : ArePeersLawful) (rules : Rules) (room : ℕ) (J : ℕ → List Record) (said : List Packet) (p : ℕ) (m : Memory)
     (packet : Packet) (heard_rows : Option ℕ) → AreSound rules room J → IsPlayer rules p → IsAwake rules room J said p m → IsAmong said packet
-    → IsTold rules J packet heard_rows → IsPacket packet
+    → (has_lives rules.wire ≡ true → match_of p (J p) ≢ 0) → seen_in packet.message ≡ heard_rows → IsSaid rules J (match_of p (J p)) packet
     → IsGood rules room J said p (hear_from rules (told_of rules p (J p)) (known_of rules p (J p)) m packet heard_rows)
-good_from laws rules room J said p m packet (Some ack) sound plays awake among told spelled =
-    unless_hand_by (IsGood rules room J said p) m (links.refusal_of_seen m.links packet.head) _
-    (λ error. good_answered rules room J said p m _ awake.chair awake.links)
+good_from laws rules room J said p m packet (Some ack) sound plays awake among bound rows is_said =
+    unless_hand_by (IsGood rules room J said p) m packet.head (links.refusal_of_seen m.links packet.head) _
+    (λ error. good_refused rules room J said p m packet.head error awake.chair awake.links)
     (λ admitted. good_seen rules room J said p m packet.head ack awake)
-good_from laws rules room J said p m packet None sound plays awake among told spelled =
-    unless_hand_by (IsGood rules room J said p) m (links.refusal m.links packet.head) _
-    (λ error. good_answered rules room J said p m _ awake.chair awake.links) (λ admitted.
-    good_message laws rules room J said p m packet packet.message sound plays awake among admitted told.0
-    (sender_apart rules room p (J p) m packet.head awake.lawful admitted) told.1.message spelled.message)
+good_from laws rules room J said p m packet None sound plays awake among bound rows is_said =
+    unless_hand_by (IsGood rules room J said p) m packet.head (links.refusal m.links packet.head) _
+    (λ error. good_refused rules room J said p m packet.head error awake.chair awake.links) (λ admitted.
+    good_message laws rules room J said p m packet packet.message sound plays awake among bound admitted
+    (sender_apart rules room p (J p) m packet.head awake.lawful admitted) is_said.spelled.kind is_said.spelled.message
+    (λ of. told_none rules J packet (seen_in packet.message) rows (is_said.told of)))
 
 good_delivery : (laws : ArePeersLawful) (rules : Rules) (room : ℕ) (J : ℕ → List Record) (said : List Packet) (p : ℕ) (m : Memory)
-    (packet : Packet) → AreSound rules room J → IsPlayer rules p → IsAwake rules room J said p m → IsAmong said packet → IsSaid rules J packet
+    (packet : Packet) → AreSound rules room J → IsPlayer rules p → IsAwake rules room J said p m → IsAmong said packet
+    → (has_lives rules.wire ≡ true → match_of p (J p) ≢ 0) → IsSaid rules J (match_of p (J p)) packet
     → IsGood rules room J said p (deliver rules (told_of rules p (J p)) (known_of rules p (J p)) m (Ok packet))
-good_delivery laws rules room J said p m packet sound plays awake among is_said =
+good_delivery laws rules room J said p m packet sound plays awake among bound is_said =
     let P : Outcome → Type 0 = IsGood rules room J said p in
     let refuses = λ (reply : Reply). good_answered rules room J said p m reply awake.chair awake.links in
     let k : KnownValue = known_of rules p (J p) in
     branch P (player_in k k.me).leaving _ _ (λ is. refuses _) (λ stays.
     branch P (is_of_other_wire rules packet.head) _ _ (λ is. refuses _) (λ own.
-    good_from laws rules room J said p m packet (seen_in packet.message) sound plays awake among is_said.told is_said.spelled))
+    good_from laws rules room J said p m packet (seen_in packet.message) sound plays awake among bound refl is_said))
 
 good_say : (rules : Rules) (room : ℕ) (J : ℕ → List Record) (said : List Packet) (p : ℕ) (m : Memory) (to : ℕ) (what : Saying)
     → IsAwake rules room J said p m → IsGood rules room J said p (say rules (told_of rules p (J p)) (known_of rules p (J p)) m to what)
@@ -463,8 +599,8 @@ good_say rules room J said p m to what awake =
     let k : KnownValue = known_of rules p (J p) in
     branch P (player_in k k.me).leaving _ _ (λ is. refuses _) (λ stays.
     branch P (to == k.me || not (is_player k to)) _ _ (λ is. refuses _) (λ who.
-    branch P (is_not_mine k to what) _ _ (λ is. refuses _) (λ mine.
-    branch P (lacks_record k what) _ _ (λ is. refuses _) (λ kept.
+    branch P (is_not_mine rules.wire k to what) _ _ (λ is. refuses _) (λ mine.
+    branch P (lacks_record k m to what) _ _ (λ is. refuses _) (λ kept.
     branch P (lacks_link m to what) _ _ (λ is. refuses _) (λ linked. refuses _)))))
 
 good_show : (rules : Rules) (room : ℕ) (J : ℕ → List Record) (said : List Packet) (p : ℕ) (m : Memory) (watcher : ℕ)
@@ -499,25 +635,27 @@ good_checkpoint rules room J said p m sound plays awake =
 
 -- ---- any call of an open peer in a world: each datagram that is delivered was sent
 
-abbrev pub IsWorldly : Rules → (ℕ → List Record) → List Packet → Call → Type 0
-IsWorldly rules J said (Tick keys) = Unit {0}
-IsWorldly rules J said (Deliver (Ok packet)) = IsAmong said packet × IsSaid rules J packet
-IsWorldly rules J said (Deliver (Err error)) = ⊥
-IsWorldly rules J said (Say to what) = Unit {0}
-IsWorldly rules J said (Show watcher) = Unit {0}
-IsWorldly rules J said (Leave leaver) = Unit {0}
-IsWorldly rules J said (Decide leaver) = Unit {0}
-IsWorldly rules J said Checkpoint = Unit {0}
+abbrev pub IsWorldly : Rules → (ℕ → List Record) → ℕ → List Packet → Call → Type 0
+IsWorldly rules J c said (Tick input) = Unit {0}
+IsWorldly rules J c said (Deliver (Ok packet)) = IsAmong said packet × IsSaid rules J c packet
+IsWorldly rules J c said (Deliver (Err error)) = ⊥
+IsWorldly rules J c said (Say to what) = Unit {0}
+IsWorldly rules J c said (Show watcher) = Unit {0}
+IsWorldly rules J c said (Leave leaver) = Unit {0}
+IsWorldly rules J c said (Decide leaver) = Unit {0}
+IsWorldly rules J c said Checkpoint = Unit {0}
 
 pub good_call : (laws : ArePeersLawful) (rules : Rules) (room : ℕ) (J : ℕ → List Record) (said : List Packet) (p : ℕ) (m : Memory)
-    (call : Call) → AreSound rules room J → IsPlayer rules p → IsAwake rules room J said p m → IsWorldly rules J said call
+    (call : Call) → AreSound rules room J → IsPlayer rules p → IsAwake rules room J said p m → (has_lives rules.wire ≡ true → match_of p (J p) ≢ 0)
+    → IsWorldly rules J (match_of p (J p)) said call
     → IsGood rules room J said p (outcome rules (told_of rules p (J p)) (known_of rules p (J p)) m call)
-good_call laws rules room J said p m (Tick keys) sound plays awake worldly = good_tick rules room J said p m keys sound plays awake
-good_call laws rules room J said p m (Deliver (Ok packet)) sound plays awake worldly =
-    good_delivery laws rules room J said p m packet sound plays awake worldly.0 worldly.1
-good_call laws rules room J said p m (Deliver (Err error)) sound plays awake worldly = absurd worldly
-good_call laws rules room J said p m (Say to what) sound plays awake worldly = good_say rules room J said p m to what awake
-good_call laws rules room J said p m (Show watcher) sound plays awake worldly = good_show rules room J said p m watcher awake
-good_call laws rules room J said p m (Leave leaver) sound plays awake worldly = good_leave rules room J said p m leaver sound plays awake
-good_call laws rules room J said p m (Decide leaver) sound plays awake worldly = good_decide laws rules room J said p m leaver sound plays awake
-good_call laws rules room J said p m Checkpoint sound plays awake worldly = good_checkpoint rules room J said p m sound plays awake
+good_call laws rules room J said p m (Tick input) sound plays awake bound worldly = good_tick rules room J said p m input sound plays awake
+good_call laws rules room J said p m (Deliver (Ok packet)) sound plays awake bound worldly =
+    good_delivery laws rules room J said p m packet sound plays awake worldly.0 bound worldly.1
+good_call laws rules room J said p m (Deliver (Err error)) sound plays awake bound worldly = absurd worldly
+good_call laws rules room J said p m (Say to what) sound plays awake bound worldly = good_say rules room J said p m to what awake
+good_call laws rules room J said p m (Show watcher) sound plays awake bound worldly = good_show rules room J said p m watcher awake
+good_call laws rules room J said p m (Leave leaver) sound plays awake bound worldly = good_leave rules room J said p m leaver sound plays awake
+good_call laws rules room J said p m (Decide leaver) sound plays awake bound worldly =
+    good_decide laws rules room J said p m leaver sound plays awake
+good_call laws rules room J said p m Checkpoint sound plays awake bound worldly = good_checkpoint rules room J said p m sound plays awake

@@ -70,6 +70,23 @@ more_grown rules J J' p r more q plays =
       | inr other ↦ rw (more.there q plays other) (begins_same (J q))
     ]
 
+pub same_grown : (rules : Rules) (J J' : ℕ → List Record) → ((q : ℕ) → IsPlayer rules q → J' q ≡ J q) → Grown rules J J'
+same_grown rules J J' same q plays = rw (same q plays) (begins_same (J q))
+
+pub sound_same : (rules : Rules) (room : ℕ) (J J' : ℕ → List Record) → AreInRange rules → AreSound rules room J
+    → ((q : ℕ) → IsPlayer rules q → J' q ≡ J q) → AreSound rules room J'
+sound_same rules room J J' range sound same =
+    let one = same 1 (player_one rules range) in
+    record {
+      valid = λ p plays. rw (same p plays) (sound.valid p plays);
+      begins = λ p q plays q_plays. rw (same p plays, same q q_plays) (sound.begins p q plays q_plays);
+      cuts = λ p L K plays. rw (same p plays, one) (sound.cuts p L K plays);
+      decided = λ L K s is plays. rw (one, same s plays)
+          (sound.decided L K s (subst (λ (journal : List Record). cut_of L journal ≡ Some K) one is) plays);
+      frozen = λ s L before rest plays. rw (same s plays, one) (sound.frozen s L before rest plays);
+      checks = λ p plays. rw (same p plays) (sound.checks p plays);
+    }
+
 -- what a journal says stays in a longer one
 pub held_grown : (rules : Rules) (q : ℕ) (early late : List Record) → Begins early late → Begins (held rules q early) (held rules q late)
 held_grown rules q early late begins = subst (λ (all : List Record). Begins (held rules q early) (held rules q all)) (sym begins.is)

@@ -10,6 +10,7 @@ use Rattle.std.proofs.lemmas.List.Elements.{All-push}
 use Rattle.c8_world.specs.declared.node.Node.{Node}
 use Rattle.c8_world.proofs.Worlds.{peer_at_start}
 use Rattle.c8_world.proofs.TableLemmas.{CanDo}
+use Rattle.c8_world.proofs.NumberLemmas.{AreBelow, never_below}
 use Rattle.c8_peer.specs.State.{State}
 use Rattle.c8_game.specs.Rules.{Rules, AreInRange}
 use Rattle.c8_refusals.specs.declared.error.OpenError.TheVariants as opens
@@ -20,7 +21,7 @@ use Rattle.c8_world.specs.declared.event.Act as acts
 use Rattle.c8_world.specs.declared.event.Event as asked
 use Rattle.c8_world.specs.declared.event.Event.TheVariants as happenings
 use Rattle.c8_world.specs.World.{World, start, player_of, act_inside, Act, Open, Event, Do, Happening, Answer, Told}
-use Rattle.c8_world.specs.World.{CanHappen, Chain, IsReached}
+use Rattle.c8_world.specs.World.{no_sight, CanHappen, Chain, IsReached}
 use Rattle.c8_world.specs.Events.{act_of, event_of}
 use Rattle.c8_world.specs.Table.{TableValue, IsTaken, IsFull, IsUntouched, node_of, IsSameMatch, Holds, HadMemory, HasHappened}
 use Rattle.c8_world.specs.Table.{HasNotHappened, reported}
@@ -184,7 +185,7 @@ same_match old mid new first last = record { rules = last.rules ∙ first.rules;
 
 pub other_act : (a : acts.Act) (p : ℕ) → ((player : Player) → a ≡ act_ofs.Open player → ⊥) → act_of a ≢ Open p
 other_act (act_ofs.Open player) p other e = other player refl
-other_act (act_ofs.Tick player keys) p other e = cc e
+other_act (act_ofs.Tick player input) p other e = cc e
 other_act (act_ofs.Say player to what) p other e = cc e
 other_act (act_ofs.Give number player) p other e = cc e
 other_act (act_ofs.Leave leaver) p other e = cc e
@@ -194,6 +195,7 @@ other_act (act_ofs.Show watcher) p other e = cc e
 other_act (act_ofs.Hear number watcher) p other e = cc e
 other_act (act_ofs.Seen watcher) p other e = cc e
 other_act (act_ofs.Fresh watcher) p other e = cc e
+other_act (act_ofs.Wipe player) p other e = cc e
 
 -- the events that a run without enough memory adds to a life: those so far, and what the last event adds
 pub lived_on : (old mid new : WorldValue) (events : List asked.Event) (i : ℕ) (event : asked.Event) (told : List codes.Answer)
@@ -269,9 +271,9 @@ of_view P inside self view is = subst P view is
 
 -- ---- a new world
 
-pub start_holds : (t : TableValue) → IsFull t.rules t.room t.nodes → All IsUntouched t.nodes → t.pool ≡ [] → t.five ≡ [] → t.six ≡ []
+pub start_holds : (t : TableValue) → IsFull t.rules t.room t.nodes → All IsUntouched t.nodes → t.lost ≡ [] → t.pool ≡ [] → t.five ≡ no_sight → t.six ≡ no_sight
     → Holds t (start t.rules)
-start_holds t full untouched quiet five six = record {
+start_holds t full untouched kept quiet five six = record {
   reached = record { events = []; answers = []; chain = refl };
   count = length-replicate t.rules.players never_opened;
   peers = λ p plays.
@@ -280,6 +282,11 @@ start_holds t full untouched quiet five six = record {
       let size = full.1 in
       subst (λ (s : State). IsTaken t.rules t.room p (node_of t p) s) (sym (peer_at_start t.rules p))
       (untouched (p - 1) None (omega (arith, from, to, size)) t.rules t.room p);
+  lost = kept;
+  numbered = record {
+    now = λ p. subst (λ (s : State). AreBelow 1 s) (sym (peer_at_start t.rules p)) (never_below 1);
+    lost = λ p journal among. absurd among;
+  };
   said = quiet;
   five = five;
   six = six;

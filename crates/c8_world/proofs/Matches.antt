@@ -1,11 +1,11 @@
 -- Computes the worked matches.
 use Rattle.std.proofs.Common.{◌≡◌, ◌≢◌, ◌⊎◌, ℕ, zero, suc, ◌<◌, ◌≤◌, ◌^◌, List, [], ◌∷◌, ◌++◌, length, slice_index_or, Bool, true, false}
-use Rattle.std.proofs.Common.{refl, inl, ap, arith}
+use Rattle.std.proofs.Common.{None, refl, inl, ap, ◌∙◌, arith}
 use Rattle.std.specs.Prelude.{slice_index}
 use Rattle.std.proofs.lemmas.Bool.{leb-true}
 use Rattle.std.proofs.lemmas.List.{length-append}
 use Rattle.std.specs.Int.{bytes_high_first}
-use Rattle.c8_game.specs.Rules.{Rules, most_frames, AreInRange, set_at, id_of}
+use Rattle.c8_game.specs.Rules.{Rules, most_frames, AreInRange, input_at, id_of}
 use Rattle.c8_game.specs.declared.row.Row.{Row}
 use Rattle.c8_machine.specs.Serial.{serial}
 use Rattle.c8_digest.specs.StateBytes.{mark_of}
@@ -87,8 +87,11 @@ two_range frames window some few one most = record {
   some_window = one;
   window = most;
   seed = omega arith;
+  some_width = omega arith;
+  width = omega arith;
+  early = λ low. refl;
   masks = refl;
-  key_sets = below 0x000f 0xfff0 0 0 (2 ^ 16) (omega arith) (omega arith) (omega arith) (omega arith);
+  mask_fits = below 0x000f 0xfff0 0 0 (256 ^ 2) (omega arith) (omega arith) (omega arith) (omega arith);
   absent = absent_two 0x000f 0xfff0;
   some_program = omega arith;
   program = omega arith;
@@ -107,8 +110,11 @@ three_range = record {
   some_window = omega arith;
   window = omega arith;
   seed = omega arith;
+  some_width = omega arith;
+  width = omega arith;
+  early = λ low. refl;
   masks = refl;
-  key_sets = below 0x000f 0xfff0 0xffff 0 (2 ^ 16) (omega arith) (omega arith) (omega arith) (omega arith);
+  mask_fits = below 0x000f 0xfff0 0xffff 0 (256 ^ 2) (omega arith) (omega arith) (omega arith) (omega arith);
   absent = absent_three 0x000f 0xfff0 0xffff;
   some_program = omega arith;
   program = omega arith;
@@ -127,8 +133,11 @@ four_range = record {
   some_window = omega arith;
   window = omega arith;
   seed = omega arith;
+  some_width = omega arith;
+  width = omega arith;
+  early = λ low. refl;
   masks = refl;
-  key_sets = below 0x000f 0xfff0 0xffff 0xffff (2 ^ 16) (omega arith) (omega arith) (omega arith) (omega arith);
+  mask_fits = below 0x000f 0xfff0 0xffff 0xffff (256 ^ 2) (omega arith) (omega arith) (omega arith) (omega arith);
   absent = absent_four 0x000f 0xfff0 0xffff 0xffff;
   some_program = omega arith;
   program = omega arith;
@@ -165,17 +174,19 @@ unfolding acted tick leave decide say hear_welcome hear_freeze hear_frozen hear_
 goes_on_worked laws = worked laws (two 100 1) both goes_on turn_range (replies_worked laws).sound refl refl refl
 
 -- DATA with one input has 48 bytes
-one_input : (head : HeadValue) (ack frame start word : ℕ) (mark : List ℕ) → head.version ≡ versions.One → length mark ≡ 8
+one_input : (head : HeadValue) (ack frame start word : ℕ) (mark : List ℕ) → head.version ≡ versions.One → head.width ≡ 2 → length mark ≡ 8
     → length (spelling (record {
       head = head;
+      news = None;
       message = packets.Data (record { ack = ack; mark_frame = frame; mark = mark; start = start; words = word ∷ [] });
     })) ≡ 48
 unfolding spelling
-one_input head ack frame start word mark first eight =
-    let run : length (run_bytes versions.One start (word ∷ [])) ≡ 8 = refl in
-    let same : length (run_bytes head.version start (word ∷ [])) ≡ length (run_bytes versions.One start (word ∷ [])) =
-    ap (λ (v : WireVersion). length (run_bytes v start (word ∷ []))) first in
-    omega (arith, length-append mark (run_bytes head.version start (word ∷ [])), eight, run, same)
+one_input head ack frame start word mark first wide eight =
+    let run : length (run_bytes versions.One 2 start (word ∷ [])) ≡ 8 = refl in
+    let same : length (run_bytes head.version head.width start (word ∷ [])) ≡ length (run_bytes versions.One 2 start (word ∷ [])) =
+    ap (λ (v : WireVersion). length (run_bytes v head.width start (word ∷ []))) first
+    ∙ ap (λ (width : ℕ). length (run_bytes versions.One width start (word ∷ []))) wide in
+    omega (arith, length-append mark (run_bytes head.version head.width start (word ∷ [])), eight, run, same)
 
 turn_lengths : ArePeersLawful → lengths_from 0 turn_end ≡ 24 ∷ 28 ∷ 24 ∷ 28 ∷ 48 ∷ 48 ∷ []
 unfolding spelling acted tick leave decide say hear_welcome hear_freeze hear_frozen hear_cut known_of told_of opened_since checks_of
@@ -184,8 +195,8 @@ turn_lengths laws =
     let one_said : Packet = datagram (two 100 1) 1 1 2 1 (inputs (two 100 1) 0 0 (0x0020 ∷ [])) in
     let other_said : Packet = datagram (two 100 1) 2 1 1 1 (inputs (two 100 1) 1 0 (0x0000 ∷ [])) in
     let said = (goes_on_worked laws).sound.said in
-    let one = one_input one_said.head 0 0 0 0x0020 (mark_of (serial (two 100 1) [])) refl (said one_said (4, refl)).spelled.fits.0.0 in
-    let other = one_input other_said.head 1 0 0 0 (mark_of (serial (two 100 1) [])) refl (said other_said (5, refl)).spelled.fits.0.0 in
+    let one = one_input one_said.head 0 0 0 0x0020 (mark_of (serial (two 100 1) [])) refl refl (said one_said (4, refl)).spelled.fits.0.0 in
+    let other = one_input other_said.head 1 0 0 0 (mark_of (serial (two 100 1) [])) refl refl (said other_said (5, refl)).spelled.fits.0.0 in
     λ i. 24 ∷ 28 ∷ 24 ∷ 28 ∷ one i ∷ other i ∷ []
 
 pub goes_in_turn : ArePeersLawful → GoesInTurn
@@ -306,9 +317,9 @@ unfolding acted tick leave decide say hear_welcome hear_freeze hear_frozen hear_
     ticks cut_of has_freeze epochs confirmed greatest input_of differ mark_at is_ready fits_in
 told_worked laws = worked laws three eleven told three_range (eleven_worked laws).sound refl refl refl
 
--- player 3's set in a row
+-- player 3's input in a row
 abbrev third : Row → ℕ
-third r = set_at r 2
+third r = input_at r 2
 
 tenth_differs : row (known_by three eleven 1) 10 ≢ row (known_by three eleven 3) 10
 unfolding acted tick leave decide say hear_welcome hear_freeze hear_frozen hear_cut known_of told_of opened_since checks_of has_leave held
@@ -398,14 +409,16 @@ ends_after_last_frame laws = record { end = last_end; leads = (last_worked laws)
 
 -- ---- another game's journal
 
-head_spelled : (id : List ℕ) (room : ℕ) → length id ≡ 32 → AreBytes id → room < 2 ^ 64 → HasSpelling (Head 1 0 id room)
+head_spelled : (id : List ℕ) (room : ℕ) → length id ≡ 32 → AreBytes id → room < 2 ^ 64 → HasSpelling 2 (Head 1 0 id room 0)
 head_spelled id room long fit few = record {
+  some_bytes = omega arith;
   from_one = omega arith;
   to_four = omega arith;
   number = omega arith;
   start = omega arith;
+  few = omega arith;
   short = let eight : length (bytes_high_first 8 room) ≡ 8 = refl in omega (arith, long, eight, length-append id (bytes_high_first 8 room));
-  parts = (inl refl, long, fit, few);
+  parts = (inl refl, long, fit, few, inl (omega arith, refl), omega arith);
 }
 
 abbrev refuses : Happening
@@ -420,13 +433,16 @@ refuses_other id room long fit few other = record {
     happening = refuses;
     may = λ plays. (
       (
-        1,
-        id,
-        room,
-        (body_of (Head 1 0 id room), 0, refl, record { has = head_spelled id room long fit few; is = refl }),
-        other,
+        (
+          1,
+          id,
+          room,
+          (body_of 2 (Head 1 0 id room 0), 0, 0, refl, record { has = head_spelled id room long fit few; is = refl }),
+          other,
+        ),
+        omega arith,
       ),
-      omega arith,
+      record { may = λ lives. cc lives; new = λ journal never. absurd never },
     );
     is = refl;
   };

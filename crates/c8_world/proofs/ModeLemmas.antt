@@ -6,6 +6,7 @@ use Rattle.std.specs.Prelude.{◌==◌, if◌then◌else◌}
 use Rattle.std.specs.List.{slice_get}
 use Rattle.std.proofs.lemmas.Bool.{cases_eq, cases_Bool, eq-eqb, ne_eqb}
 use Rattle.c8_game.specs.Rules.{Rules, AreInRange}
+use Rattle.c8_wire.specs.Format.{has_lives}
 use Rattle.c8_wire.specs.Packet.{Packet}
 use Rattle.c8_peer.specs.State as states
 use Rattle.c8_peer.specs.State.{Mode, Down, Away, State, Call, Reply, Opened, Ticked, Delivered, Said, Left, Decided, Checked}
@@ -16,7 +17,8 @@ use Rattle.c8_world.specs.checked.Below.{ArePeersLawful}
 use Rattle.c8_world.specs.World.{World, start, is_player, peer_of, with_peer, Act, Open, Tick, Say, Give, Leave, Decide, player_of, Event}
 use Rattle.c8_world.specs.World.{Do, Stop, Happening, Answer, Told, IsUp, IsDown, NoSuch, Stopped, After, said_by, stepped, call_at_mode}
 use Rattle.c8_world.specs.World.{call_at, open_at_mode, open_at, give_to, acted, crashed, after, MayAct, act_inside, CanHappen, Chain}
-use Rattle.c8_world.specs.World.{Check, Show, Hear, Seen, Fresh, Anew, Spoken, Watched, hear_at, seen_by_watcher, with_rows}
+use Rattle.c8_world.specs.World.{Check, Show, Hear, Seen, Fresh, Wipe, Anew, Spoken, Watched, Wiped, hear_at, seen_by_watcher, with_sight, no_sight}
+use Rattle.c8_world.specs.World.{wiped, wipe_at}
 use Rattle.c8_world.specs.Agreement.{IsPlayer}
 use Rattle.c8_world.specs.declared.answer.Answer as codes
 use Rattle.c8_world.specs.declared.answer.Answer.TheVariants as answers
@@ -26,7 +28,9 @@ use Rattle.c8_world.specs.Table.{reported}
 use Rattle.c8_world.specs.Run.{Runs}
 use Rattle.c8_world.specs.Modes.{mode_answered, mode_after, mode_by, mode_reported, reported_by}
 use Rattle.c8_world.proofs.Openings.{plays_so}
-use Rattle.c8_world.proofs.Worlds.{IsSound, peer_here, peer_there, plays_if, acted_sound, event_sound, peer_at_start, start_sound}
+use Rattle.c8_world.proofs.Placed.{IsSound, peer_here, peer_there}
+use Rattle.c8_world.proofs.Called.{plays_if, if_player}
+use Rattle.c8_world.proofs.Worlds.{acted_sound, event_sound, peer_at_start, start_sound}
 
 if_same : (b : Bool) (x : Mode) → (if b then x else x) ≡ x
 if_same true x = refl
@@ -77,11 +81,11 @@ module _ (laws : ArePeersLawful) (rules : Rules) (room p : ℕ) (plays : IsPlaye
       → Tells w q (open_at_mode rules room w q h mode)
   open_mode_tells w q h states.Open nodes q_plays = stays w q IsUp (λ mode. refl)
   open_mode_tells w q h Down nodes q_plays =
-      goes_on w q (opened rules room q (peer_of w q) (found (peer_of w q) h.finds) h.opening) nodes q_plays
-      (laws.openings_tell rules room q (peer_of w q) (found (peer_of w q) h.finds) h.opening)
+      goes_on w q (opened rules room q h.drawn (peer_of w q) (found (peer_of w q) h.finds) h.opening) nodes q_plays
+      (laws.openings_tell rules room q h.drawn (peer_of w q) (found (peer_of w q) h.finds) h.opening)
   open_mode_tells w q h Away nodes q_plays =
-      goes_on w q (opened rules room q (peer_of w q) (found (peer_of w q) h.finds) h.opening) nodes q_plays
-      (laws.openings_tell rules room q (peer_of w q) (found (peer_of w q) h.finds) h.opening)
+      goes_on w q (opened rules room q h.drawn (peer_of w q) (found (peer_of w q) h.finds) h.opening) nodes q_plays
+      (laws.openings_tell rules room q h.drawn (peer_of w q) (found (peer_of w q) h.finds) h.opening)
 
   -- a player who is not in the game is not p
   stranger : (q : ℕ) → is_player rules q ≡ false → (q == p) ≡ false
@@ -110,10 +114,31 @@ module _ (laws : ArePeersLawful) (rules : Rules) (room p : ℕ) (plays : IsPlaye
   hear_tells w q None = stays w q NoSuch (λ mode. refl)
   hear_tells w q (Some packet) = watcher_tells w _ q _ refl (λ mode. refl)
 
+  wiped_tells : (w : World) (q : ℕ) → length w.peers ≡ rules.players → IsPlayer rules q
+      → Tells w q (record { answer = Wiped; world = wiped w q })
+  unfolding Tells
+  wiped_tells w q nodes q_plays = elim (cases_eq q p) [
+    | inl same ↦
+        let here : peer_of (wiped w q) p ≡ never_opened =
+        subst (λ (x : ℕ). peer_of (wiped w q) x ≡ never_opened) same (peer_here rules w q never_opened [] nodes q_plays) in
+        rw (eq-eqb q p same) (ap (λ (s : State). s.mode) here)
+    | inr apart ↦
+        let there : peer_of (wiped w q) p ≡ peer_of w p = peer_there rules w q never_opened [] p q_plays plays (λ e. apart (sym e)) in
+        rw (ne_eqb q p apart) (ap (λ (s : State). s.mode) there)
+  ]
+
+  wipe_tells : (w : World) (q : ℕ) → length w.peers ≡ rules.players → Tells w q (wipe_at rules w q)
+  wipe_tells w q nodes = elim (cases_Bool (is_player rules q)) [
+    | inl in_game ↦
+        rw in_game (if_player (λ (a : After). Tells w q a) (has_lives rules.wire) _ _
+        (λ is. wiped_tells w q nodes (plays_if rules q in_game)) (stays w q NoSuch (λ mode. refl)))
+    | inr absent ↦ rw absent (stays w q IsDown (λ mode. refl))
+  ]
+
   acted_tells : (w : World) (act : Act) (h : Happening) → length w.peers ≡ rules.players → Tells w (player_of act) (acted rules room w act h)
   unfolding acted
   acted_tells w (Open q) h nodes = open_tells w q h nodes
-  acted_tells w (Tick q keys) h nodes = call_tells w q (states.Tick keys) h.on_disk nodes
+  acted_tells w (Tick q input) h nodes = call_tells w q (states.Tick input) h.on_disk nodes
   acted_tells w (Say q to what) h nodes = call_tells w q (states.Say to what) h.on_disk nodes
   acted_tells w (Give number q) h nodes = give_tells w q h.on_disk (slice_get w.said number) nodes
   acted_tells w (Leave leaver) h nodes = call_tells w 1 (states.Leave leaver) h.on_disk nodes
@@ -122,7 +147,8 @@ module _ (laws : ArePeersLawful) (rules : Rules) (room p : ℕ) (plays : IsPlaye
   acted_tells w (Show watcher) h nodes = call_tells w 1 (states.Show watcher) h.on_disk nodes
   acted_tells w (Hear number watcher) h nodes = hear_tells w watcher (slice_get w.said number)
   acted_tells w (Seen watcher) h nodes = watcher_tells w _ watcher (Spoken (seen_by_watcher rules room w watcher)) refl (λ mode. refl)
-  acted_tells w (Fresh watcher) h nodes = watcher_tells w (with_rows w watcher []) watcher Anew refl (λ mode. refl)
+  acted_tells w (Fresh watcher) h nodes = watcher_tells w (with_sight w watcher no_sight) watcher Anew refl (λ mode. refl)
+  acted_tells w (Wipe q) h nodes = wipe_tells w q nodes
 
   -- a stop makes its player's peer away, and no other
   crash_tells : (w u : World) (q : ℕ) (leaves : Bool) (answer : Answer) → length u.peers ≡ rules.players
@@ -151,11 +177,11 @@ module _ (laws : ArePeersLawful) (rules : Rules) (room p : ℕ) (plays : IsPlaye
   module _ (range : AreInRange rules) (few : room < 2 ^ 64) where
     after_tells : (w : World) (event : Event) (h : Happening) → IsSound rules room w → MayAct rules room w (act_inside event) h
         → Tells w (player_of (act_inside event)) (after rules room w event h)
-    after_tells w (Do act) h sound may = acted_tells w act h sound.nodes
+    after_tells w (Do act) h sound may = acted_tells w act h sound.journals.nodes
     after_tells w (Stop act calls pick) h sound may =
         let a = acted rules room w act h in
-        crash_tells w a.world (player_of act) h.leaves a.answer (acted_sound laws rules room w act h range few sound may).sound.nodes
-        (acted_tells w act h sound.nodes)
+        crash_tells w a.world (player_of act) h.leaves a.answer (acted_sound laws rules room w act h range few sound may).sound.journals.nodes
+        (acted_tells w act h sound.journals.nodes)
 
     event_tells : (w v : World) (event : Event) (answer : Answer) → IsSound rules room w → CanHappen rules room w event answer v
         → (peer_of v p).mode ≡ mode_after p (peer_of w p).mode event answer
@@ -191,6 +217,7 @@ reported_mode rules q u mode Stopped = refl
 reported_mode rules q u mode (Watched result) = refl
 reported_mode rules q u mode (Spoken packet) = refl
 reported_mode rules q u mode Anew = refl
+reported_mode rules q u mode Wiped = refl
 
 reported_down : (rules : Rules) (q : ℕ) (u : World) (told : Answer) → reported rules q u told ≡ answers.Down → told ≡ IsDown
 reported_down rules q u (Told (Opened result)) down = absurd (cc down)
@@ -209,6 +236,7 @@ reported_down rules q u Stopped down = absurd (cc down)
 reported_down rules q u (Watched result) down = absurd (cc down)
 reported_down rules q u (Spoken packet) down = absurd (cc down)
 reported_down rules q u Anew down = absurd (cc down)
+reported_down rules q u Wiped down = absurd (cc down)
 
 module _ (laws : ArePeersLawful) (rules : Rules) (room p : ℕ) (plays : IsPlayer rules p) (range : AreInRange rules) (few : room < 2 ^ 64) where
   runs_tell : (w v : World) (events : List asked.Event) (told : List codes.Answer) → IsSound rules room w → Runs rules room w events told v
@@ -269,11 +297,15 @@ hear_not_down : (rules : Rules) (room : ℕ) (w : World) (watcher : ℕ) (o : Op
 hear_not_down rules room w watcher None down = absurd cc
 hear_not_down rules room w watcher (Some packet) down = absurd cc
 
+wipe_not_down : (rules : Rules) (w : World) (q : ℕ) → is_player rules q ≡ true → (wipe_at rules w q).answer ≡ IsDown → ⊥
+wipe_not_down rules w q in_game =
+    rw in_game (if_player (λ (a : After). a.answer ≢ IsDown) (has_lives rules.wire) _ _ (λ is down. cc down) (λ down. cc down))
+
 acted_not_down : (rules : Rules) (room : ℕ) (w : World) (act : Act) (h : Happening) → is_player rules (player_of act) ≡ true
     → (peer_of w (player_of act)).mode ≡ states.Open → (acted rules room w act h).answer ≡ IsDown → ⊥
 unfolding acted
 acted_not_down rules room w (Open q) h in_game up down = open_not_down rules room w q h in_game up down
-acted_not_down rules room w (Tick q keys) h in_game up down = call_not_down rules w q (states.Tick keys) h.on_disk in_game up down
+acted_not_down rules room w (Tick q input) h in_game up down = call_not_down rules w q (states.Tick input) h.on_disk in_game up down
 acted_not_down rules room w (Say q to what) h in_game up down = call_not_down rules w q (states.Say to what) h.on_disk in_game up down
 acted_not_down rules room w (Give number q) h in_game up down = give_not_down rules w q h.on_disk (slice_get w.said number) in_game up down
 acted_not_down rules room w (Leave leaver) h in_game up down = call_not_down rules w 1 (states.Leave leaver) h.on_disk in_game up down
@@ -283,6 +315,7 @@ acted_not_down rules room w (Show watcher) h in_game up down = call_not_down rul
 acted_not_down rules room w (Hear number watcher) h in_game up down = hear_not_down rules room w watcher (slice_get w.said number) down
 acted_not_down rules room w (Seen watcher) h in_game up down = absurd cc
 acted_not_down rules room w (Fresh watcher) h in_game up down = absurd cc
+acted_not_down rules room w (Wipe q) h in_game up down = wipe_not_down rules w q in_game down
 
 pub down_told : (laws : ArePeersLawful) (rules : Rules) (room : ℕ) (v u : World) (events : List Event) (answers : List Answer) (act : Act)
     → AreInRange rules → room < 2 ^ 64 → Chain rules room (start rules) events answers v

@@ -16,8 +16,8 @@ use Rattle.c8_peer.specs.Peer.{Keeps}
 use Rattle.c8_world.specs.Nodes.{Tells}
 
 -- a read gives one of the images
-pub found_now : (s : State) (disk : MemDisk) → Tells s disk → (finds : Bool) × Keeps (found s finds) (bytes_of disk)
-found_now s disk tells = tells (bytes_of disk) (reads_image disk.first.items disk.calls.items disk.bytes.items disk.lawful disk.replayed)
+pub found_now : (width : ℕ) (s : State) (disk : MemDisk) → Tells width s disk → (finds : Bool) × Keeps width (found s finds) (bytes_of disk)
+found_now width s disk tells = tells (bytes_of disk) (reads_image disk.first.items disk.calls.items disk.bytes.items disk.lawful disk.replayed)
 
 abbrev pub reply_in : Option Reply → Reply
 reply_in (Some reply) = reply
@@ -34,17 +34,17 @@ IsOpenedOk (Decided result) = ⊥
 IsOpenedOk (Checked result) = ⊥
 
 -- a peer that was not opened is away
-pub refused_away : (rules : Rules) (room p : ℕ) (s : State) (journal : List Record) (opening : Opening) (error : OpenError)
-    → (opened rules room p s journal opening).reply ≡ Opened (Err error) → (opened rules room p s journal opening).state.mode ≡ Away
-refused_away rules room p s journal NoPlayer error is = refl
-refused_away rules room p s journal Stands error is = elim (subst IsOpenedOk is tt) [ ]
-refused_away rules room p s journal (NotWritten why) error is = refl
-refused_away rules room p s journal NoMemory error is = refl
-refused_away rules room p s journal (NotRead why) error is = refl
-refused_away rules room p s journal (Unfit why) error is = refl
-refused_away rules room p s journal Spent error is = refl
+pub refused_away : (rules : Rules) (room p drawn : ℕ) (s : State) (journal : List Record) (opening : Opening) (error : OpenError)
+    → (opened rules room p drawn s journal opening).reply ≡ Opened (Err error) → (opened rules room p drawn s journal opening).state.mode ≡ Away
+refused_away rules room p drawn s journal NoPlayer error is = refl
+refused_away rules room p drawn s journal Stands error is = elim (subst IsOpenedOk is tt) [ ]
+refused_away rules room p drawn s journal (NotWritten why) error is = refl
+refused_away rules room p drawn s journal NoMemory error is = refl
+refused_away rules room p drawn s journal (NotRead why) error is = refl
+refused_away rules room p drawn s journal (Unfit why) error is = refl
+refused_away rules room p drawn s journal Spent error is = refl
 
 -- an empty disk belongs to a peer that was never opened
-pub new_tells : (disk : MemDisk) → bytes_of disk ≡ [] → Only (bytes_of disk) (images_of disk) → Tells never_opened disk
+pub new_tells : (width : ℕ) (disk : MemDisk) → bytes_of disk ≡ [] → Only (bytes_of disk) (images_of disk) → Tells width never_opened disk
 unfolding kept kept_count
-new_tells disk empty only image left = (false, subst (λ (bytes : List ℕ). kept bytes ≡ []) (sym (only image left ∙ empty)) refl)
+new_tells width disk empty only image left = (false, subst (λ (bytes : List ℕ). kept bytes ≡ []) (sym (only image left ∙ empty)) refl)

@@ -6,7 +6,7 @@ use Rattle.std.specs.List.{slice_get}
 use Rattle.std.proofs.lemmas.Bool.{cases_eq, eq-eqb, ne_eqb, both_ways}
 use Rattle.std.proofs.lemmas.List.{append-nil}
 use Rattle.c8_game.specs.Rules.{Rules}
-use Rattle.c8_known.specs.Journal.{Record, Head, Epoch, Own, Got, Freeze, Leave, Cut, State, Check, player_of, words_of, cuts_of, held}
+use Rattle.c8_known.specs.Journal.{Record, Head, Epoch, Own, Got, Freeze, Leave, Cut, State, Check, Met, player_of, words_of, cuts_of, held}
 use Rattle.c8_known.specs.Journal.{count, has_freeze, has_leave, cut_of}
 use Rattle.c8_known.specs.Known.{PlayerValue, KnownValue, player_in, count_in, said_of, known_of}
 use Rattle.c8_known.specs.Growth.{Begins, Stands}
@@ -44,7 +44,7 @@ me_is rules p journal = refl
 -- ---- a record fits if what it says of its own player does
 
 words_of_other : (q : ℕ) (r : Record) → player_of r ≢ q → words_of q r ≡ []
-words_of_other q (Head player form id room) other = refl
+words_of_other q (Head player form id room life) other = refl
 words_of_other q (Epoch player number form) other = refl
 words_of_other q (Own player start word) other = rw (ne_eqb player q other) refl
 words_of_other q (Got player start words) other = rw (ne_eqb player q other) refl
@@ -53,9 +53,10 @@ words_of_other q (Leave player) other = refl
 words_of_other q (Cut player K start words) other = rw (ne_eqb player q other) refl
 words_of_other q (State player frames piece bytes) other = refl
 words_of_other q (Check player frames digest) other = refl
+words_of_other q (Met player life) other = refl
 
 cuts_of_other : (q : ℕ) (r : Record) → player_of r ≢ q → cuts_of q r ≡ []
-cuts_of_other q (Head player form id room) other = refl
+cuts_of_other q (Head player form id room life) other = refl
 cuts_of_other q (Epoch player number form) other = refl
 cuts_of_other q (Own player start word) other = refl
 cuts_of_other q (Got player start words) other = refl
@@ -64,6 +65,7 @@ cuts_of_other q (Leave player) other = refl
 cuts_of_other q (Cut player K start words) other = rw (ne_eqb player q other) refl
 cuts_of_other q (State player frames piece bytes) other = refl
 cuts_of_other q (Check player frames digest) other = refl
+cuts_of_other q (Met player life) other = refl
 
 -- a cut is of the player whom the record names
 cut_is_of : (q K : ℕ) (r : Record) → slice_get (cuts_of q r) 0 ≡ Some K → q ≡ player_of r
@@ -126,12 +128,12 @@ quiet rules room J p q sound plays q_plays = record {
 self : (q : ℕ) → (q == q) ≡ true
 self q = eq-eqb q q refl
 
-pub fits_head : (rules : Rules) (room : ℕ) (J : ℕ → List Record) (p player form : ℕ) (id : List ℕ) (named : ℕ) → AreSound rules room J
+pub fits_head : (rules : Rules) (room : ℕ) (J : ℕ → List Record) (p player form : ℕ) (id : List ℕ) (named life : ℕ) → AreSound rules room J
     → IsPlayer rules p
-    → MayAdd rules room J p (Head player form id named) → Fits rules room J p (Head player form id named)
-fits_head rules room J p player form id named sound plays may =
-    fits_by rules room J p (Head player form id named) sound plays may
-    (quiet rules room J p player sound plays (names_player rules room p (J p) (Head player form id named) may.allowed))
+    → MayAdd rules room J p (Head player form id named life) → Fits rules room J p (Head player form id named life)
+fits_head rules room J p player form id named life sound plays may =
+    fits_by rules room J p (Head player form id named life) sound plays may
+    (quiet rules room J p player sound plays (names_player rules room p (J p) (Head player form id named life) may.allowed))
 
 pub fits_epoch : (rules : Rules) (room : ℕ) (J : ℕ → List Record) (p player number form : ℕ) → AreSound rules room J → IsPlayer rules p
     → MayAdd rules room J p (Epoch player number form) → Fits rules room J p (Epoch player number form)
@@ -161,6 +163,12 @@ pub fits_check : (rules : Rules) (room : ℕ) (J : ℕ → List Record) (p playe
 fits_check rules room J p player frames digest sound plays may =
     fits_by rules room J p (Check player frames digest) sound plays may
     (quiet rules room J p player sound plays (names_player rules room p (J p) (Check player frames digest) may.allowed))
+
+pub fits_met : (rules : Rules) (room : ℕ) (J : ℕ → List Record) (p player life : ℕ) → AreSound rules room J → IsPlayer rules p
+    → MayAdd rules room J p (Met player life) → Fits rules room J p (Met player life)
+fits_met rules room J p player life sound plays may =
+    fits_by rules room J p (Met player life) sound plays may
+    (quiet rules room J p player sound plays (names_player rules room p (J p) (Met player life) may.allowed))
 
 -- no player freezes itself, and player 1 freezes nobody
 pub own_unfrozen : (rules : Rules) (room : ℕ) (J : ℕ → List Record) (p : ℕ) → AreSound rules room J → IsPlayer rules p → has_freeze p (J p) ≡ false

@@ -20,6 +20,7 @@ use Rattle.c8_world.specs.World.{World, peer_of, Say, Give, Do, Told, NoSuch, gi
 use Rattle.c8_world.specs.Agreement.{IsPlayer}
 use Rattle.c8_world.specs.Nodes.{IsNode, IsSaying, IsAsked}
 use Rattle.c8_world.specs.Table.{TableValue, Holds, HasHappened}
+use Rattle.c8_world.proofs.NumberLemmas.{step_below}
 use Rattle.c8_world.proofs.TableLemmas.{CanDo, stands_is_memory, IsCallOf, same_renodeed, placed_happens, replied_can, down_can}
 use Rattle.c8_world.proofs.TableLemmas.{same_happens, node_held, held_at, asked_as, absent_can, no_player, with_outcome, with_node}
 
@@ -67,7 +68,8 @@ module _ (t : TableValue) (p : ℕ) (act : Act) (call : Call) (is_call : IsSayin
       (answers.Said (Err error)) refl refl plays does.by holds
       (replied_can t.rules t.room w p act call (Said (Err error)) plays does up (ap (λ (x : Stepped). x.reply) is))
       (same_renodeed t.nodes p node at) (said_state (Said (Err error)) is)
-      (holds.said ∙ ap (λ (xs : List Packet). map spelling xs) (sym (append-nil w.said))) (refl, refl)
+      (holds.said ∙ ap (λ (xs : List Packet). map spelling xs) (sym (append-nil w.said))) (refl, refl, refl)
+      (step_below t.rules p (peer_of w p) call Works (length w.lost + 1) (holds.numbered.now p))
       (λ v here said. refl)
 
   said_happens : (packet : Packet) (size : ℕ) (bytes : List ℕ) → (peer_of w p).mode ≡ states.Open → Spells (take size bytes) packet
@@ -84,7 +86,8 @@ module _ (t : TableValue) (p : ℕ) (act : Act) (call : Call) (is_call : IsSayin
       (replied_can t.rules t.room w p act call (Said (Ok packet)) plays does up (ap (λ (x : Stepped). x.reply) is))
       (same_renodeed t.nodes p node at) (said_state (Said (Ok packet)) is)
       (ap (λ (xs : List (List ℕ)). xs ++ take size bytes ∷ []) holds.said
-      ∙ ap (λ (x : List ℕ). map spelling w.said ++ x ∷ []) spells.spelled ∙ sym (map-append spelling w.said (packet ∷ []))) (refl, refl)
+      ∙ ap (λ (x : List ℕ). map spelling w.said ++ x ∷ []) spells.spelled ∙ sym (map-append spelling w.said (packet ∷ []))) (refl, refl, refl)
+      (step_below t.rules p (peer_of w p) call Works (length w.lost + 1) (holds.numbered.now p))
       (λ v here said.
       let count : length t.pool ≡ length v.said - 1 =
       omega (arith, same, ap (λ (xs : List Packet). length xs) said, length-append w.said (packet ∷ [])) in

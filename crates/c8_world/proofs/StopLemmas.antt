@@ -1,8 +1,9 @@
 -- What a stop does to a table.
-use Rattle.std.proofs.Common.{◌≡◌, ◌≢◌, ℕ, ◌+◌, ◌-◌, ◌<◌, length, map, Bool, true, false, cond, Option, Some, None, Result, Ok, Err, refl}
+use Rattle.std.proofs.Common.{◌≡◌, ◌≢◌, inl, inr, ℕ, ◌+◌, ◌-◌, ◌<◌, length, map, Bool, true, false, cond, Option, Some, None, Result, Ok, Err, refl}
 use Rattle.c8_peer.specs.Runs.{never_opened}
 use Rattle.std.proofs.Common.{sym, ap, subst, ◌∙◌, arith, slice_set, slice_index_or}
 use Rattle.std.specs.Prelude.{IfOk, IfErr}
+use Rattle.std.proofs.lemmas.Bool.{cases_Bool}
 use Rattle.std.proofs.lemmas.List.{length-set, get_or-set_same, get_or-set_other}
 use Rattle.c8_game.specs.Rules.{Rules}
 use Rattle.c8_wire.specs.Spelling.{spelling}
@@ -14,11 +15,13 @@ use Rattle.c8_world.specs.declared.answer.Answer.TheVariants as answers
 use Rattle.c8_world.specs.declared.node.Node.{Node}
 use Rattle.c8_world.specs.World.{World, is_player, peer_of, with_peer, Act, Open, Tick, Say, Give, Leave, Decide, player_of}
 use Rattle.c8_world.specs.World.{Event, Do, Stop, Stopped, Happening, After, acted, crashed, MayAct, CanHappen, Check, Show, Hear, Seen}
-use Rattle.c8_world.specs.World.{Fresh}
+use Rattle.c8_world.specs.World.{Fresh, Wipe, Lost}
 use Rattle.c8_world.specs.Agreement.{IsPlayer}
-use Rattle.c8_world.specs.Table.{TableValue, IsTaken, node_of, IsSameMatch, Holds, HasHappened, HasNotHappened, HasCrashed}
+use Rattle.c8_world.specs.Table.{TableValue, IsTaken, node_of, IsSameMatch, AreNumbered, Holds, HasHappened, HasNotHappened, HasCrashed}
 use Rattle.c8_world.proofs.Openings.{plays_so}
-use Rattle.c8_world.proofs.TableLemmas.{CanDo, set_renodeed, nodeed, taken_at, no_player, reached_more}
+use Rattle.c8_world.proofs.TableLemmas.{CanDo, set_renodeed, nodeed, taken_at, no_player, reached_more, has_place}
+use Rattle.c8_world.proofs.NumberLemmas.{numbered_with, crash_below}
+use Rattle.c8_world.proofs.Called.{plays_if}
 use Rattle.c8_world.proofs.OpenedLemmas.{with_taken}
 
 -- ---- a crash
@@ -27,20 +30,20 @@ crashed_is : (rules : Rules) (w : World) (p : ℕ) (leaves b : Bool) → is_play
     → crashed rules w p leaves ≡ cond b (with_peer w p (away (peer_of w p) (found (peer_of w p) leaves) None)) w
 crashed_is rules w p leaves b is = ap (λ (x : Bool). cond x (with_peer w p (away (peer_of w p) (found (peer_of w p) leaves) None)) w) is
 
-with_peer_here : (rules : Rules) (w : World) (p : ℕ) (s : State) → length w.peers ≡ rules.players → IsPlayer rules p → peer_of (with_peer w p s) p ≡ s
+pub with_peer_here : (rules : Rules) (w : World) (p : ℕ) (s : State) → length w.peers ≡ rules.players → IsPlayer rules p → peer_of (with_peer w p s) p ≡ s
 with_peer_here rules w p s count plays =
     let from = plays.from_one in
     let to = plays.in_game in
     get_or-set_same w.peers (p - 1) s never_opened (omega (arith, from, to, count))
 
-with_peer_there : (rules : Rules) (w : World) (p : ℕ) (s : State) (q : ℕ) → IsPlayer rules p → IsPlayer rules q → q ≢ p
+pub with_peer_there : (rules : Rules) (w : World) (p : ℕ) (s : State) (q : ℕ) → IsPlayer rules p → IsPlayer rules q → q ≢ p
     → peer_of (with_peer w p s) q ≡ peer_of w q
 with_peer_there rules w p s q plays q_plays apart =
     let from = plays.from_one in
     let also = q_plays.from_one in
     get_or-set_other w.peers (p - 1) (q - 1) s never_opened (λ e. apart (omega (arith, e, from, also)))
 
-nodeed_as : (t : TableValue) (place p : ℕ) (y : Option Node) (w v : World) → place + 1 ≡ p → place < length t.nodes → Holds t w
+pub nodeed_as : (t : TableValue) (place p : ℕ) (y : Option Node) (w v : World) → place + 1 ≡ p → place < length t.nodes → Holds t w
     → IsTaken t.rules t.room p y (peer_of v p)
     → ((q : ℕ) → IsPlayer t.rules q → q ≢ p → peer_of v q ≡ peer_of w q)
     → (q : ℕ) → IsPlayer t.rules q → IsTaken t.rules t.room q (node_of (with_taken t place y) q) (peer_of v q)
@@ -65,6 +68,7 @@ crash_happens t self place p x y view at within plays here crashes =
           (nodeed_as t place p y w (with_peer w p s) at within holds
           (subst (λ (z : State). IsTaken t.rules t.room p y z) (sym (with_peer_here t.rules w p s holds.count plays)) left.1)
           (λ q q_plays apart. with_peer_there t.rules w p s q plays q_plays apart));
+      lost = refl;
       pool = refl;
       five = refl;
       six = refl;
@@ -77,10 +81,22 @@ stranger_crashes t self p view absent =
       leaves = false;
       peers = subst (λ (v : World). (q : ℕ) → IsPlayer t.rules q → IsTaken t.rules t.room q (node_of t q) (peer_of v q))
           (sym (crashed_is t.rules w p false false (no_player t.rules p absent))) holds.peers;
+      lost = refl;
       pool = refl;
       five = refl;
       six = refl;
     })
+
+numbered_crashed : (rules : Rules) (w : World) (p : ℕ) (leaves : Bool) → length w.peers ≡ rules.players → AreNumbered w
+    → AreNumbered (crashed rules w p leaves)
+numbered_crashed rules w p leaves count is = elim (cases_Bool (is_player rules p)) [
+  | inl in_game ↦
+      let s : State = away (peer_of w p) (found (peer_of w p) leaves) None in
+      subst AreNumbered (sym (crashed_is rules w p leaves true in_game))
+      (numbered_with w (with_peer w p s) p s (has_place rules w p count (plays_if rules p in_game)) refl refl
+      (crash_below (peer_of w p) leaves (length w.lost + 1) (is.now p)) is)
+  | inr absent ↦ subst AreNumbered (sym (crashed_is rules w p leaves false absent)) is
+]
 
 -- ---- an act and then a crash
 
@@ -89,7 +105,7 @@ acted_same : (rules : Rules) (room : ℕ) (w : World) (act : Act) (h : Happening
     → acted rules room w act (record h { leaves = leaves }) ≡ acted rules room w act h
 unfolding acted
 acted_same rules room w (Open p) h leaves = refl
-acted_same rules room w (Tick p keys) h leaves = refl
+acted_same rules room w (Tick p input) h leaves = refl
 acted_same rules room w (Say p to what) h leaves = refl
 acted_same rules room w (Give number p) h leaves = refl
 acted_same rules room w (Leave leaver) h leaves = refl
@@ -99,11 +115,12 @@ acted_same rules room w (Show watcher) h leaves = refl
 acted_same rules room w (Hear number watcher) h leaves = refl
 acted_same rules room w (Seen watcher) h leaves = refl
 acted_same rules room w (Fresh watcher) h leaves = refl
+acted_same rules room w (Wipe p) h leaves = refl
 
 may_same : (rules : Rules) (room : ℕ) (w : World) (act : Act) (h : Happening) (leaves : Bool) → MayAct rules room w act h
     → MayAct rules room w act (record h { leaves = leaves })
 may_same rules room w (Open p) h leaves may = may
-may_same rules room w (Tick p keys) h leaves may = may
+may_same rules room w (Tick p input) h leaves may = may
 may_same rules room w (Say p to what) h leaves may = may
 may_same rules room w (Give number p) h leaves may = may
 may_same rules room w (Leave leaver) h leaves may = may
@@ -113,6 +130,7 @@ may_same rules room w (Show watcher) h leaves may = may
 may_same rules room w (Hear number watcher) h leaves may = may
 may_same rules room w (Seen watcher) h leaves may = may
 may_same rules room w (Fresh watcher) h leaves may = may
+may_same rules room w (Wipe p) h leaves may = may
 
 crashed_if : (P : World → Type 0) (b : Bool) (x w : World) → P x → P w → P (cond b x w)
 crashed_if P true x w is was = is
@@ -149,6 +167,10 @@ stop_happens old mid new w act calls pick answer holds first last one crashes =
             ∙ one.holds.count ∙ ap (λ (r : Rules). r.players) (sym last.rules))
             (one.holds.count ∙ ap (λ (r : Rules). r.players) (sym last.rules));
         peers = rw (last.rules, last.room) (rw (sym first.rules) crash.peers);
+        lost = crash.lost ∙ one.holds.lost ∙ crashed_if (λ (x : World). map (λ (one : Lost). one.player) one.world.lost ≡ map (λ (one : Lost). one.player) x.lost)
+            (is_player old.rules p) _ one.world refl refl;
+        numbered = numbered_crashed old.rules one.world p crash.leaves (one.holds.count ∙ ap (λ (r : Rules). r.players) first.rules)
+            one.holds.numbered;
         said = crash.pool ∙ one.holds.said ∙ crashed_if (λ (x : World). map spelling one.world.said ≡ map spelling x.said)
             (is_player old.rules p) _ one.world refl refl;
         five = crash.five ∙ one.holds.five ∙ crashed_if (λ (x : World). one.world.five ≡ x.five) (is_player old.rules p) _ one.world refl refl;

@@ -27,6 +27,7 @@ use Rattle.c8_world.specs.Agreement.{IsPlayer}
 use Rattle.c8_world.specs.Nodes.{IsNode, IsPeerOf, IsCalled, IsAsked}
 use Rattle.c8_world.specs.Table.{TableValue, IsTaken, IsNotHeld, node_of, Holds, HadMemory, HasHappened, reported_reply, reported}
 use Rattle.c8_world.proofs.Openings.{plays_so}
+use Rattle.c8_world.proofs.NumberLemmas.{AreBelow, step_below, numbered_with}
 
 -- ---- one more event
 
@@ -78,19 +79,22 @@ nodeed rules room p old new node w v is each here there q plays =
 
 -- ---- one peer goes on
 
--- the watchers' rows do not change
+-- no journal is lost, and the watchers have seen the same
 abbrev pub AreSameRows : TableValue → TableValue → Type 0
-AreSameRows old new = (new.five ≡ old.five) × (new.six ≡ old.six)
+AreSameRows old new = (new.lost ≡ old.lost) × (new.five ≡ old.five) × (new.six ≡ old.six)
 
 abbrev pub placed : World → ℕ → State → List Packet → World
 placed w p s new = record w { peers = slice_set w.peers (p - 1) s; said = w.said ++ new }
 
-placed_here : (rules : Rules) (w : World) (p : ℕ) (s : State) (new : List Packet) → length w.peers ≡ rules.players → IsPlayer rules p
-    → peer_of (placed w p s new) p ≡ s
-placed_here rules w p s new count plays =
+pub has_place : (rules : Rules) (w : World) (p : ℕ) → length w.peers ≡ rules.players → IsPlayer rules p → p - 1 < length w.peers
+has_place rules w p count plays =
     let from = plays.from_one in
     let to = plays.in_game in
-    get_or-set_same w.peers (p - 1) s never_opened (omega (arith, from, to, count))
+    omega (arith, from, to, count)
+
+placed_here : (rules : Rules) (w : World) (p : ℕ) (s : State) (new : List Packet) → length w.peers ≡ rules.players → IsPlayer rules p
+    → peer_of (placed w p s new) p ≡ s
+placed_here rules w p s new count plays = get_or-set_same w.peers (p - 1) s never_opened (has_place rules w p count plays)
 
 placed_there : (rules : Rules) (w : World) (p : ℕ) (s : State) (new : List Packet) (q : ℕ) → IsPlayer rules p → IsPlayer rules q → q ≢ p
     → peer_of (placed w p s new) q ≡ peer_of w q
@@ -103,8 +107,8 @@ placed_there rules w p s new q plays q_plays apart =
 pub placed_holds : (old new : TableValue) (w : World) (p : ℕ) (s : State) (said : List Packet) (node : Node)
     → new.rules ≡ old.rules → new.room ≡ old.room → IsPlayer old.rules p → Holds old w → IsReached old.rules old.room (placed w p s said)
     → IsRenodeed old.nodes new.nodes p node → IsNode old.rules old.room p node s → new.pool ≡ map spelling (w.said ++ said)
-    → AreSameRows old new → Holds new (placed w p s said)
-placed_holds old new w p s said node rules_same room_same plays holds reached is node_is pool_is rows =
+    → AreSameRows old new → AreBelow (length w.lost + 1) s → Holds new (placed w p s said)
+placed_holds old new w p s said node rules_same room_same plays holds reached is node_is pool_is rows below =
     let v : World = placed w p s said in
     let here = placed_here old.rules w p s said holds.count plays in
     record {
@@ -115,9 +119,11 @@ placed_holds old new w p s said node rules_same room_same plays holds reached is
           (nodeed old.rules old.room p old.nodes new.nodes node w v is holds.peers
           (subst (λ (x : State). IsNode old.rules old.room p node x) (sym here) node_is)
           (λ q q_plays apart. placed_there old.rules w p s said q plays q_plays apart)));
+      lost = rows.0 ∙ holds.lost;
+      numbered = numbered_with w v p s (has_place old.rules w p holds.count plays) refl refl below holds.numbered;
       said = pool_is;
-      five = rows.0 ∙ holds.five;
-      six = rows.1 ∙ holds.six;
+      five = rows.1 ∙ holds.five;
+      six = rows.2 ∙ holds.six;
     }
 
 -- the event can happen, and no memory is refused
@@ -131,10 +137,10 @@ pub placed_happens : (old new : TableValue) (w : World) (p : ℕ) (s : State) (s
     → new.rules ≡ old.rules → new.room ≡ old.room → IsPlayer old.rules p → player_of act ≡ p → Holds old w
     → CanDo old.rules old.room w (Do act) told (placed w p s said)
     → IsRenodeed old.nodes new.nodes p node → IsNode old.rules old.room p node s
-    → new.pool ≡ map spelling (w.said ++ said) → AreSameRows old new
+    → new.pool ≡ map spelling (w.said ++ said) → AreSameRows old new → AreBelow (length w.lost + 1) s
     → ((v : World) → peer_of v p ≡ s → v.said ≡ w.said ++ said → answer ≡ reported old.rules p v told)
     → HasHappened old w (Do act) answer new
-placed_happens old new w p s said node act told answer rules_same room_same plays by holds can is node_is pool_is rows reports =
+placed_happens old new w p s said node act told answer rules_same room_same plays by holds can is node_is pool_is rows below reports =
     let v : World = placed w p s said in
     record {
       told = told;
@@ -144,7 +150,7 @@ placed_happens old new w p s said node act told answer rules_same room_same play
       reports = subst (λ (q : ℕ). answer ≡ reported old.rules q v told) (sym by)
           (reports v (placed_here old.rules w p s said holds.count plays) refl);
       holds = placed_holds old new w p s said node rules_same room_same plays holds
-          (reached_more old.rules old.room w v (Do act) told holds.reached can.0) is node_is pool_is rows;
+          (reached_more old.rules old.room w v (Do act) told holds.reached can.0) is node_is pool_is rows below;
     }
 
 -- ---- one call
@@ -157,7 +163,7 @@ pub record IsCallOf (rules : Rules) (room : ℕ) (w : World) (act : Act) (p : �
 
 -- the disk does this with a record
 abbrev pub with_outcome : DiskOutcome → Happening
-with_outcome on_disk = record { finds = false; opening = Stands; on_disk = on_disk; leaves = false }
+with_outcome on_disk = record { finds = false; drawn = 0; opening = Stands; on_disk = on_disk; leaves = false }
 
 at_open : (rules : Rules) (w : World) (p : ℕ) (call : Call) (on_disk : DiskOutcome) (mode : Mode) → mode ≡ states.Open
     → call_at_mode rules w p call on_disk mode ≡ stepped w p (step rules p (peer_of w p) call on_disk)
@@ -248,7 +254,8 @@ module _ (t : TableValue) (place p : ℕ) (node : Node) (act : Act) (call : Call
       refl refl plays is.by holds (replied_can t.rules t.room w p act call reply plays is called.0 called.1)
       (set_renodeed t.nodes place p node at within) called.2
       (holds.said ∙ ap (λ (xs : List Packet). map spelling xs)
-      (sym (append-nil w.said) ∙ ap (λ (new : List Packet). w.said ++ new) (sym quiet))) (refl, refl)
+      (sym (append-nil w.said) ∙ ap (λ (new : List Packet). w.said ++ new) (sym quiet))) (refl, refl, refl)
+      (step_below t.rules p (peer_of w p) call (disk_outcome_of reply) (length w.lost + 1) (holds.numbered.now p))
       (λ v here said. subst (λ (x : State). answer ≡ reported_reply t.rules p x (length v.said - 1) reply) (sym here) (reports (length v.said - 1)))
 
   unasked : IsCalled t.rules t.room p (peer_of w p) call None node → HasHappened t w (Do act) answers.Down (with_node t place node)
@@ -263,6 +270,8 @@ module _ (t : TableValue) (place p : ℕ) (node : Node) (act : Act) (call : Call
       count = holds.count;
       peers = nodeed t.rules t.room p t.nodes (slice_set t.nodes place (Some node)) node w w (set_renodeed t.nodes place p node at within)
           holds.peers called.1 (λ q q_plays apart. refl);
+      lost = holds.lost;
+      numbered = holds.numbered;
       said = holds.said;
       five = holds.five;
       six = holds.six;
@@ -287,6 +296,7 @@ module _ (t : TableValue) (place p : ℕ) (node : Node) (act : Act) (call : Call
   asked_as (answers.Watched result) asked = absurd asked
   asked_as (answers.Spoken posted) asked = absurd asked
   asked_as answers.Anew asked = absurd asked
+  asked_as answers.Wiped asked = absurd asked
 
 pub taken_at : (t : TableValue) (place p : ℕ) (w : World) → place + 1 ≡ p → place < length t.nodes → IsPlayer t.rules p
     → (x : Option Node) → x ≡ slice_index_or t.nodes place x → Holds t w → IsTaken t.rules t.room p x (peer_of w p)
@@ -321,9 +331,9 @@ asked_happens t self place p old new x act call answer view is at within plays h
 
 -- ---- the calls that acts are
 
-pub tick_call : (p keys : ℕ) → keys < 2 ^ 16 → (rules : Rules) (room : ℕ) (w : World) → IsCallOf rules room w (Tick p keys) p (states.Tick keys)
+pub tick_call : (p input : ℕ) → input < 2 ^ 64 → (rules : Rules) (room : ℕ) (w : World) → IsCallOf rules room w (Tick p input) p (states.Tick input)
 unfolding acted
-tick_call p keys few rules room w = record { by = refl; is = λ h. refl; may = λ h. few }
+tick_call p input few rules room w = record { by = refl; is = λ h. refl; may = λ h. few }
 
 pub leave_call : (leaver : ℕ) → (rules : Rules) (room : ℕ) (w : World) → IsCallOf rules room w (Leave leaver) 1 (states.Leave leaver)
 unfolding acted

@@ -15,9 +15,9 @@ use Rattle.c8_world.proofs.OpenedLemmas.{with_taken}
 use Rattle.c8_world.proofs.LifeLemmas.{one_more, here_split}
 
 -- an opening that was refused memory did not touch the disk
-pub opening_spared : {D : Type 0} (g : Ghosts D) (disk left : D) (rules : Rules) (room me : ℕ)
-    → IsRefusedOpening g disk rules room me opens.Memory left → left ≡ disk
-opening_spared g disk left rules room me refused = ⊎_elim (λ stranger. stranger.2) (λ player. player.1) refused
+pub opening_spared : {D : Type 0} (g : Ghosts D) (disk left : D) (rules : Rules) (room me drawn : ℕ)
+    → IsRefusedOpening g disk rules room me drawn opens.Memory left → left ≡ disk
+opening_spared g disk left rules room me drawn refused = ⊎_elim (λ stranger. stranger.2) (λ player. player.1) refused
 
 -- ---- one node of a table
 

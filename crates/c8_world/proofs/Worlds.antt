@@ -1,428 +1,92 @@
 -- A world is sound at its start, and each event keeps it sound.
-use Rattle.c8_spectator.specs.Growth.{ShowsRowsOf}
-use Rattle.c8_peer.specs.Runs.{never_opened}
 use Rattle.std.proofs.Common.{◌≡◌, ◌≢◌, ℕ, zero, suc, ◌-◌, ◌<◌, ◌^◌, ◌⊎◌, inl, inr, ⊎_elim, List, [], ◌∷◌, ◌++◌, length, Bool, true, false}
-use Rattle.std.proofs.Common.{cond, Option, Some, None, Ok, Err, refl, sym, ap, subst, ◌∙◌, arith, slice_set, slice_index_or, replicate}
-use Rattle.std.specs.Prelude.{◌==◌, nat_le, if◌then◌else◌, option_to_list}
+use Rattle.std.proofs.Common.{cond, Option, Some, None, Ok, refl, sym, ap, subst, ◌∙◌, arith, slice_set, slice_index_or, replicate}
+use Rattle.std.specs.Prelude.{◌==◌, if◌then◌else◌, option_to_list}
 use Rattle.std.specs.List.{slice_get}
-use Rattle.std.proofs.lemmas.Bool.{cases_eq, cases_lt, leb-true, both_ways, and_parts}
-use Rattle.std.proofs.lemmas.List.{append-nil, length-set, length-replicate, get_or-set_same, get_or-set_other, get_or-replicate}
+use Rattle.std.proofs.lemmas.Bool.{cases_eq, cases_lt, both_ways, eq-eqb, ne_eqb}
+use Rattle.std.proofs.lemmas.List.{append-nil, length-set, length-replicate, get_or-replicate}
 use Rattle.std.proofs.lemmas.List.{get_or_past, set-set}
 use Rattle.c8_game.specs.Rules.{Rules, AreInRange}
+use Rattle.c8_game.specs.declared.row.Row.{Row}
 use Rattle.c8_disk.specs.declared.error.DiskError.{DiskError}
-use Rattle.c8_wire.specs.Packet.{Packet, Message, ShowMessage}
+use Rattle.c8_wire.specs.declared.kinds.DatagramKind.TheVariants as kinds
+use Rattle.c8_game.specs.declared.wire.WireVersion.{WireVersion}
+use Rattle.c8_game.specs.declared.wire.WireVersion.TheVariants as versions
+use Rattle.c8_wire.specs.Format.{has_lives}
+use Rattle.c8_wire.specs.Kinds.{shape_of, is_in, has_news}
+use Rattle.c8_wire.specs.Seats.{is_watcher}
+use Rattle.c8_wire.specs.Packet.{Packet, Message, ShowMessage, AreNews, kind_of, IsPacket}
 use Rattle.c8_wire.specs.Packet as packets
+use Rattle.c8_hand.specs.Lives.{LivesValue}
 use Rattle.c8_hand.specs.Links.{LinkValue, link_to, no_links}
-use Rattle.c8_known.specs.Journal.{Record, Freeze, held, cut_of, epoch}
+use Rattle.c8_known.specs.Journal.{Record, Freeze, epoch, life_of, match_of}
+use Rattle.c8_known.specs.Journal as records
 use Rattle.c8_known.specs.Known.{known_of, KnownValue}
-use Rattle.c8_known.specs.Growth.{Begins, Stands as StandsIn, IsStillKnown}
-use Rattle.c8_known.specs.checked.BeginsLaws.{begins_same, begins_more, begins_get, begins_append, begins_length}
+use Rattle.c8_known.specs.Confirmed.{confirmed, confirmed_rows, row}
+use Rattle.c8_known.specs.Growth.{Begins, Stands as StandsIn}
+use Rattle.c8_known.specs.checked.BeginsLaws.{begins_none, begins_length}
+use Rattle.c8_known.specs.checked.JournalLaws.{match_next}
 use Rattle.c8_round.specs.Round.{report_of, no_reports}
 use Rattle.c8_record.specs.Allowed.{IsAllowed, IsJournal}
-use Rattle.c8_record.specs.checked.JournalLaws.{journal_none, journal_grows}
+use Rattle.c8_peer.specs.Runs.{never_opened}
 use Rattle.c8_peer.specs.State as states
-use Rattle.c8_peer.specs.State.{Memory, Mode, Down, Away, State, Call, Reply, Opened, Ticked, Delivered, Said, Left, Decided, Outcome}
-use Rattle.c8_peer.specs.State.{fresh_memory, Checked}
-use Rattle.c8_peer.specs.Steps.{outcome, DiskOutcome, Works, Refuses, refused_by_disk, Stepped, done, at_mode, step}
+use Rattle.c8_peer.specs.State.{Mode, Down, Away, State, Deliver}
+use Rattle.c8_peer.specs.State.{fresh_memory, lives_of as lives_known}
+use Rattle.c8_peer.specs.Steps.{outcome, DiskOutcome, Stepped, step}
 use Rattle.c8_peer.specs.Opening.{last_epoch, Opening, NoPlayer, Stands, NotWritten, NoMemory, NotRead, Unfit, Spent, found, opening_record}
-use Rattle.c8_peer.specs.Opening.{away, opened, MayBecome}
-use Rattle.c8_peer.specs.Lawful.{IsMemory, IsCall}
-use Rattle.c8_peer.specs.Truth.{IsTrue, IsTrueMessage}
+use Rattle.c8_peer.specs.Opening.{away, opened, MayBecome, life_drawn}
+use Rattle.c8_peer.specs.Lawful.{IsMemory}
+use Rattle.c8_peer.specs.Truth.{IsTrueMessage, IsTrue}
 use Rattle.c8_peer.specs.TrueChecks.{HasTrueChecks}
-use Rattle.c8_peer.specs.checked.TrueCheckLaws.{none_true}
-use Rattle.c8_peer.specs.Told.{told_of}
-use Rattle.c8_peer.specs.checked.TruthLaws.{truth_stays}
-use Rattle.c8_world.specs.checked.Below.{ArePeersLawful}
-use Rattle.c8_world.specs.World.{World, start, is_player, peer_of, journal_of, with_peer, Act, Open, Tick, Say, Give, Leave}
-use Rattle.c8_world.specs.World.{Decide, Event, Do, Stop, player_of, Happening, Answer, After, said_by, stepped, call_at_mode, call_at}
-use Rattle.c8_world.specs.World.{open_at_mode, give_to, acted, crashed, after, MayAct, act_inside, CanHappen, Chain, Check, known_by}
-use Rattle.c8_world.specs.World.{rows_of, with_rows, hear_at, seen_by_watcher, Show, Hear, Seen, Fresh, watch_of}
-use Rattle.c8_world.specs.Agreement.{IsPlayer, IsAmong}
-use Rattle.c8_world.proofs.Journals.{AreSound, MayAdd, Fits, Grown, HasMore, player_one, more_grown, frozen_grown, sound_more, fits_later}
-use Rattle.c8_world.proofs.Records.{fits_head, fits_epoch}
-use Rattle.c8_world.proofs.Events.{AreNamed, IsAwake, IsSaid, IsWorldly, good_call, IsTold}
-use Rattle.c8_wire.specs.Seats.{is_watcher}
-use Rattle.c8_known.specs.Confirmed.{confirmed, confirmed_rows, row}
-use Rattle.c8_known.specs.checked.ConfirmedLaws.{confirmed_rises, rows_stay}
-use Rattle.c8_game.specs.declared.row.Row.{Row}
 use Rattle.c8_peer.specs.Hearing.{seen_in}
-use Rattle.c8_spectator.specs.checked.WatchLaws.{truth_heard}
 use Rattle.c8_peer.specs.checked.BoundLaws.{session_low, confirmed_frames}
-use Rattle.std.proofs.lemmas.List.FromFn.{length-map-range_with_len}
-
--- ---- the invariant of a world
-
--- a pending record fits, and its peer is not open; the memory of a peer is sound unless the peer is away
-pub record IsSoundPeer (rules : Rules) (room : ℕ) (J : ℕ → List Record) (said : List Packet) (p : ℕ) (s : State) : Type 0 where
-  pub pending : (r : Record) → s.pending ≡ Some r → (s.mode ≢ states.Open) × Fits rules room J p r
-  pub awake : s.mode ≢ Away → IsAwake rules room J said p s.memory
-
-pub record IsSound (rules : Rules) (room : ℕ) (w : World) : Type 0 where
-  pub nodes : length w.peers ≡ rules.players
-  pub journals : AreSound rules room (journal_of w)
-  pub said : (packet : Packet) → IsAmong w.said packet → IsSaid rules (journal_of w) packet
-  pub peers : (p : ℕ) → IsPlayer rules p → IsSoundPeer rules room (journal_of w) w.said p (peer_of w p)
-  pub watched : (watcher : ℕ) → Begins (rows_of w watcher) (confirmed_rows (known_by rules w 1))
-
--- a later world is sound, and its journals and sent datagrams continue the earlier ones
-pub record Reaches (rules : Rules) (room : ℕ) (w v : World) : Type 0 where
-  pub sound : IsSound rules room v
-  pub grown : Grown rules (journal_of w) (journal_of v)
-
--- ---- journals that are equal
-
-same_grown : (rules : Rules) (J J' : ℕ → List Record) → ((q : ℕ) → IsPlayer rules q → J' q ≡ J q) → Grown rules J J'
-same_grown rules J J' same q plays = rw (same q plays) (begins_same (J q))
-
-sound_same : (rules : Rules) (room : ℕ) (J J' : ℕ → List Record) → AreInRange rules → AreSound rules room J
-    → ((q : ℕ) → IsPlayer rules q → J' q ≡ J q) → AreSound rules room J'
-sound_same rules room J J' range sound same =
-    let one = same 1 (player_one rules range) in
-    record {
-      valid = λ p plays. rw (same p plays) (sound.valid p plays);
-      begins = λ p q plays q_plays. rw (same p plays, same q q_plays) (sound.begins p q plays q_plays);
-      cuts = λ p L K plays. rw (same p plays, one) (sound.cuts p L K plays);
-      decided = λ L K s is plays. rw (one, same s plays)
-          (sound.decided L K s (subst (λ (journal : List Record). cut_of L journal ≡ Some K) one is) plays);
-      frozen = λ s L before rest plays. rw (same s plays, one) (sound.frozen s L before rest plays);
-      checks = λ p plays. rw (same p plays) (sound.checks p plays);
-    }
-
--- ---- what stays while journals grow
-
-among_more : (said new : List Packet) (packet : Packet) → IsAmong said packet → IsAmong (said ++ new) packet
-among_more said new packet among = (among.0, begins_get said (said ++ new) among.0 packet (begins_append said new) among.1)
-
-named_more : (said new : List Packet) (p : ℕ) (m : Memory) → AreNamed said p m.links → AreNamed (said ++ new) p m.links
-named_more said new p m named q is =
-    let n = named q is in
-    record {
-      packet = n.packet;
-      among = among_more said new n.packet n.among;
-      from = n.from;
-      to = n.to;
-      sender_epoch = n.sender_epoch;
-      addressee_epoch = n.addressee_epoch;
-    }
-
-awake_later : (rules : Rules) (room : ℕ) (J J' : ℕ → List Record) (said new : List Packet) (p : ℕ) (m : Memory) → Grown rules J J'
-    → IsMemory rules room p (J' p) m → IsAwake rules room J said p m → IsAwake rules room J' (said ++ new) p m
-awake_later rules room J J' said new p m grown lawful awake = record {
-  lawful = lawful;
-  chair = λ first L s n s_plays told. frozen_grown rules L n (J s) (J' s) (grown s s_plays) (awake.chair first L s n s_plays told);
-  links = named_more said new p m awake.links;
-}
-
--- what player 1 counts as confirmed stays confirmed
-still_known : (rules : Rules) (room : ℕ) (J J' : ℕ → List Record) → AreInRange rules → AreSound rules room J' → Grown rules J J'
-    → IsStillKnown (known_of rules 1 (J 1)) (known_of rules 1 (J' 1))
-still_known rules room J J' range sound grown =
-    let one = player_one rules range in
-    let begins : Begins (J 1) (J' 1) = grown 1 one in
-    let valid : IsJournal rules 1 room (J 1 ++ begins.rest) =
-    subst (λ (journal : List Record). IsJournal rules 1 room journal) begins.is (sound.valid 1 one) in
-    subst (λ (journal : List Record). IsStillKnown (known_of rules 1 (J 1)) (known_of rules 1 journal)) (sym begins.is)
-    (journal_grows rules 1 room (J 1) begins.rest range one.from_one one.in_game valid)
-
-told_later : (rules : Rules) (room : ℕ) (J J' : ℕ → List Record) (packet : Packet) (heard : Option ℕ) → AreInRange rules
-    → AreSound rules room J' → Grown rules J J' → IsTold rules J packet heard → IsTold rules J' packet heard
-told_later rules room J J' packet None range sound grown is =
-    let q : ℕ = packet.head.from in
-    let begins : Begins (J q) (J' q) = grown q is.0 in
-    let valid : IsJournal rules q room (J q ++ begins.rest) =
-    subst (λ (journal : List Record). IsJournal rules q room journal) begins.is (sound.valid q is.0) in (
-      is.0,
-      subst (λ (journal : List Record). IsTrue rules q journal packet) (sym begins.is)
-          (truth_stays rules q room (J q) begins.rest packet range is.0.from_one is.0.in_game valid is.1),
-    )
-told_later rules room J J' packet (Some rows) range sound grown is =
-    omega (arith, is, confirmed_rises (known_of rules 1 (J 1)) (known_of rules 1 (J' 1)) (still_known rules room J J' range sound grown))
-
-rows_later : (rules : Rules) (room : ℕ) (J J' : ℕ → List Record) (rows : List Row) → AreInRange rules → AreSound rules room J'
-    → Grown rules J J' → Begins rows (confirmed_rows (known_of rules 1 (J 1))) → Begins rows (confirmed_rows (known_of rules 1 (J' 1)))
-rows_later rules room J J' rows range sound grown begins =
-    begins_more rows (confirmed_rows (known_of rules 1 (J 1))) (confirmed_rows (known_of rules 1 (J' 1))) begins
-    (rows_stay (known_of rules 1 (J 1)) (known_of rules 1 (J' 1)) (still_known rules room J J' range sound grown))
-
-said_later : (rules : Rules) (room : ℕ) (J J' : ℕ → List Record) (packet : Packet) → AreInRange rules → AreSound rules room J'
-    → Grown rules J J' → IsSaid rules J packet → IsSaid rules J' packet
-said_later rules room J J' packet range sound grown is =
-    record { told = told_later rules room J J' packet (seen_in packet.message) range sound grown is.told; spelled = is.spelled }
-
--- ---- one peer changes, and more datagrams are sent
-
-abbrev pub placed : World → ℕ → State → List Packet → World
-placed w p s new = record w { peers = slice_set w.peers (p - 1) s; said = w.said ++ new }
-
-pub peer_here : (rules : Rules) (w : World) (p : ℕ) (s : State) (new : List Packet) → length w.peers ≡ rules.players → IsPlayer rules p
-    → peer_of (placed w p s new) p ≡ s
-peer_here rules w p s new nodes plays =
-    let from = plays.from_one in
-    let to = plays.in_game in
-    get_or-set_same w.peers (p - 1) s never_opened (omega (arith, from, to, nodes))
-
-pub peer_there : (rules : Rules) (w : World) (p : ℕ) (s : State) (new : List Packet) (q : ℕ) → IsPlayer rules p → IsPlayer rules q → q ≢ p
-    → peer_of (placed w p s new) q ≡ peer_of w q
-peer_there rules w p s new q plays q_plays apart =
-    let from = plays.from_one in
-    let also = q_plays.from_one in
-    get_or-set_other w.peers (p - 1) (q - 1) s never_opened (λ e. apart (omega (arith, e, from, also)))
-
--- an item of two joined lists
-among_split : (said new : List Packet) (packet : Packet) → IsAmong (said ++ new) packet → IsAmong said packet ⊎ IsAmong new packet
-among_split [] new packet among = inr among
-among_split (x ∷ said) new packet (zero, e) = inl (zero, e)
-among_split (x ∷ said) new packet (suc n, e) = ⊎_elim (λ early. inl (suc early.0, early.1)) (λ late. inr late) (among_split said new packet (n, e))
-
--- A change of one peer keeps all sound, if its journal stays or grows and the others' do not change.
-placed_by : (rules : Rules) (room : ℕ) (w : World) (p : ℕ) (s : State) (new : List Packet) → AreInRange rules → IsSound rules room w
-    → IsPlayer rules p
-    → AreSound rules room (journal_of (placed w p s new)) → Grown rules (journal_of w) (journal_of (placed w p s new))
-    → IsSoundPeer rules room (journal_of (placed w p s new)) (w.said ++ new) p s
-    → ((packet : Packet) → IsAmong new packet → IsSaid rules (journal_of (placed w p s new)) packet)
-    → Reaches rules room w (placed w p s new)
-placed_by rules room w p s new range sound plays journals grown peer news =
-    let v : World = placed w p s new in
-    record {
-      sound = record {
-        nodes = length-set w.peers (p - 1) s ∙ sound.nodes;
-        journals = journals;
-        said = λ packet among. ⊎_elim
-            (λ old. said_later rules room (journal_of w) (journal_of v) packet range journals grown (sound.said packet old))
-            (λ now. news packet now)
-            (among_split w.said new packet among);
-        peers = λ q q_plays. elim (cases_eq q p) [
-          | inl same ↦ subst (λ (x : ℕ). IsSoundPeer rules room (journal_of v) v.said x (peer_of v x)) (sym same)
-              (subst (λ (t : State). IsSoundPeer rules room (journal_of v) v.said p t) (sym (peer_here rules w p s new sound.nodes plays)) peer)
-          | inr apart ↦
-              let there : peer_of v q ≡ peer_of w q = peer_there rules w p s new q plays q_plays apart in
-              let was = sound.peers q q_plays in
-              subst (λ (t : State). IsSoundPeer rules room (journal_of v) v.said q t) (sym there) (record {
-                pending = λ r e. let fits = was.pending r e in
-                    (fits.0, fits_later rules room (journal_of w) (journal_of v) q r range fits.1 (ap (λ (t : State). t.journal) there) grown);
-                awake = λ up.
-                    let lawful = subst (λ (t : State). IsMemory rules room q t.journal (peer_of w q).memory) (sym there) (was.awake up).lawful in
-                    awake_later rules room (journal_of w) (journal_of v) w.said new q (peer_of w q).memory grown lawful (was.awake up);
-              })
-        ];
-        watched = λ watcher. rows_later rules room (journal_of w) (journal_of v) (rows_of w watcher) range journals grown (sound.watched watcher);
-      };
-      grown = grown;
-    }
-
--- the journals of a world after one peer changed
-journal_there : (rules : Rules) (w : World) (p : ℕ) (s : State) (new : List Packet) (q : ℕ) → IsPlayer rules p → IsPlayer rules q → q ≢ p
-    → journal_of (placed w p s new) q ≡ journal_of w q
-journal_there rules w p s new q plays q_plays apart = ap (λ (t : State). t.journal) (peer_there rules w p s new q plays q_plays apart)
-
-journal_here : (rules : Rules) (w : World) (p : ℕ) (s : State) (new : List Packet) → length w.peers ≡ rules.players → IsPlayer rules p
-    → journal_of (placed w p s new) p ≡ s.journal
-journal_here rules w p s new nodes plays = ap (λ (t : State). t.journal) (peer_here rules w p s new nodes plays)
-
--- the journal does not change
-placed_same : (rules : Rules) (room : ℕ) (w : World) (p : ℕ) (s : State) (new : List Packet) → AreInRange rules → IsSound rules room w
-    → IsPlayer rules p → s.journal ≡ journal_of w p
-    → IsSoundPeer rules room (journal_of w) w.said p s → ((packet : Packet) → IsAmong new packet → IsSaid rules (journal_of w) packet)
-    → Reaches rules room w (placed w p s new)
-placed_same rules room w p s new range sound plays stays peer news =
-    let v : World = placed w p s new in
-    let same : (q : ℕ) → IsPlayer rules q → journal_of v q ≡ journal_of w q = λ q q_plays. elim (cases_eq q p) [
-      | inl here ↦ ap (journal_of v) here ∙ journal_here rules w p s new sound.nodes plays ∙ stays ∙ ap (journal_of w) (sym here)
-      | inr apart ↦ journal_there rules w p s new q plays q_plays apart
-    ] in
-    let journals = sound_same rules room (journal_of w) (journal_of v) range sound.journals same in
-    let grown = same_grown rules (journal_of w) (journal_of v) same in
-    placed_by rules room w p s new range sound plays journals grown
-    (record {
-      pending = λ r e. let fits = peer.pending r e in
-          (fits.0, fits_later rules room (journal_of w) (journal_of v) p r range fits.1 (same p plays) grown);
-      awake = λ up.
-          let lawful = subst (λ (journal : List Record). IsMemory rules room p journal s.memory) (sym (same p plays)) (peer.awake up).lawful in
-          awake_later rules room (journal_of w) (journal_of v) w.said new p s.memory grown lawful (peer.awake up);
-    })
-    (λ packet among. said_later rules room (journal_of w) (journal_of v) packet range journals grown (news packet among))
-
--- the journal has one more record, which fits
-placed_more : (rules : Rules) (room : ℕ) (w : World) (p : ℕ) (s : State) (new : List Packet) (r : Record) → AreInRange rules
-    → IsSound rules room w → IsPlayer rules p → s.journal ≡ journal_of w p ++ r ∷ []
-    → Fits rules room (journal_of w) p r → s.pending ≡ None
-    → (AreSound rules room (journal_of (placed w p s new)) → Grown rules (journal_of w) (journal_of (placed w p s new)) → s.mode ≢ Away
-    → IsAwake rules room (journal_of (placed w p s new)) (w.said ++ new) p s.memory)
-    → ((packet : Packet) → IsAmong new packet → IsSaid rules (journal_of w) packet) → Reaches rules room w (placed w p s new)
-placed_more rules room w p s new r range sound plays longer fits settled awake news =
-    let v : World = placed w p s new in
-    let more : HasMore rules (journal_of w) (journal_of v) p r = record {
-      here = journal_here rules w p s new sound.nodes plays ∙ longer;
-      there = λ q q_plays apart. journal_there rules w p s new q plays q_plays apart;
-    } in
-    let journals = sound_more rules room (journal_of w) (journal_of v) p r range sound.journals plays fits more in
-    let grown = more_grown rules (journal_of w) (journal_of v) p r more in
-    placed_by rules room w p s new range sound plays journals grown
-    (record {
-      pending = λ t e. absurd (cc (settled, e));
-      awake = λ up. awake journals grown up;
-    })
-    (λ packet among. said_later rules room (journal_of w) (journal_of v) packet range journals grown (news packet among))
-
--- ---- a call of an open peer
-
--- the datagram that a reply sends
-said_is : (reply : Reply) (packet : Packet) → IsAmong (said_by reply) packet → reply ≡ Said (Ok packet)
-said_is (Opened result) packet (n, e) = absurd cc
-said_is (Ticked result) packet (n, e) = absurd cc
-said_is (Delivered result) packet (n, e) = absurd cc
-said_is (Said (Ok told)) packet (zero, e) = let same : told ≡ packet = cc in ap (λ (x : Packet). Said (Ok x)) same
-said_is (Said (Ok told)) packet (suc n, e) = absurd cc
-said_is (Said (Err error)) packet (n, e) = absurd cc
-said_is (Left result) packet (n, e) = absurd cc
-said_is (Decided result) packet (n, e) = absurd cc
-said_is (Checked result) packet (n, e) = absurd cc
-
-none_by_disk : (call : Call) (why : DiskError) → said_by (refused_by_disk call why) ≡ []
-none_by_disk (states.Tick keys) why = refl
-none_by_disk (states.Deliver told) why = refl
-none_by_disk (states.Say to what) why = refl
-none_by_disk (states.Show watcher) why = refl
-none_by_disk (states.Leave leaver) why = refl
-none_by_disk (states.Decide leaver) why = refl
-none_by_disk states.Checkpoint why = refl
-
--- all that must hold after a call of an open peer
-record Owes (rules : Rules) (room : ℕ) (w : World) (p : ℕ) (o : Outcome) : Type 0 where
-  fits : (r : Record) → o.keeps ≡ Some r → Fits rules room (journal_of w) p r
-  awake : IsAwake rules room (journal_of w) w.said p o.memory
-  grows : (r : Record) → o.keeps ≡ Some r → IsMemory rules room p (journal_of w p ++ r ∷ []) o.memory
-  says : (packet : Packet) → IsAmong (said_by o.reply) packet → IsSaid rules (journal_of w) packet
-
--- a datagram that is true by a player's journal is not a SEEN
-no_seen : (rules : Rules) (me to : ℕ) (journal : List Record) (message : Message) → IsTrueMessage rules me to journal message → seen_in message ≡ None
-no_seen rules me to journal packets.Hello is = refl
-no_seen rules me to journal (packets.Welcome ack) is = refl
-no_seen rules me to journal (packets.Data d) is = refl
-no_seen rules me to journal (packets.Freeze f) is = refl
-no_seen rules me to journal (packets.Frozen f) is = refl
-no_seen rules me to journal (packets.Cut c) is = refl
-no_seen rules me to journal (packets.Show m) is = refl
-no_seen rules me to journal (packets.Seen ack) is = absurd is
-
-told_by_player : (rules : Rules) (J : ℕ → List Record) (packet : Packet) (p : ℕ) → IsPlayer rules p → p ≡ packet.head.from
-    → IsTrue rules p (J p) packet → IsTold rules J packet (seen_in packet.message)
-told_by_player rules J packet p plays whose is_true =
-    subst (λ (heard : Option ℕ). IsTold rules J packet heard) (sym (no_seen rules p packet.head.to (J p) packet.message is_true.message))
-    (subst (λ (q : ℕ). IsPlayer rules q) whose plays, subst (λ (q : ℕ). IsTrue rules q (J q) packet) whose is_true)
-
-call_owes : (laws : ArePeersLawful) (rules : Rules) (room : ℕ) (w : World) (p : ℕ) (call : Call) → AreInRange rules → IsSound rules room w
-    → IsPlayer rules p → (peer_of w p).mode ≡ states.Open → IsCall call → IsWorldly rules (journal_of w) w.said call
-    → Owes rules room w p (outcome rules (told_of rules p (journal_of w p)) (known_of rules p (journal_of w p)) (peer_of w p).memory call)
-call_owes laws rules room w p call range sound plays up is_call worldly =
-    let m : Memory = (peer_of w p).memory in
-    let J : ℕ → List Record = journal_of w in
-    let awake : IsAwake rules room J w.said p m = (sound.peers p plays).awake (λ e. absurd (cc (up, e))) in
-    let valid = sound.journals.valid p plays in
-    let from = plays.from_one in
-    let to = plays.in_game in
-    let good = good_call laws rules room J w.said p m call sound.journals plays awake worldly in
-    record {
-      fits = λ r e. good.keeps r e (record {
-        allowed = laws.keeps_allowed rules p room (J p) m call r range from to valid awake.lawful is_call e;
-        checks = laws.keeps_true rules p room (J p) m call r range from to valid awake.lawful is_call (sound.journals.checks p plays) e;
-      });
-      awake = record {
-        lawful = laws.memory_kept rules p room (J p) m call range from to valid awake.lawful is_call;
-        chair = good.chair;
-        links = good.links;
-      };
-      grows = λ r e. laws.memory_grows rules p room (J p) m call r range from to valid awake.lawful is_call e;
-      says = λ packet among.
-          let e = said_is (outcome rules (told_of rules p (J p)) (known_of rules p (J p)) m call).reply packet among in
-          let is_true = laws.said_true rules p room (J p) m call packet range from to valid awake.lawful is_call
-          (λ carries. sound.journals.checks p plays) e in
-          let whose : p ≡ packet.head.from = sym is_true.from in
-          record {
-            told = told_by_player rules J packet p plays whose is_true;
-            spelled = laws.said_spelled rules p room (J p) m call packet range from to valid awake.lawful is_call e;
-          };
-    }
-
--- an open peer has no pending record
-none_or_not : (o : Option Record) → ((r : Record) → o ≡ Some r → ⊥) → o ≡ None
-none_or_not None never = refl
-none_or_not (Some r) never = absurd (never r refl)
-
-settled_up : (rules : Rules) (room : ℕ) (w : World) (p : ℕ) → IsSound rules room w → IsPlayer rules p → (peer_of w p).mode ≡ states.Open
-    → (peer_of w p).pending ≡ None
-settled_up rules room w p sound plays up = none_or_not (peer_of w p).pending (λ r e. ((sound.peers p plays).pending r e).0 up)
-
-no_item : (packet : Packet) → IsAmong [] packet → ⊥
-no_item packet (n, e) = cc e
-
-done_sound : (rules : Rules) (room : ℕ) (w : World) (p : ℕ) (call : Call) (o : Outcome) (kept : Option Record) (on_disk : DiskOutcome)
-    → AreInRange rules → IsSound rules room w → IsPlayer rules p → (peer_of w p).mode ≡ states.Open
-    → Owes rules room w p o → o.keeps ≡ kept → Reaches rules room w (stepped w p (done (peer_of w p) call o kept on_disk)).world
-done_sound rules room w p call o None on_disk range sound plays up owes e =
-    placed_same rules room w p (record (peer_of w p) { memory = o.memory }) (said_by o.reply) range sound plays refl
-    (record { pending = (sound.peers p plays).pending; awake = λ mode. owes.awake })
-    owes.says
-done_sound rules room w p call o (Some r) Works range sound plays up owes e =
-    let s : State = record (peer_of w p) { journal = journal_of w p ++ r ∷ []; memory = o.memory } in
-    placed_more rules room w p s (said_by o.reply) r range sound plays refl (owes.fits r e) (settled_up rules room w p sound plays up)
-    (λ journals grown mode.
-    let here = journal_here rules w p s (said_by o.reply) sound.nodes plays in
-    awake_later rules room (journal_of w) (journal_of (placed w p s (said_by o.reply))) w.said (said_by o.reply) p o.memory grown
-    (subst (λ (journal : List Record). IsMemory rules room p journal o.memory) (sym here) (owes.grows r e)) owes.awake)
-    owes.says
-done_sound rules room w p call o (Some r) (Refuses why) range sound plays up owes e =
-    let s : State = record (peer_of w p) { pending = Some r; mode = Down } in
-    placed_same rules room w p s (said_by (refused_by_disk call why)) range sound plays refl
-    (record {
-      pending = λ t is. (λ mode. absurd cc, let same : r ≡ t = cc in subst (λ (x : Record). Fits rules room (journal_of w) p x) same (owes.fits r e));
-      awake = λ mode. (sound.peers p plays).awake (λ gone. absurd (cc (up, gone)));
-    })
-    (λ packet among. absurd (no_item packet (subst (λ (all : List Packet). IsAmong all packet) (none_by_disk call why) among)))
-
--- an event that does not change the world
-pub stays_as : (rules : Rules) (room : ℕ) (w : World) → IsSound rules room w → Reaches rules room w w
-stays_as rules room w sound = record { sound = sound; grown = λ q plays. begins_same (journal_of w q) }
-
-mode_sound : (laws : ArePeersLawful) (rules : Rules) (room : ℕ) (w : World) (p : ℕ) (call : Call) (on_disk : DiskOutcome) (mode : Mode)
-    → AreInRange rules → IsSound rules room w → IsPlayer rules p → (peer_of w p).mode ≡ mode → IsCall call
-    → IsWorldly rules (journal_of w) w.said call
-    → Reaches rules room w (call_at_mode rules w p call on_disk mode).world
-mode_sound laws rules room w p call on_disk states.Open range sound plays up is_call worldly =
-    let o : Outcome = outcome rules (told_of rules p (journal_of w p)) (known_of rules p (journal_of w p)) (peer_of w p).memory call in
-    let at : step rules p (peer_of w p) call on_disk ≡ done (peer_of w p) call o o.keeps on_disk =
-    ap (λ (mode : Mode). at_mode (peer_of w p) call o mode on_disk) up in
-    subst (λ (t : Stepped). Reaches rules room w (stepped w p t).world) (sym at)
-    (done_sound rules room w p call o o.keeps on_disk range sound plays up
-    (call_owes laws rules room w p call range sound plays up is_call worldly) refl)
-mode_sound laws rules room w p call on_disk Down range sound plays up is_call worldly = stays_as rules room w sound
-mode_sound laws rules room w p call on_disk Away range sound plays up is_call worldly = stays_as rules room w sound
-
-pub plays_if : (rules : Rules) (p : ℕ) → is_player rules p ≡ true → IsPlayer rules p
-plays_if rules p is =
-    let tests = and_parts (nat_le 1 p) (nat_le p rules.players) is in
-    record { from_one = leb-true 1 p tests.0; in_game = leb-true p rules.players tests.1 }
-
--- a test decides which world it is
-world_if : (P : World → Type 0) (b : Bool) (x y : World) → (b ≡ true → P x) → P y → P (cond b x y)
-world_if P true x y when unless = when refl
-world_if P false x y when unless = unless
+use Rattle.c8_spectator.specs.Growth.{ShowsRowsOf}
+use Rattle.c8_spectator.specs.declared.error.WatchError.{WatchError}
+use Rattle.c8_spectator.specs.Watching.{WatchValue, match_after, taken_of, fresh_rows, unless_refused, refusal, hear}
+use Rattle.c8_spectator.specs.checked.WatchLaws.{truths_heard}
+use Rattle.c8_world.specs.checked.Below.{ArePeersLawful}
+use Rattle.c8_world.specs.World.{World, Sight, no_sight, start, is_player, peer_of, journal_of, with_peer, Act, Open, Tick, Say, Give, Leave}
+use Rattle.c8_world.specs.World.{Decide, Event, Do, Stop, player_of, Happening, Answer, After, said_by, stepped}
+use Rattle.c8_world.specs.World.{open_at_mode, give_to, acted, crashed, after, MayAct, act_inside, CanHappen, Chain, Check, known_by, IsNewLife}
+use Rattle.c8_world.specs.World.{sight_of, rows_of, with_sight, sight_in, hear_at, seen_by_watcher, Show, Hear, Seen, Fresh, Wipe, watch_of, wiped, wipe_at}
+use Rattle.c8_world.specs.World.{IsLost, Lost}
+use Rattle.c8_world.specs.Lives.{in_match, sight_of_match, states_in}
+use Rattle.c8_world.specs.Agreement.{IsPlayer, IsAmong}
+use Rattle.c8_world.proofs.Journals.{AreSound, MayAdd, Fits, player_one, sound_same}
+use Rattle.c8_world.proofs.Records.{fits_head, fits_epoch}
+use Rattle.c8_world.proofs.EachMatch.{FitsLives, of_match, match_has, match_none, at_one, lost_or_new, pick_first, pick_second}
+use Rattle.c8_world.proofs.InMatch.{lives_of, match_journal}
+use Rattle.c8_world.proofs.LivesLost.{no_lives, none_sound, none_of_match, lives_same}
+use Rattle.c8_world.proofs.WorldLives.{journals, FitsIn, AreLaterIn, each_sound, lives_valid, early_journal, same_in, wiped_in, true_or_false}
+use Rattle.c8_world.proofs.FitsWorld.{lives_bound, lives_unbound, lives_begun}
+use Rattle.c8_world.proofs.Placed.{have_lives, IsUp, IsSoundPeer, IsToldIn, IsSpoken, FitsSight, IsSound, Reaches, world_by, same_rows}
+use Rattle.c8_world.proofs.Placed.{spoken_later, rows_later, peer_later, among_split, placed, peer_here, peer_there, journal_here, placed_same}
+use Rattle.c8_world.proofs.Placed.{placed_more, stays_as, reaches_more}
+use Rattle.c8_world.proofs.Called.{early_unmatched, begun_by, own_journal, own_checks, no_item, if_player, plays_if, call_sound}
 
 link_if : (P : LinkValue → Type 0) (b : Bool) (x y : LinkValue) → P x → P y → P (cond b x y)
 link_if P true x y one other = one
 link_if P false x y one other = other
 
-if_player : (P : After → Type 0) (b : Bool) (x y : After) → (b ≡ true → P x) → P y → P (cond b x y)
-if_player P true x y when unless = when refl
-if_player P false x y when unless = unless
+same_either : (b : Bool) (n : ℕ) → cond b n n ≡ n
+same_either true n = refl
+same_either false n = refl
 
-call_sound : (laws : ArePeersLawful) (rules : Rules) (room : ℕ) (w : World) (p : ℕ) (call : Call) (on_disk : DiskOutcome) → AreInRange rules
-    → IsSound rules room w → IsCall call → IsWorldly rules (journal_of w) w.said call
-    → Reaches rules room w (call_at rules w p call on_disk).world
-call_sound laws rules room w p call on_disk range sound is_call worldly =
-    if_player (λ (a : After). Reaches rules room w a.world) (is_player rules p) _ _
-    (λ is. mode_sound laws rules room w p call on_disk (peer_of w p).mode range sound (plays_if rules p is) refl is_call worldly)
-    (stays_as rules room w sound)
+kept_of : (n : ℕ) → records.first_of n 0 ≡ n
+kept_of n = elim (cases_eq n 0) [
+  | inl none ↦ pick_first (n == 0) 0 n (eq-eqb n 0 none) ∙ sym none
+  | inr some ↦ pick_second (n == 0) 0 n (ne_eqb n 0 some)
+]
+
+-- a HEAD of another player than player 1 names no match
+opened_none : (p life : ℕ) → p ≢ 1 → records.first_of (match_of p []) (if p == 1 then life else 0) ≡ match_of p []
+opened_none p life elsewhere =
+    ap (λ (n : ℕ). records.first_of (match_of p []) n) (pick_second (p == 1) life 0 (ne_eqb p 1 elsewhere)) ∙ kept_of (match_of p [])
+
+-- a HEAD of version 3 has the life that was drawn
+life_begun : (rules : Rules) (room p drawn : ℕ) → has_lives rules.wire ≡ true → life_of ([] ++ opening_record rules room p drawn [] ∷ []) ≡ drawn
+unfolding records.first_in
+life_begun rules room p drawn is = kept_of (life_drawn rules drawn) ∙ pick_first (has_lives rules.wire) drawn 0 is
 
 -- ---- what a read finds
 
@@ -439,7 +103,7 @@ found_sound rules room w p true None range sound plays e =
 found_sound rules room w p true (Some r) range sound plays e =
     placed_more rules room w p (away (peer_of w p) (journal_of w p ++ r ∷ []) None) [] r range sound plays refl
     ((sound.peers p plays).pending r e).1 refl
-    (λ journals grown mode. absurd (mode refl)) (λ packet among. absurd (no_item packet among))
+    (λ later mode. absurd (mode refl)) (λ packet among. absurd (no_item packet among))
 
 -- it sends nothing
 said_none : (w : World) (p : ℕ) (s : State) → placed w p s [] ≡ with_peer w p s
@@ -451,25 +115,91 @@ crash_sound rules room w p leaves range sound plays =
     subst (λ (v : World). Reaches rules room w v) (said_none w p (away (peer_of w p) (found (peer_of w p) leaves) None))
     (found_sound rules room w p leaves (peer_of w p).pending range sound plays refl)
 
+-- a test decides which world it is
+world_if : (P : World → Type 0) (b : Bool) (x y : World) → (b ≡ true → P x) → P y → P (cond b x y)
+world_if P true x y when unless = when refl
+world_if P false x y when unless = unless
+
 crashed_sound : (rules : Rules) (room : ℕ) (w : World) (p : ℕ) (leaves : Bool) → AreInRange rules → IsSound rules room w
     → Reaches rules room w (crashed rules w p leaves)
 crashed_sound rules room w p leaves range sound =
     world_if (Reaches rules room w) (is_player rules p) _ _ (λ is. crash_sound rules room w p leaves range sound (plays_if rules p is))
-    (stays_as rules room w sound)
-
--- one event after another
-pub reaches_more : (rules : Rules) (room : ℕ) (w u v : World) → Reaches rules room w u → Reaches rules room u v → Reaches rules room w v
-reaches_more rules room w u v one two = record {
-  sound = two.sound;
-  grown = λ q plays. begins_more (journal_of w q) (journal_of u q) (journal_of v q) (one.grown q plays) (two.grown q plays);
-}
+    (stays_as rules room w range sound)
 
 -- ---- openings
 
-fits_opening : (rules : Rules) (room p : ℕ) (J : ℕ → List Record) (journal : List Record) → AreSound rules room J → IsPlayer rules p
-    → MayAdd rules room J p (opening_record rules room p journal) → Fits rules room J p (opening_record rules room p journal)
-fits_opening rules room p J [] sound plays allowed = fits_head rules room J p p _ _ room sound plays allowed
-fits_opening rules room p J (r ∷ rest) sound plays allowed = fits_epoch rules room J p p _ _ sound plays allowed
+-- what an opening adds to a journal of player p
+opening_fits : (rules : Rules) (room p : ℕ) (J : ℕ → List Record) (drawn : ℕ) (journal : List Record) → AreSound rules room J → IsPlayer rules p
+    → MayAdd rules room J p (opening_record rules room p drawn journal) → Fits rules room J p (opening_record rules room p drawn journal)
+opening_fits rules room p J drawn [] sound plays allowed = fits_head rules room J p p _ _ room _ sound plays allowed
+opening_fits rules room p J drawn (r ∷ rest) sound plays allowed = fits_epoch rules room J p p _ _ sound plays allowed
+
+-- the match of a journal that an opening goes on with, or begins
+drawn_match : (rules : Rules) (room p drawn : ℕ) (journal : List Record) → p ≢ 1 → match_of p (journal ++ opening_record rules room p drawn journal ∷ [])
+    ≡ match_of p journal
+drawn_match rules room p drawn [] elsewhere = match_next p [] (opening_record rules room p drawn []) ∙ opened_none p (life_drawn rules drawn) elsewhere
+drawn_match rules room p drawn (r ∷ rest) elsewhere =
+    match_next p (r ∷ rest) (opening_record rules room p drawn (r ∷ rest))
+    ∙ ap (λ (n : ℕ). records.first_of (match_of p (r ∷ rest)) n) (same_either (p == 1) 0) ∙ kept_of (match_of p (r ∷ rest))
+
+-- An opening's record fits in version 3: over a journal it says nothing of others; else it begins a life.
+opens_life : (rules : Rules) (room : ℕ) (w : World) (p drawn : ℕ) (journal : List Record) → AreInRange rules → IsSound rules room w → IsPlayer rules p
+    → has_lives rules.wire ≡ true → journal_of w p ≡ journal → IsNewLife rules w p drawn
+    → IsAllowed rules p room journal (opening_record rules room p drawn journal)
+    → HasTrueChecks rules p (journal ++ opening_record rules room p drawn journal ∷ [])
+    → FitsLives rules room (lives_of w) p (opening_record rules room p drawn journal)
+opens_life rules room w p drawn [] range sound plays is here new allowed checks =
+    let r : Record = opening_record rules room p drawn [] in
+    let unbound : match_of p (journal_of w p) ≡ 0 = ap (match_of p) here ∙ match_none p in
+    lives_begun rules room (lives_of w) (have_lives rules room is) (sound.journals.late is) p r plays unbound
+    (λ elsewhere. ap (λ (all : List Record). match_of p (all ++ r ∷ [])) here ∙ drawn_match rules room p drawn [] elsewhere ∙ match_none p)
+    (λ journal lost same. new.new journal lost
+    (same ∙ ap (λ (all : List Record). life_of (all ++ r ∷ [])) here ∙ life_begun rules room p drawn is))
+    (subst (λ (all : List Record). IsAllowed rules p room all r) (sym here) allowed)
+    (subst (λ (all : List Record). HasTrueChecks rules p (all ++ r ∷ [])) (sym here) checks)
+opens_life rules room w p drawn (first ∷ rest) range sound plays is here new allowed checks =
+    let r : Record = opening_record rules room p drawn (first ∷ rest) in
+    let laws = have_lives rules room is in
+    let lives = sound.journals.late is in
+    let allowed_here : IsAllowed rules p room (journal_of w p) r = subst (λ (all : List Record). IsAllowed rules p room all r) (sym here) allowed in
+    let checks_here : HasTrueChecks rules p (journal_of w p ++ r ∷ []) =
+    subst (λ (all : List Record). HasTrueChecks rules p (all ++ r ∷ [])) (sym here) checks in
+    elim (cases_eq (match_of p (journal_of w p)) 0) [
+      | inl unbound ↦
+          let other : p ≢ 1 = λ one. cc (sym here ∙ laws.begun p (journal_of w p) plays (own_journal rules room w range sound p plays)
+          (sym (at_one p (journal_of w p) one) ∙ unbound)) in
+          lives_unbound rules room (lives_of w) laws lives p r plays unbound
+          (ap (λ (all : List Record). match_of p (all ++ r ∷ [])) here ∙ drawn_match rules room p drawn (first ∷ rest) other
+          ∙ ap (match_of p) (sym here) ∙ unbound)
+          (λ none. cc (sym here ∙ none)) allowed_here checks_here
+      | inr bound ↦
+          let c : ℕ = match_of p (journal_of w p) in
+          let at : of_match (lives_of w) c p ≡ journal_of w p = match_has rules room (lives_of w) laws lives p (journal_of w p) plays (inl refl) bound in
+          lives_bound rules room (lives_of w) laws lives p r plays bound
+          (opening_fits rules room p (of_match (lives_of w) c) drawn (first ∷ rest) (lives.sound c) plays (record {
+            allowed = subst (λ (all : List Record). IsAllowed rules p room all r) (sym at) allowed_here;
+            checks = subst (λ (all : List Record). HasTrueChecks rules p (all ++ r ∷ [])) (sym at) checks_here;
+          }))
+    ]
+
+-- in any version
+opening_in : (laws : ArePeersLawful) (rules : Rules) (room : ℕ) (w : World) (p drawn : ℕ) (journal : List Record) → AreInRange rules → room < 2 ^ 64
+    → IsSound rules room w → IsPlayer rules p → journal_of w p ≡ journal → IsNewLife rules w p drawn
+    → IsJournal rules p room journal → epoch journal < last_epoch → FitsIn rules room w p (opening_record rules room p drawn journal)
+opening_in laws rules room w p drawn journal range few sound plays here new valid low =
+    let r : Record = opening_record rules room p drawn journal in
+    let true_checks = subst (HasTrueChecks rules p) here (own_checks rules room w range sound p plays) in
+    let allowed : IsAllowed rules p room journal r =
+    laws.opening_allowed rules p room drawn journal range plays.from_one plays.in_game few new.may valid low in
+    let checks : HasTrueChecks rules p (journal ++ r ∷ []) =
+    laws.opening_true rules p room drawn journal range plays.from_one plays.in_game few new.may valid low true_checks.last in
+    record {
+      early = λ none. opening_fits rules room p (journal_of w) drawn journal (sound.journals.early none) plays (record {
+        allowed = subst (λ (all : List Record). IsAllowed rules p room all r) (sym here) allowed;
+        checks = subst (λ (all : List Record). HasTrueChecks rules p (all ++ r ∷ [])) (sym here) checks;
+      });
+      late = λ is. opens_life rules room w p drawn journal range sound plays is here new allowed checks;
+    }
 
 -- a fresh memory is sound
 no_report : (L s n : ℕ) → report_of no_reports L s ≡ Some n → ⊥
@@ -495,80 +225,59 @@ no_report L s n told =
           cc (none, told)
     ]
 
-no_link_open : (rules : Rules) (room me epoch q : ℕ) → (link_to (no_links rules me room epoch) q).is_open ≡ false
-no_link_open rules room me epoch q =
+no_link_open : (rules : Rules) (room me epoch q : ℕ) (l : LivesValue) → (link_to (no_links rules me room epoch l) q).is_open ≡ false
+no_link_open rules room me epoch q l =
     let P : LinkValue → Type 0 = λ link. link.is_open ≡ false in
     link_if P (q == 1) _ _ refl (link_if P (q == 2) _ _ refl (link_if P (q == 3) _ _ refl (link_if P (q == 4) _ _ refl refl)))
 
-fresh_awake : (rules : Rules) (room p : ℕ) (J : ℕ → List Record) (said : List Packet) (n : ℕ)
-    → IsMemory rules room p (J p) (fresh_memory rules room p n) → IsAwake rules room J said p (fresh_memory rules room p n)
-fresh_awake rules room p J said n lawful = record {
-  lawful = lawful;
+fresh_up : (rules : Rules) (room : ℕ) (w : World) (p : ℕ) (journal : List Record) → journal_of w p ≡ journal
+    → IsMemory rules room p journal (fresh_memory rules room p journal) → IsUp rules room w p (fresh_memory rules room p journal)
+fresh_up rules room w p journal here lawful = record {
+  lawful = subst (λ (all : List Record). IsMemory rules room p all (fresh_memory rules room p journal)) (sym here) lawful;
   chair = λ first L s m s_plays told. absurd (no_report L s m told);
-  links = λ q is. absurd (both_ways (link_to (no_links rules p room n) q).is_open (no_link_open rules room p n q) is);
+  links = λ q is. absurd (both_ways (link_to (no_links rules p room (epoch journal) (lives_known journal)) q).is_open
+      (no_link_open rules room p (epoch journal) q (lives_known journal)) is);
 }
 
 -- the second of two changes of a peer replaces the first
 placed_twice : (w : World) (p : ℕ) (s t : State) (new : List Packet) → placed (placed w p s []) p t new ≡ placed w p t new
 placed_twice w p s t new = λ i. record w { peers = set-set w.peers (p - 1) s t i; said = append-nil w.said i ++ new }
 
--- an opening's record may be added
-may_open : (laws : ArePeersLawful) (rules : Rules) (room : ℕ) (w : World) (p : ℕ) (journal : List Record) → AreInRange rules → room < 2 ^ 64
-    → IsSound rules room w → IsPlayer rules p → journal_of w p ≡ journal
-    → IsJournal rules p room journal → epoch journal < last_epoch → MayAdd rules room (journal_of w) p (opening_record rules room p journal)
-may_open laws rules room w p journal range few sound plays is valid low =
-    let r : Record = opening_record rules room p journal in
-    let checks = subst (HasTrueChecks rules p) is (sound.journals.checks p plays) in
-    record {
-      allowed = subst (λ (j : List Record). IsAllowed rules p room j r) (sym is)
-          (laws.opening_allowed rules p room journal range plays.from_one plays.in_game few valid low);
-      checks = subst (λ (j : List Record). HasTrueChecks rules p (j ++ r ∷ [])) (sym is)
-          (laws.opening_true rules p room journal range plays.from_one plays.in_game few valid low checks.last);
-    }
-
 -- an opening that finds a journal, from the world in which the peer has that journal
-opened_sound : (laws : ArePeersLawful) (rules : Rules) (room : ℕ) (w : World) (p : ℕ) (s : State) (journal : List Record)
-    (outcome : Opening) → AreInRange rules → room < 2 ^ 64 → IsSound rules room w → IsPlayer rules p
+opened_sound : (laws : ArePeersLawful) (rules : Rules) (room : ℕ) (w : World) (p drawn : ℕ) (s : State) (journal : List Record)
+    (outcome : Opening) → AreInRange rules → room < 2 ^ 64 → IsSound rules room w → IsPlayer rules p → IsNewLife rules w p drawn
     → journal_of w p ≡ journal → (peer_of w p).pending ≡ None → (peer_of w p).mode ≡ Away → MayBecome rules room p journal outcome
     → (outcome ≢ NoMemory) → ((why : DiskError) → outcome ≢ NotRead why)
-    → Reaches rules room w (stepped w p (opened rules room p s journal outcome)).world
-opened_sound laws rules room w p s journal Stands range few sound plays is settled gone may memory read =
-    let r : Record = opening_record rules room p journal in
-    let from = plays.from_one in
-    let to = plays.in_game in
-    let n : ℕ = epoch (journal ++ r ∷ []) in
-    let t : State = record { journal = journal ++ r ∷ []; pending = None; mode = states.Open; memory = fresh_memory rules room p n } in
-    let allowed = may_open laws rules room w p journal range few sound plays is may.0 may.1 in
+    → Reaches rules room w (stepped w p (opened rules room p drawn s journal outcome)).world
+opened_sound laws rules room w p drawn s journal Stands range few sound plays new is settled gone may memory read =
+    let r : Record = opening_record rules room p drawn journal in
+    let longer : List Record = journal ++ r ∷ [] in
+    let t : State = record { journal = longer; pending = None; mode = states.Open; memory = fresh_memory rules room p longer } in
     placed_more rules room w p t [] r range sound plays (ap (λ (j : List Record). j ++ r ∷ []) (sym is))
-    (fits_opening rules room p (journal_of w) journal sound.journals plays allowed) refl
-    (λ journals grown mode.
-    let here : journal_of (placed w p t []) p ≡ journal ++ r ∷ [] = journal_here rules w p t [] sound.nodes plays in
-    fresh_awake rules room p (journal_of (placed w p t [])) (w.said ++ []) n
-    (subst (λ (j : List Record). IsMemory rules room p j (fresh_memory rules room p n)) (sym here)
-    (laws.opening_memory rules p room journal range from to may.0 may.1)))
+    (opening_in laws rules room w p drawn journal range few sound plays is new may.0 may.1) refl
+    (λ later mode. fresh_up rules room (placed w p t []) p longer (journal_here rules w p t [] sound.journals.nodes plays)
+    (laws.opening_memory rules p room drawn journal range plays.from_one plays.in_game few new.may may.0 may.1))
     (λ packet among. absurd (no_item packet among))
-opened_sound laws rules room w p s journal (NotWritten why) range few sound plays is settled gone may memory read =
-    let r : Record = opening_record rules room p journal in
-    let allowed = may_open laws rules room w p journal range few sound plays is may.0 may.1 in
+opened_sound laws rules room w p drawn s journal (NotWritten why) range few sound plays new is settled gone may memory read =
+    let r : Record = opening_record rules room p drawn journal in
     placed_same rules room w p (away s journal (Some r)) [] range sound plays (sym is)
     (record {
       pending = λ t e. (
         λ mode. absurd cc,
         let same : r ≡ t = cc in
-            subst (λ (x : Record). Fits rules room (journal_of w) p x) same
-            (fits_opening rules room p (journal_of w) journal sound.journals plays allowed),
+            subst (λ (x : Record). FitsIn rules room w p x) same (opening_in laws rules room w p drawn journal range few sound plays is new may.0 may.1),
       );
       awake = λ mode. absurd (mode refl);
     })
     (λ packet among. absurd (no_item packet among))
-opened_sound laws rules room w p s journal NoPlayer range few sound plays is settled gone may memory read = let in_game = plays.in_game in
-    absurd (omega (arith, may, in_game))
-opened_sound laws rules room w p s journal NoMemory range few sound plays is settled gone may memory read = absurd (memory refl)
-opened_sound laws rules room w p s journal (NotRead why) range few sound plays is settled gone may memory read = absurd (read why refl)
-opened_sound laws rules room w p s journal (Unfit error) range few sound plays is settled gone may memory read =
+opened_sound laws rules room w p drawn s journal NoPlayer range few sound plays new is settled gone may memory read =
+    let in_game = plays.in_game in absurd (omega (arith, may, in_game))
+opened_sound laws rules room w p drawn s journal NoMemory range few sound plays new is settled gone may memory read = absurd (memory refl)
+opened_sound laws rules room w p drawn s journal (NotRead why) range few sound plays new is settled gone may memory read = absurd (read why refl)
+opened_sound laws rules room w p drawn s journal (Unfit error) range few sound plays new is settled gone may memory read =
     placed_same rules room w p (away s journal None) [] range sound plays (sym is)
     (record { pending = λ t e. absurd cc; awake = λ mode. absurd (mode refl) }) (λ packet among. absurd (no_item packet among))
-opened_sound laws rules room w p s journal Spent range few sound plays is settled gone may memory read =
+opened_sound laws rules room w p drawn s journal Spent range few sound plays new is settled gone may memory read =
     placed_same rules room w p (away s journal None) [] range sound plays (sym is)
     (record { pending = λ t e. absurd cc; awake = λ mode. absurd (mode refl) }) (λ packet among. absurd (no_item packet among))
 
@@ -581,139 +290,339 @@ unread_sound rules room w p range sound plays =
     (λ packet among. absurd (no_item packet among))
 
 -- an opening that settles what it found, in two steps: the peer gets the found journal, then it is opened
-settle_open : (laws : ArePeersLawful) (rules : Rules) (room : ℕ) (w : World) (p : ℕ) (finds : Bool) (outcome : Opening) → AreInRange rules
-    → room < 2 ^ 64 → IsSound rules room w → IsPlayer rules p
+settle_open : (laws : ArePeersLawful) (rules : Rules) (room : ℕ) (w : World) (p drawn : ℕ) (finds : Bool) (outcome : Opening) → AreInRange rules
+    → room < 2 ^ 64 → IsSound rules room w → IsPlayer rules p → IsNewLife rules w p drawn
     → MayBecome rules room p (found (peer_of w p) finds) outcome → outcome ≢ NoMemory → ((why : DiskError) → outcome ≢ NotRead why)
-    → Reaches rules room w (stepped w p (opened rules room p (peer_of w p) (found (peer_of w p) finds) outcome)).world
-settle_open laws rules room w p finds outcome range few sound plays may memory read =
+    → Reaches rules room w (stepped w p (opened rules room p drawn (peer_of w p) (found (peer_of w p) finds) outcome)).world
+settle_open laws rules room w p drawn finds outcome range few sound plays new may memory read =
     let s : State = peer_of w p in
     let journal : List Record = found s finds in
     let t : State = away s journal None in
     let u : World = placed w p t [] in
     let one = found_sound rules room w p finds s.pending range sound plays refl in
-    let here : peer_of u p ≡ t = peer_here rules w p t [] sound.nodes plays in
-    let step : Stepped = opened rules room p s journal outcome in
-    let two = opened_sound laws rules room u p s journal outcome range few one.sound plays (ap (λ (x : State). x.journal) here)
+    let here : peer_of u p ≡ t = peer_here rules w p t [] sound.journals.nodes plays in
+    let step : Stepped = opened rules room p drawn s journal outcome in
+    let two = opened_sound laws rules room u p drawn s journal outcome range few one.sound plays
+    (record { may = new.may; new = new.new }) (ap (λ (x : State). x.journal) here)
     (ap (λ (x : State). x.pending) here) (ap (λ (x : State). x.mode) here) may memory read in
     subst (λ (v : World). Reaches rules room w v) (placed_twice w p t step.state (said_by step.reply))
     (reaches_more rules room w u (stepped u p step).world one two)
 
-open_sound : (laws : ArePeersLawful) (rules : Rules) (room : ℕ) (w : World) (p : ℕ) (finds : Bool) (outcome : Opening) → AreInRange rules
-    → room < 2 ^ 64 → IsSound rules room w → IsPlayer rules p
+open_sound : (laws : ArePeersLawful) (rules : Rules) (room : ℕ) (w : World) (p drawn : ℕ) (finds : Bool) (outcome : Opening) → AreInRange rules
+    → room < 2 ^ 64 → IsSound rules room w → IsPlayer rules p → IsNewLife rules w p drawn
     → MayBecome rules room p (found (peer_of w p) finds) outcome
-    → Reaches rules room w (stepped w p (opened rules room p (peer_of w p) (found (peer_of w p) finds) outcome)).world
-open_sound laws rules room w p finds NoPlayer range few sound plays may = unread_sound rules room w p range sound plays
-open_sound laws rules room w p finds NoMemory range few sound plays may = unread_sound rules room w p range sound plays
-open_sound laws rules room w p finds (NotRead why) range few sound plays may = unread_sound rules room w p range sound plays
-open_sound laws rules room w p finds Stands range few sound plays may =
-    settle_open laws rules room w p finds Stands range few sound plays may (λ e. cc e) (λ why e. cc e)
-open_sound laws rules room w p finds (NotWritten why) range few sound plays may =
-    settle_open laws rules room w p finds (NotWritten why) range few sound plays may (λ e. cc e) (λ other e. cc e)
-open_sound laws rules room w p finds (Unfit error) range few sound plays may =
-    settle_open laws rules room w p finds (Unfit error) range few sound plays may (λ e. cc e) (λ other e. cc e)
-open_sound laws rules room w p finds Spent range few sound plays may =
-    settle_open laws rules room w p finds Spent range few sound plays may (λ e. cc e) (λ why e. cc e)
+    → Reaches rules room w (stepped w p (opened rules room p drawn (peer_of w p) (found (peer_of w p) finds) outcome)).world
+open_sound laws rules room w p drawn finds NoPlayer range few sound plays new may = unread_sound rules room w p range sound plays
+open_sound laws rules room w p drawn finds NoMemory range few sound plays new may = unread_sound rules room w p range sound plays
+open_sound laws rules room w p drawn finds (NotRead why) range few sound plays new may = unread_sound rules room w p range sound plays
+open_sound laws rules room w p drawn finds Stands range few sound plays new may =
+    settle_open laws rules room w p drawn finds Stands range few sound plays new may (λ e. cc e) (λ why e. cc e)
+open_sound laws rules room w p drawn finds (NotWritten why) range few sound plays new may =
+    settle_open laws rules room w p drawn finds (NotWritten why) range few sound plays new may (λ e. cc e) (λ other e. cc e)
+open_sound laws rules room w p drawn finds (Unfit error) range few sound plays new may =
+    settle_open laws rules room w p drawn finds (Unfit error) range few sound plays new may (λ e. cc e) (λ other e. cc e)
+open_sound laws rules room w p drawn finds Spent range few sound plays new may =
+    settle_open laws rules room w p drawn finds Spent range few sound plays new may (λ e. cc e) (λ why e. cc e)
 
 mode_opens : (laws : ArePeersLawful) (rules : Rules) (room : ℕ) (w : World) (p : ℕ) (h : Happening) (mode : Mode) → AreInRange rules
     → room < 2 ^ 64 → IsSound rules room w → IsPlayer rules p
-    → MayBecome rules room p (found (peer_of w p) h.finds) h.opening → Reaches rules room w (open_at_mode rules room w p h mode).world
-mode_opens laws rules room w p h states.Open range few sound plays may = stays_as rules room w sound
-mode_opens laws rules room w p h Down range few sound plays may = open_sound laws rules room w p h.finds h.opening range few sound plays may
-mode_opens laws rules room w p h Away range few sound plays may = open_sound laws rules room w p h.finds h.opening range few sound plays may
+    → MayBecome rules room p (found (peer_of w p) h.finds) h.opening → IsNewLife rules w p h.drawn
+    → Reaches rules room w (open_at_mode rules room w p h mode).world
+mode_opens laws rules room w p h states.Open range few sound plays may new = stays_as rules room w range sound
+mode_opens laws rules room w p h Down range few sound plays may new =
+    open_sound laws rules room w p h.drawn h.finds h.opening range few sound plays new may
+mode_opens laws rules room w p h Away range few sound plays may new =
+    open_sound laws rules room w p h.drawn h.finds h.opening range few sound plays new may
+
+-- ---- a journal that is lost
+
+none_pending : (r : Record) → never_opened.pending ≡ Some r → ⊥
+none_pending r e = cc e
+
+wiped_sound : (rules : Rules) (room : ℕ) (w : World) (p : ℕ) → AreInRange rules → has_lives rules.wire ≡ true → IsSound rules room w → IsPlayer rules p
+    → Reaches rules room w (wiped w p)
+wiped_sound rules room w p range is sound plays =
+    let v : World = wiped w p in
+    let nodes = sound.journals.nodes in
+    let here : peer_of v p ≡ never_opened = peer_here rules w p never_opened [] nodes plays in
+    let there : (q : ℕ) → IsPlayer rules q → q ≢ p → peer_of v q ≡ peer_of w q =
+    λ q q_plays apart. peer_there rules w p never_opened [] q plays q_plays apart in
+    let later : AreLaterIn rules room w v = wiped_in rules room w v range sound.journals (length-set w.peers (p - 1) never_opened ∙ nodes) is p plays refl
+    (ap (λ (s : State). s.journal) here) (λ q q_plays apart. ap (λ (s : State). s.journal) (there q q_plays apart)) in
+    world_by rules room w v p [] range sound plays later (sym (append-nil w.said)) refl refl there
+    (λ q apart journal among. ⊎_elim (λ old. old) (λ last. absurd (apart (sym last.0)))
+    (lost_or_new w.lost (record { player = p; journal = journal_of w p }) q journal among))
+    (subst (IsSoundPeer rules room v p) (sym here)
+    (record { pending = λ r e. absurd (none_pending r e); awake = λ mode. absurd (mode refl) }))
+    (λ packet among. absurd (no_item packet among))
+
+wipe_sound : (rules : Rules) (room : ℕ) (w : World) (p : ℕ) → AreInRange rules → IsSound rules room w → Reaches rules room w (wipe_at rules w p).world
+wipe_sound rules room w p range sound =
+    if_player (λ (a : After). Reaches rules room w a.world) (is_player rules p) _ _
+    (λ in_game. if_player (λ (a : After). Reaches rules room w a.world) (has_lives rules.wire) _ _
+    (λ is. wiped_sound rules room w p range is sound (plays_if rules p in_game))
+    (stays_as rules room w range sound))
+    (stays_as rules room w range sound)
 
 -- ---- any event
 
 given_sound : (laws : ArePeersLawful) (rules : Rules) (room : ℕ) (w : World) (p number : ℕ) (on_disk : DiskOutcome) (o : Option Packet)
     → AreInRange rules → IsSound rules room w → slice_get w.said number ≡ o → Reaches rules room w (give_to rules w p on_disk o).world
-given_sound laws rules room w p number on_disk None range sound e = stays_as rules room w sound
+given_sound laws rules room w p number on_disk None range sound e = stays_as rules room w range sound
 given_sound laws rules room w p number on_disk (Some packet) range sound e =
-    let is_said = sound.said packet (number, e) in
-    call_sound laws rules room w p (states.Deliver (Ok packet)) on_disk range sound is_said.spelled ((number, e), is_said)
+    call_sound laws rules room w p (states.Deliver (Ok packet)) on_disk range sound (sound.said packet (number, e)).spelled
+    (λ other is. let same : packet ≡ other = cc in subst (IsAmong w.said) same (number, e)) (λ error is. cc is)
 
 -- ---- watchers
 
--- a watcher's rows, when its own or another's change
-rows_if : (P : List Row → Type 0) (b : Bool) (x y : List Row) → P x → P y → P (cond b x y)
-rows_if P true x y one other = one
-rows_if P false x y one other = other
+-- what a watcher has seen, when its own or another's changes
+sight_if : (P : Sight → Type 0) (b : Bool) (x y : Sight) → P x → P y → P (cond b x y)
+sight_if P true x y one other = one
+sight_if P false x y one other = other
 
-rows_with : (P : List Row → Type 0) (w : World) (watcher other : ℕ) (rows : List Row) → P rows → ((seat : ℕ) → P (rows_of w seat))
-    → P (rows_of (with_rows w watcher rows) other)
-rows_with P w watcher other rows new old =
-    rows_if P (other == 5) _ _ (rows_if P (watcher == 5) _ _ new (old 5))
-    (rows_if P (other == 6) _ _ (rows_if P (watcher == 6) _ _ new (old 6)) (old 7))
+sight_with : (P : Sight → Type 0) (w : World) (watcher other : ℕ) (sight : Sight) → P sight → ((seat : ℕ) → P (sight_of w seat))
+    → P (sight_of (with_sight w watcher sight) other)
+sight_with P w watcher other sight new old =
+    sight_if P (other == 5) _ _ (sight_if P (watcher == 5) _ _ new (old 5))
+    (sight_if P (other == 6) _ _ (sight_if P (watcher == 6) _ _ new (old 6)) (old 7))
 
--- no datagram is sent and no peer changes, but one watcher has other rows, the beginning of the confirmed ones
-watched_sound : (rules : Rules) (room : ℕ) (w : World) (watcher : ℕ) (rows : List Row) → IsSound rules room w
-    → Begins rows (confirmed_rows (known_by rules w 1)) → Reaches rules room w (with_rows w watcher rows)
-watched_sound rules room w watcher rows sound begins = record {
-  sound = record {
-    nodes = sound.nodes;
-    journals = sound.journals;
-    said = sound.said;
-    peers = sound.peers;
-    watched = λ other. rows_with (λ (xs : List Row). Begins xs (confirmed_rows (known_by rules w 1))) w watcher other rows begins sound.watched;
-  };
-  grown = λ q plays. begins_same (journal_of w q);
-}
+-- the rows of a sight in a match
+abbrev rows_seen : Rules → ℕ → Sight → List Row
+rows_seen rules c sight = (if has_lives rules.wire then sight_of_match c sight else sight).rows
 
--- the rows of a SHOW are in player 1's confirmed rows
-pub shown_stands : (rules : Rules) (J : ℕ → List Record) (packet : Packet) (m : ShowMessage) → packet.message ≡ packets.Show m
-    → IsTold rules J packet (seen_in packet.message) → StandsIn m.start m.rows (confirmed_rows (known_of rules 1 (J 1)))
-shown_stands rules J packet m is told =
+sight_split : (f : Sight → Sight) (five six : Bool) (x y : Sight) → f no_sight ≡ no_sight
+    → cond five (f x) (cond six (f y) no_sight) ≡ f (cond five x (cond six y no_sight))
+sight_split f true six x y none = refl
+sight_split f false true x y none = refl
+sight_split f false false x y none = sym none
+
+same_sight : (b : Bool) (x : Sight) → cond b x x ≡ x
+same_sight true x = refl
+same_sight false x = refl
+
+seen_by_test : (b : Bool) (c : ℕ) (w : World) (watcher : ℕ)
+    → rows_of (cond b (record w { peers = states_in c 1 w.lost w.peers; five = sight_of_match c w.five; six = sight_of_match c w.six }) w) watcher
+    ≡ (if b then sight_of_match c (sight_of w watcher) else sight_of w watcher).rows
+seen_by_test true c w watcher =
+    ap (λ (x : Sight). x.rows)
+    (sight_split (sight_of_match c) (watcher == 5) (watcher == 6) w.five w.six (same_sight (no_sight.match_number == c) no_sight))
+seen_by_test false c w watcher = refl
+
+seen_in_match : (rules : Rules) (c : ℕ) (w : World) (watcher : ℕ) → rows_of (in_match rules c w) watcher ≡ rows_seen rules c (sight_of w watcher)
+seen_in_match rules c w watcher = seen_by_test (has_lives rules.wire) c w watcher
+
+-- no datagram is sent and no peer changes, but one watcher has seen other rows
+watched_sound : (rules : Rules) (room : ℕ) (w : World) (watcher : ℕ) (sight : Sight) → AreInRange rules → IsSound rules room w
+    → FitsSight rules sight → ((c : ℕ) → Begins (rows_seen rules c sight) (confirmed_rows (known_by rules (in_match rules c w) 1)))
+    → Reaches rules room w (with_sight w watcher sight)
+watched_sound rules room w watcher sight range sound fits begins =
+    let v : World = with_sight w watcher sight in
+    let later : AreLaterIn rules room w v = same_in rules room w v range sound.journals sound.journals.nodes refl (λ q plays. refl) in
+    record {
+      sound = record {
+        journals = later.sound;
+        said = λ packet among. spoken_later rules room w v packet range later (sound.said packet among);
+        peers = λ p plays. peer_later rules room w v [] p (peer_of w p) range sound later (sym (append-nil w.said)) plays refl (λ journal among. among)
+            (sound.peers p plays);
+        watched = λ c other. rows_later rules room w v c (rows_of (in_match rules c v) other) range later
+            (subst (λ (rows : List Row). Begins rows (confirmed_rows (known_by rules (in_match rules c w) 1))) (sym (seen_in_match rules c v other))
+            (sight_with (λ (x : Sight). Begins (rows_seen rules c x) (confirmed_rows (known_by rules (in_match rules c w) 1))) w watcher other sight
+            (begins c)
+            (λ seat. subst (λ (rows : List Row). Begins rows (confirmed_rows (known_by rules (in_match rules c w) 1))) (seen_in_match rules c w seat)
+            (sound.watched c seat))));
+        sighted = λ other. sight_with (FitsSight rules) w watcher other sight fits sound.sighted;
+      };
+      later = later;
+    }
+
+-- what a watcher may have seen of a match
+abbrev pub truth_in : Rules → World → ℕ → List Row
+truth_in rules w c = confirmed_rows (known_by rules (in_match rules c w) 1)
+
+-- in versions 1 and 2 there is one truth
+one_truth : (rules : Rules) (w : World) (c d : ℕ) → has_lives rules.wire ≡ false → truth_in rules w c ≡ truth_in rules w d
+one_truth rules w c d none = ap (λ (journal : List Record). confirmed_rows (known_of rules 1 journal))
+    (early_journal rules c w 1 none ∙ sym (early_journal rules d w 1 none))
+
+-- a SHOW that names a match names its sender's
+shown_named : (rules : Rules) (q : ℕ) (packet : Packet) (m : ShowMessage) (journal : List Record) → packet.message ≡ packets.Show m
+    → IsPacket packet → IsTrue rules q journal packet → packet.head.match_number ≢ 0 → packet.head.match_number ≡ match_of q journal
+shown_named rules q packet m journal shows spelled is some =
+    let kind : packet.head.kind ≡ kinds.Show = spelled.kind ∙ ap kind_of shows in
+    ⊎_elim
+    (λ other. absurd (⊎_elim (λ hello. cc (kind, hello.0)) (λ refused. cc (kind, refused)) other))
+    (λ same. same)
+    (is.matched some)
+
+-- the rows of a SHOW are in player 1's confirmed rows of its match
+pub shown_stands : (rules : Rules) (room : ℕ) (w : World) (packet : Packet) (m : ShowMessage) → IsSound rules room w → packet.message ≡ packets.Show m
+    → IsSpoken rules w packet → StandsIn m.start m.rows (truth_in rules w packet.head.match_number)
+shown_stands rules room w packet m sound shows spoken =
     let q : ℕ = packet.head.from in
-    let by = subst (λ (heard : Option ℕ). IsTold rules J packet heard) (ap seen_in is) told in
-    let shown : IsTrueMessage rules q packet.head.to (J q) (packets.Show m) =
-    subst (λ (message : Message). IsTrueMessage rules q packet.head.to (J q) message) is by.1.message in
-    subst (λ (p : ℕ). StandsIn m.start m.rows (confirmed_rows (known_of rules p (J p)))) shown.0 shown.1
+    let c : ℕ = packet.head.match_number in
+    let told : IsToldIn rules w packet None = subst (IsToldIn rules w packet) (ap seen_in shows) spoken.told in
+    let by = told.1 in
+    let shown : IsTrueMessage rules q packet.head.to by.journal (packets.Show m) =
+    subst (λ (message : Message). IsTrueMessage rules q packet.head.to by.journal message) shows by.is.message in
+    let first : q ≡ 1 = shown.0 in
+    let named : has_lives rules.wire ≡ true → c ≡ match_of q by.journal = λ is.
+    shown_named rules q packet m by.journal shows spoken.spelled by.is (by.is.shows is m shows) in
+    let late : has_lives rules.wire ≡ true → by.journal ≡ journals rules w c q = λ is.
+    let valid = (sound.journals.late is).valid q by.journal told.0 by.life in
+    let bound : match_of q by.journal ≢ 0 = λ none. begun_by packet.head.sender_epoch by.journal by.is.epoch
+    ((have_lives rules room is).begun q by.journal told.0 valid (sym (at_one q by.journal first) ∙ none)) in
+    sym (match_has rules room (lives_of w) (have_lives rules room is) (sound.journals.late is) q by.journal told.0 by.life bound)
+    ∙ ap (λ (x : ℕ). of_match (lives_of w) x q) (sym (named is)) ∙ sym (match_journal rules c w q is sound.journals.nodes told.0) in
+    let early : has_lives rules.wire ≡ false → by.journal ≡ journals rules w c q = λ none.
+    ⊎_elim (λ now. now ∙ sym (early_journal rules c w q none))
+    (λ lost. absurd (subst (λ (all : List Lost). IsLost all q by.journal) (sound.journals.kept none) lost)) by.life in
+    let whole : by.journal ≡ journals rules w c 1 =
+    ⊎_elim late early (true_or_false (has_lives rules.wire)) ∙ ap (λ (x : ℕ). journals rules w c x) first in
+    subst (λ (journal : List Record). StandsIn m.start m.rows (confirmed_rows (known_of rules 1 journal))) whole
+    (subst (λ (p : ℕ). StandsIn m.start m.rows (confirmed_rows (known_of rules p by.journal))) first shown.1)
 
-heard_sound : (rules : Rules) (room : ℕ) (w : World) (watcher number : ℕ) (o : Option Packet) → IsSound rules room w
+seen_own : (b : Bool) (c : ℕ) (sight : Sight) → (sight.match_number == c) ≡ true → (if b then sight_of_match c sight else sight).rows ≡ sight.rows
+seen_own true c sight same = ap (λ (x : Sight). x.rows) (pick_first (sight.match_number == c) sight no_sight same)
+seen_own false c sight same = refl
+
+-- what a watcher has seen is of its match
+pub watch_true : (rules : Rules) (room : ℕ) (w : World) (watcher : ℕ) → IsSound rules room w
+    → Begins (rows_of w watcher) (truth_in rules w (sight_of w watcher).match_number)
+watch_true rules room w watcher sound =
+    let sight : Sight = sight_of w watcher in
+    let c : ℕ = sight.match_number in
+    subst (λ (rows : List Row). Begins rows (truth_in rules w c))
+    (seen_in_match rules c w watcher
+    ∙ seen_own (has_lives rules.wire) c sight (eq-eqb c c refl))
+    (sound.watched c watcher)
+
+-- and so in each match
+seen_each : (rules : Rules) (w : World) (b : Bool) (c : ℕ) (sight : Sight) → has_lives rules.wire ≡ b
+    → Begins sight.rows (truth_in rules w sight.match_number) → Begins (if b then sight_of_match c sight else sight).rows (truth_in rules w c)
+seen_each rules w false c sight none begins = subst (λ (all : List Row). Begins sight.rows all) (one_truth rules w sight.match_number c none) begins
+seen_each rules w true c sight is begins = elim (cases_eq sight.match_number c) [
+  | inl same ↦
+      subst (λ (x : Sight). Begins x.rows (truth_in rules w c)) (sym (pick_first (sight.match_number == c) sight no_sight (eq-eqb sight.match_number c same)))
+      (subst (λ (x : ℕ). Begins sight.rows (truth_in rules w x)) same begins)
+  | inr other ↦
+      subst (λ (x : Sight). Begins x.rows (truth_in rules w c)) (sym (pick_second (sight.match_number == c) sight no_sight (ne_eqb sight.match_number c other)))
+      (begins_none (truth_in rules w c))
+]
+
+-- a watcher has the match that it had, or that of a SHOW
+match_after_rows : (P : ℕ → Type 0) (old new : ℕ) (rows : List Row) → P old → P new → P (match_after old new (taken_of rows))
+match_after_rows P old new [] was is = was
+match_after_rows P old new (row ∷ rows) was is = is
+
+match_heard : (P : ℕ → Type 0) (w : WatchValue) (n : ℕ) (message : Message) (o : Option WatchError) → P w.match_number
+    → ((m : ShowMessage) → message ≡ packets.Show m → P n) → P (unless_refused w n message o).watch.match_number
+match_heard P w n message (Some error) was is = was
+match_heard P w n packets.Hello None was is = was
+match_heard P w n (packets.Welcome ack) None was is = was
+match_heard P w n (packets.Data d) None was is = was
+match_heard P w n (packets.Freeze f) None was is = was
+match_heard P w n (packets.Frozen f) None was is = was
+match_heard P w n (packets.Cut f) None was is = was
+match_heard P w n (packets.Show m) None was is = match_after_rows P w.match_number n (fresh_rows w m) was (is m refl)
+match_heard P w n (packets.Seen ack) None was is = was
+match_heard P w n (packets.Pass d) None was is = was
+match_heard P w n (packets.Refused d) None was is = was
+
+-- the match of a SHOW that was said
+shown_match : (rules : Rules) (room : ℕ) (w : World) (packet : Packet) (m : ShowMessage) → IsSound rules room w → packet.message ≡ packets.Show m
+    → IsSpoken rules w packet → has_lives rules.wire ≡ false → packet.head.match_number ≡ 0
+shown_match rules room w packet m sound shows spoken none =
+    let told : IsToldIn rules w packet None = subst (IsToldIn rules w packet) (ap seen_in shows) spoken.told in
+    elim (cases_eq packet.head.match_number 0) [
+      | inl zero ↦ zero
+      | inr some ↦
+          shown_named rules packet.head.from packet m told.1.journal shows spoken.spelled told.1.is some
+          ∙ early_unmatched rules room packet.head.from told.1.journal none
+          (lives_valid rules room w packet.head.from told.1.journal sound.journals told.0 told.1.life)
+    ]
+
+heard_sound : (rules : Rules) (room : ℕ) (w : World) (watcher number : ℕ) (o : Option Packet) → AreInRange rules → IsSound rules room w
     → slice_get w.said number ≡ o → Reaches rules room w (hear_at rules room w watcher o).world
-heard_sound rules room w watcher number None sound e = stays_as rules room w sound
-heard_sound rules room w watcher number (Some packet) sound e =
-    let shown : ShowsRowsOf (confirmed_rows (known_by rules w 1)) packet =
-    record { stand = λ m is. shown_stands rules (journal_of w) packet m is (sound.said packet (number, e)).told } in
-    watched_sound rules room w watcher _ sound
-    (truth_heard (confirmed_rows (known_by rules w 1)) (watch_of rules room w watcher) packet (sound.watched watcher) shown)
+heard_sound rules room w watcher number None range sound e = stays_as rules room w range sound
+heard_sound rules room w watcher number (Some packet) range sound e =
+    let shown : ShowsRowsOf (truth_in rules w packet.head.match_number) packet =
+    record { stand = λ m is. shown_stands rules room w packet m sound is (sound.said packet (number, e)) } in
+    let heard : WatchValue = (hear (watch_of rules room w watcher) (Ok packet)).watch in
+    let was = sound.sighted watcher in
+    let spoken = sound.said packet (number, e) in
+    watched_sound rules room w watcher (sight_in heard) range sound (record {
+      fits = match_heard (λ (n : ℕ). n < 2 ^ 64) (watch_of rules room w watcher) packet.head.match_number packet.message
+          (refusal (watch_of rules room w watcher) packet) was.fits (λ m shows. spoken.spelled.head.match_number);
+      early = λ none. match_heard (λ (n : ℕ). n ≡ 0) (watch_of rules room w watcher) packet.head.match_number packet.message
+          (refusal (watch_of rules room w watcher) packet) (was.early none) (λ m shows. shown_match rules room w packet m sound shows spoken none);
+    })
+    (λ c. seen_each rules w (has_lives rules.wire) c (sight_in heard) refl
+    (truths_heard (truth_in rules w) (watch_of rules room w watcher) packet (watch_true rules room w watcher sound) shown))
 
-only_said : (rules : Rules) (J : ℕ → List Record) (packet one : Packet) → IsSaid rules J packet → IsAmong (packet ∷ []) one → IsSaid rules J one
-only_said rules J packet one is (zero, e) = let same : packet ≡ one = cc in subst (λ (x : Packet). IsSaid rules J x) same is
-only_said rules J packet one is (suc n, e) = absurd cc
+only_said : (rules : Rules) (w : World) (packet one : Packet) → IsSpoken rules w packet → IsAmong (packet ∷ []) one → IsSpoken rules w one
+only_said rules w packet one is (zero, e) = let same : packet ≡ one = cc in subst (IsSpoken rules w) same is
+only_said rules w packet one is (suc n, e) = absurd cc
 
 -- a watcher acknowledges its rows
 told_sound : (rules : Rules) (room : ℕ) (w : World) (packet : Packet) → AreInRange rules → IsSound rules room w
-    → IsSaid rules (journal_of w) packet → Reaches rules room w (record w { said = w.said ++ packet ∷ [] })
+    → IsSpoken rules w packet → Reaches rules room w (record w { said = w.said ++ packet ∷ [] })
 told_sound rules room w packet range sound is =
-    let grown : Grown rules (journal_of w) (journal_of w) = λ q plays. begins_same (journal_of w q) in
+    let v : World = record w { said = w.said ++ packet ∷ [] } in
+    let later : AreLaterIn rules room w v = same_in rules room w v range sound.journals sound.journals.nodes refl (λ q plays. refl) in
     record {
       sound = record {
-        nodes = sound.nodes;
-        journals = sound.journals;
-        said = λ one among. ⊎_elim (λ old. sound.said one old) (λ now. only_said rules (journal_of w) packet one is now)
-            (among_split w.said (packet ∷ []) one among);
-        peers = λ p plays. let was = sound.peers p plays in record {
-          pending = was.pending;
-          awake = λ up. let awake = was.awake up in
-              awake_later rules room (journal_of w) (journal_of w) w.said (packet ∷ []) p (peer_of w p).memory grown awake.lawful awake;
-        };
-        watched = sound.watched;
+        journals = later.sound;
+        said = λ one among. spoken_later rules room w v one range later
+            (⊎_elim (λ old. sound.said one old) (λ now. only_said rules w packet one is now) (among_split w.said (packet ∷ []) one among));
+        peers = λ p plays. peer_later rules room w v (packet ∷ []) p (peer_of w p) range sound later refl plays refl (λ journal among. among)
+            (sound.peers p plays);
+        watched = λ c watcher. subst (λ (rows : List Row). Begins rows (truth_in rules v c)) (sym (same_rows rules c w v watcher refl refl))
+            (rows_later rules room w v c (rows_of (in_match rules c w) watcher) range later (sound.watched c watcher));
+        sighted = sound.sighted;
       };
-      grown = grown;
+      later = later;
     }
 
+-- a SEEN is in each version, and has no news
+seen_is_in : (version : WireVersion) → is_in version kinds.Seen ≡ true
+seen_is_in versions.One = refl
+seen_is_in versions.Two = refl
+seen_is_in versions.Three = refl
+
+no_news_in : (version : WireVersion) → AreNews (has_news version (shape_of kinds.Seen).lead) None
+no_news_in versions.One = record { told = refl; within = λ news e. absurd (cc e) }
+no_news_in versions.Two = record { told = refl; within = λ news e. absurd (cc e) }
+no_news_in versions.Three = record { told = refl; within = λ news e. absurd (cc e) }
+
 seen_said : (rules : Rules) (room : ℕ) (w : World) (watcher : ℕ) → AreInRange rules → room < 2 ^ 64 → IsSound rules room w
-    → is_watcher watcher ≡ true → IsSaid rules (journal_of w) (seen_by_watcher rules room w watcher)
+    → is_watcher watcher ≡ true → IsSpoken rules w (seen_by_watcher rules room w watcher)
 seen_said rules room w watcher range few sound watches =
-    let one = player_one rules range in
-    let k : KnownValue = known_by rules w 1 in
-    let begins = begins_length (rows_of w watcher) (confirmed_rows k) (sound.watched watcher) in
+    let c : ℕ = (sight_of w watcher).match_number in
+    let k : KnownValue = known_by rules (in_match rules c w) 1 in
+    let begins = begins_length (rows_of w watcher) (confirmed_rows k) (watch_true rules room w watcher sound) in
     let all : length (confirmed_rows k) ≡ confirmed k = length-map-range_with_len (row k) 0 (confirmed k) in
-    let within = confirmed_frames rules 1 room (journal_of w 1) range one.from_one one.in_game (sound.journals.valid 1 one) in
+    let one = player_one rules range in
+    let within = confirmed_frames rules 1 room (journals rules w c 1) range one.from_one one.in_game
+    ((each_sound rules room w range sound.journals c).valid 1 one) in
     record {
       told = omega (arith, begins, all);
       spelled = record {
-        head = record { session = session_low rules room; seats = rw watches refl; sender_epoch = omega arith; addressee_epoch = omega arith };
+        head = record {
+          some_width = range.some_width;
+          width = range.width;
+          early = range.early;
+          session = session_low rules room;
+          seats = rw watches refl;
+          sender_epoch = omega arith;
+          addressee_epoch = omega arith;
+          kind = seen_is_in rules.wire;
+          match_number = (sound.sighted watcher).fits;
+          life = omega arith;
+          unmatched = (sound.sighted watcher).early;
+          lifeless = λ none. refl;
+        };
         kind = refl;
+        news = no_news_in rules.wire;
         fits = tt;
         message = omega (arith, begins, all, within, range.frames);
         room = refl;
@@ -725,22 +634,27 @@ pub acted_sound : (laws : ArePeersLawful) (rules : Rules) (room : ℕ) (w : Worl
 unfolding acted
 acted_sound laws rules room w (Open p) h range few sound may =
     if_player (λ (a : After). Reaches rules room w a.world) (is_player rules p) _ _
-    (λ is. mode_opens laws rules room w p h (peer_of w p).mode range few sound (plays_if rules p is) (may is)) (stays_as rules room w sound)
-acted_sound laws rules room w (Tick p keys) h range few sound may = call_sound laws rules room w p (states.Tick keys) h.on_disk range sound may tt
-acted_sound laws rules room w (Say p to what) h range few sound may = call_sound laws rules room w p (states.Say to what) h.on_disk range sound tt tt
+    (λ is. mode_opens laws rules room w p h (peer_of w p).mode range few sound (plays_if rules p is) (may is).0 (may is).1)
+    (stays_as rules room w range sound)
+acted_sound laws rules room w (Tick p input) h range few sound may = call_sound laws rules room w p (states.Tick input) h.on_disk range sound may (λ packet is. cc is) (λ error is. cc is)
+acted_sound laws rules room w (Say p to what) h range few sound may = call_sound laws rules room w p (states.Say to what) h.on_disk range sound tt (λ packet is. cc is) (λ error is. cc is)
 acted_sound laws rules room w (Give number p) h range few sound may =
     given_sound laws rules room w p number h.on_disk (slice_get w.said number) range sound refl
-acted_sound laws rules room w (Leave leaver) h range few sound may = call_sound laws rules room w 1 (states.Leave leaver) h.on_disk range sound tt tt
+acted_sound laws rules room w (Leave leaver) h range few sound may = call_sound laws rules room w 1 (states.Leave leaver) h.on_disk range sound tt (λ packet is. cc is) (λ error is. cc is)
 acted_sound laws rules room w (Decide leaver) h range few sound may =
-    call_sound laws rules room w 1 (states.Decide leaver) h.on_disk range sound tt tt
-acted_sound laws rules room w (Check p) h range few sound may = call_sound laws rules room w p states.Checkpoint h.on_disk range sound tt tt
-acted_sound laws rules room w (Show watcher) h range few sound may = call_sound laws rules room w 1 (states.Show watcher) h.on_disk range sound may tt
+    call_sound laws rules room w 1 (states.Decide leaver) h.on_disk range sound tt (λ packet is. cc is) (λ error is. cc is)
+acted_sound laws rules room w (Check p) h range few sound may = call_sound laws rules room w p states.Checkpoint h.on_disk range sound tt (λ packet is. cc is) (λ error is. cc is)
+acted_sound laws rules room w (Show watcher) h range few sound may = call_sound laws rules room w 1 (states.Show watcher) h.on_disk range sound may (λ packet is. cc is) (λ error is. cc is)
 acted_sound laws rules room w (Hear number watcher) h range few sound may =
-    heard_sound rules room w watcher number (slice_get w.said number) sound refl
+    heard_sound rules room w watcher number (slice_get w.said number) range sound refl
 acted_sound laws rules room w (Seen watcher) h range few sound may =
-    told_sound rules room w (seen_by_watcher rules room w watcher) range sound (seen_said rules room w watcher range few sound may)
+    told_sound rules room w (seen_by_watcher rules room w watcher) range sound
+    (seen_said rules room w watcher range few sound may)
 acted_sound laws rules room w (Fresh watcher) h range few sound may =
-    watched_sound rules room w watcher [] sound (record { rest = confirmed_rows (known_by rules w 1); is = refl })
+    watched_sound rules room w watcher no_sight range sound
+    (record { fits = omega arith; early = λ none. refl })
+    (λ c. seen_each rules w (has_lives rules.wire) c no_sight refl (begins_none (truth_in rules w 0)))
+acted_sound laws rules room w (Wipe p) h range few sound may = wipe_sound rules room w p range sound
 
 pub after_sound : (laws : ArePeersLawful) (rules : Rules) (room : ℕ) (w : World) (event : Event) (h : Happening) → AreInRange rules
     → room < 2 ^ 64 → IsSound rules room w → MayAct rules room w (act_inside event) h → Reaches rules room w (after rules room w event h).world
@@ -759,7 +673,7 @@ event_sound laws rules room w v event answer range few sound can =
 
 pub chain_sound : (laws : ArePeersLawful) (rules : Rules) (room : ℕ) (w v : World) (events : List Event) (answers : List Answer)
     → AreInRange rules → room < 2 ^ 64 → IsSound rules room w → Chain rules room w events answers v → Reaches rules room w v
-chain_sound laws rules room w v [] [] range few sound chain = subst (λ (x : World). Reaches rules room w x) (sym chain) (stays_as rules room w sound)
+chain_sound laws rules room w v [] [] range few sound chain = subst (λ (x : World). Reaches rules room w x) (sym chain) (stays_as rules room w range sound)
 chain_sound laws rules room w v [] (answer ∷ answers) range few sound chain = absurd chain
 chain_sound laws rules room w v (event ∷ events) [] range few sound chain = absurd chain
 chain_sound laws rules room w v (event ∷ events) (answer ∷ answers) range few sound chain =
@@ -779,36 +693,30 @@ peer_at_start rules p =
 journal_at_start : (rules : Rules) (p : ℕ) → journal_of (start rules) p ≡ []
 journal_at_start rules p = ap (λ (s : State). s.journal) (peer_at_start rules p)
 
-uncut_at_start : (L K : ℕ) → cut_of L [] ≡ Some K → ⊥
-unfolding cut_of
-uncut_at_start L K is = cc is
-
-no_middle : (before rest : List Record) (r : Record) → [] ≡ before ++ r ∷ rest → ⊥
-no_middle [] rest r e = cc e
-no_middle (x ∷ before) rest r e = cc e
-
-none_watched : (k : KnownValue) (rules : Rules) (watcher : ℕ) → Begins (rows_of (start rules) watcher) (confirmed_rows k)
-none_watched k rules watcher =
-    let P : List Row → Type 0 = λ rows. Begins rows (confirmed_rows k) in
-    let none : P [] = record { rest = confirmed_rows k; is = refl } in
-    rows_if P (watcher == 5) _ _ none (rows_if P (watcher == 6) _ _ none none)
+none_seen_at : (five six : Bool) → (cond five no_sight (cond six no_sight no_sight)) ≡ no_sight
+none_seen_at true six = refl
+none_seen_at false true = refl
+none_seen_at false false = refl
 
 pub start_sound : (rules : Rules) (room : ℕ) → AreInRange rules → IsSound rules room (start rules)
-start_sound rules room range = record {
-  nodes = length-replicate rules.players never_opened;
-  journals = record {
-    valid = λ p plays. rw (journal_at_start rules p) (journal_none rules p room);
-    begins = λ p q plays q_plays. rw (journal_at_start rules p, journal_at_start rules q) (begins_same (held rules q []));
-    cuts = λ p L K plays is. absurd (uncut_at_start L K (subst (λ (journal : List Record). cut_of L journal ≡ Some K) (journal_at_start rules p) is));
-    decided = λ L K s is s_plays not_one stays. absurd
-        (uncut_at_start L K (subst (λ (journal : List Record). cut_of L journal ≡ Some K) (journal_at_start rules 1) is));
-    frozen = λ s L before rest s_plays e. absurd (no_middle before rest (Freeze L) (sym (journal_at_start rules s) ∙ e));
-    checks = λ p plays. subst (HasTrueChecks rules p) (sym (journal_at_start rules p)) (none_true rules p);
-  };
-  said = λ packet among. absurd (no_item packet among);
-  peers = λ p plays. subst (λ (s : State). IsSoundPeer rules room (journal_of (start rules)) [] p s) (sym (peer_at_start rules p)) (record {
-    pending = λ r e. absurd cc;
-    awake = λ mode. absurd (mode refl);
-  });
-  watched = λ watcher. none_watched (known_by rules (start rules) 1) rules watcher;
-}
+start_sound rules room range =
+    let w : World = start rules in
+    let none = none_sound rules room range in
+    record {
+      journals = record {
+        nodes = length-replicate rules.players never_opened;
+        kept = λ early. refl;
+        early = λ early. sound_same rules room (of_match no_lives 0) (journal_of w) range (none.sound 0)
+            (λ p plays. journal_at_start rules p ∙ sym (none_of_match 0 p));
+        late = λ is. (lives_same rules room no_lives (journal_of w) range none (λ p plays. journal_at_start rules p)).lives;
+      };
+      said = λ packet among. absurd (no_item packet among);
+      peers = λ p plays. subst (IsSoundPeer rules room w p) (sym (peer_at_start rules p)) (record {
+        pending = λ r e. absurd (none_pending r e);
+        awake = λ mode. absurd (mode refl);
+      });
+      watched = λ c watcher. subst (λ (rows : List Row). Begins rows (truth_in rules w c)) (sym (seen_in_match rules c w watcher))
+          (subst (λ (sight : Sight). Begins (rows_seen rules c sight) (truth_in rules w c)) (sym (none_seen_at (watcher == 5) (watcher == 6)))
+          (seen_each rules w (has_lives rules.wire) c no_sight refl (begins_none (truth_in rules w 0))));
+      sighted = λ watcher. subst (FitsSight rules) (sym (none_seen_at (watcher == 5) (watcher == 6))) (record { fits = omega arith; early = λ none. refl });
+    }

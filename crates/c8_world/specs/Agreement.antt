@@ -1,4 +1,5 @@
--- What all peers of a world have in common.
+-- What all peers of a world have in common. All is said of a world; in version 3 it holds of what a world holds of one
+-- match.
 use Rattle.std.specs.Prelude.{◌≡◌, ◌≢◌, ℕ, ◌<◌, ◌≤◌, ◌⊎◌, List, length, take, true, false, Bool, Option, Some, None, Err}
 use Rattle.std.specs.List.{slice_get}
 use Rattle.c8_game.specs.Rules.{Rules}
@@ -8,7 +9,7 @@ use Rattle.c8_digest.specs.Origin.{run_since}
 use Rattle.c8_record.specs.Checks.{begun_at}
 use Rattle.c8_wire.specs.Packet.{Packet}
 use Rattle.c8_hand.specs.Links.{link_to}
-use Rattle.c8_known.specs.Journal.{Record, held, count, had_epoch, has_freeze, has_leave, cut_of}
+use Rattle.c8_known.specs.Journal.{Record, held, count, had_epoch, has_freeze, has_leave, cut_of, match_of}
 use Rattle.c8_known.specs.Known.{KnownValue, player_in, known_of}
 use Rattle.c8_known.specs.Confirmed.{input_of, confirmed, rows_below, confirmed_rows}
 use Rattle.c8_known.specs.Growth.{Begins}
@@ -20,7 +21,8 @@ use Rattle.c8_peer.specs.State.{Away, Opened, Delivered}
 use Rattle.c8_peer.specs.Opening.{found}
 use Rattle.c8_peer.specs.Hearing.{seen_in}
 use Rattle.c8_peer.specs.Truth.{IsTrue}
-use Rattle.c8_world.specs.World.{World, peer_of, journal_of, known_by, rows_of, Answer, Told}
+use Rattle.c8_world.specs.World.{World, peer_of, journal_of, known_by, rows_of, IsLife, Answer, Told}
+use Rattle.c8_world.specs.Lives.{in_match}
 
 -- a player of the game
 pub record IsPlayer (rules : Rules) (p : ℕ) : Type 0 where
@@ -93,6 +95,10 @@ Reads = ℕ → Bool
 abbrev pub read_by : World → Reads → ℕ → List Record
 read_by w reads p = found (peer_of w p) (reads p)
 
+-- the journals that two of them find are of one match; in versions 1 and 2 all are
+abbrev pub AreOfOneMatch : World → Reads → ℕ → ℕ → Type 0
+AreOfOneMatch w reads p r = match_of p (read_by w reads p) ≡ match_of r (read_by w reads r)
+
 abbrev pub AgreeByReads : Rules → World → Reads → ℕ → ℕ → Type 0
 AgreeByReads rules w reads p r = has_leave p (read_by w reads 1) ≡ false → has_leave r (read_by w reads 1) ≡ false
     → (n : ℕ) → n ≤ confirmed (known_of rules p (read_by w reads p)) → n ≤ confirmed (known_of rules r (read_by w reads r))
@@ -104,11 +110,17 @@ AgreeByReads rules w reads p r = has_leave p (read_by w reads 1) ≡ false → h
 abbrev pub IsAmong : List Packet → Packet → Type 0
 IsAmong said packet = (number : ℕ) × (slice_get said number ≡ Some packet)
 
--- A datagram is true by its sender's journal. A watcher has no journal, so its SEEN is true by how many frames player 1
--- counts as confirmed.
+-- a datagram is true by one of its sender's journals
+pub record IsTrueByLife (rules : Rules) (w : World) (packet : Packet) : Type 0 where
+  pub journal : List Record
+  pub life : IsLife w packet.head.from journal
+  pub is : IsTrue rules packet.head.from journal packet
+
+-- A watcher has no journal, so its SEEN is true by how many frames player 1 counts as confirmed in the match that it
+-- names.
 abbrev pub IsTrueBy : Rules → World → Packet → Option ℕ → Type 0
-IsTrueBy rules w packet (Some rows) = rows ≤ confirmed (known_by rules w 1)
-IsTrueBy rules w packet None = IsTrue rules packet.head.from (journal_of w packet.head.from) packet
+IsTrueBy rules w packet (Some rows) = rows ≤ confirmed (known_by rules (in_match rules packet.head.match_number w) 1)
+IsTrueBy rules w packet None = IsTrueByLife rules w packet
 
 abbrev pub IsTrueSaid : Rules → World → Packet → Type 0
 IsTrueSaid rules w packet = IsTrueBy rules w packet (seen_in packet.message)

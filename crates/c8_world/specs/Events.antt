@@ -5,11 +5,11 @@ use Rattle.c8_world.specs.declared.event.Act as code
 use Rattle.c8_world.specs.declared.event.Act.TheVariants as acts
 use Rattle.c8_world.specs.declared.event.Event as codes
 use Rattle.c8_world.specs.declared.event.Event.TheVariants as events
-use Rattle.c8_world.specs.World.{Act, Open, Tick, Say, Give, Leave, Decide, Check, Show, Hear, Seen, Fresh, Event, Do, Stop}
+use Rattle.c8_world.specs.World.{Act, Open, Tick, Say, Give, Leave, Decide, Check, Show, Hear, Seen, Fresh, Wipe, Event, Do, Stop}
 
 abbrev pub act_of : code.Act → Act
 act_of (acts.Open player) = Open player.number
-act_of (acts.Tick player keys) = Tick player.number keys.0
+act_of (acts.Tick player input) = Tick player.number input
 act_of (acts.Say player to what) = Say player.number to.number (saying_of what)
 act_of (acts.Give number player) = Give number player.number
 act_of (acts.Leave leaver) = Leave leaver.number
@@ -19,6 +19,7 @@ act_of (acts.Show watcher) = Show watcher.number
 act_of (acts.Hear number watcher) = Hear number watcher.number
 act_of (acts.Seen watcher) = Seen watcher.number
 act_of (acts.Fresh watcher) = Fresh watcher.number
+act_of (acts.Wipe player) = Wipe player.number
 
 abbrev pub event_of : codes.Event → Event
 event_of (events.Do act) = Do (act_of act)

@@ -1,4 +1,5 @@
 pub mod World
+pub mod Lives
 pub mod Agreement
 pub mod Matches
 pub mod Events

@@ -1,5 +1,5 @@
 -- Worked matches: whole lists of events with their answers, and what holds at the end.
-use Rattle.std.specs.Prelude.{◌≡◌, ◌≢◌, ℕ, ◌+◌, List, [], ◌∷◌, ◌++◌, map, length, drop, replicate, Bool, true, false, Option, Some, Ok, Err}
+use Rattle.std.specs.Prelude.{◌≡◌, ◌≢◌, ℕ, ◌+◌, List, [], ◌∷◌, ◌++◌, map, length, drop, replicate, Bool, true, false, Option, Some, None, Ok, Err}
 use Rattle.c8_peer.specs.Runs.{never_opened}
 use Rattle.c8_game.specs.Rules.{Rules, session_of}
 use Rattle.c8_game.specs.declared.wire.WireVersion.TheVariants as versions
@@ -11,6 +11,7 @@ use Rattle.c8_wire.specs.Spelling.{spelling}
 use Rattle.c8_disk.specs.declared.error.DiskError.TheVariants.{Failed}
 use Rattle.c8_hand.specs.declared.error.HandError.TheVariants as hands
 use Rattle.c8_known.specs.declared.error.KnownError.TheVariants as knowns
+use Rattle.c8_news.specs.News.{no_signs}
 use Rattle.c8_known.specs.Journal.{Head, has_leave, cut_of}
 use Rattle.c8_known.specs.Known.{player_in, count_in}
 use Rattle.c8_known.specs.Confirmed.{input_of, confirmed, row, rows_below}
@@ -20,7 +21,7 @@ use Rattle.c8_refusals.specs.declared.error.DecideError.TheVariants as decisions
 use Rattle.c8_refusals.specs.declared.error.Refused.TheVariants.{Hand, Known}
 use Rattle.c8_peer.specs.declared.heard.Heard.{Heard}
 use Rattle.c8_peer.specs.declared.heard.Heard.TheVariants.{Nothing, Kept, Out}
-use Rattle.c8_peer.specs.State.{Saying, Hello, Welcome, Data, Freeze, Frozen, Cut, Opened, Ticked, Delivered, Said, Left, Decided}
+use Rattle.c8_peer.specs.State.{Saying, Hello, Welcome, Data, Freeze, Frozen, Cut, Pass, RefusedLife, Opened, Ticked, Delivered, Said, Left, Decided}
 use Rattle.c8_peer.specs.Steps.{DiskOutcome, Works, Refuses}
 use Rattle.c8_peer.specs.Opening.{Stands}
 use Rattle.c8_world.specs.World.{World, start, journal_of, known_by, with_peer, Open, Tick, Say, Give, Leave, Decide, Event}
@@ -49,7 +50,7 @@ Leads rules w lines v = Chain rules 0 w (events_of lines) (answers_of lines) v
 
 -- the disk does not fail
 abbrev pub works : Happening
-works = record { finds = false; opening = Stands; on_disk = Works; leaves = false }
+works = record { finds = false; drawn = 0; opening = Stands; on_disk = Works; leaves = false }
 
 abbrev pub done : Event → Answer → Line
 done event answer = record { event = event; happening = works; answer = answer }
@@ -60,7 +61,7 @@ opens p epoch = done (Do (Open p)) (Told (Opened (Ok epoch)))
 
 -- a player enters a key set
 abbrev pub enters : ℕ → ℕ → Line
-enters p keys = done (Do (Tick p keys)) (Told (Ticked (Ok tt)))
+enters p input = done (Do (Tick p input)) (Told (Ticked (Ok tt)))
 
 -- the datagram with a number is delivered to a player
 abbrev pub hears : ℕ → ℕ → Heard → Line
@@ -70,12 +71,14 @@ hears number p what = done (Do (Give number p)) (Told (Delivered (Ok what)))
 abbrev pub saying_of : Message → Saying
 saying_of packets.Hello = Hello
 saying_of (packets.Welcome ack) = Welcome
-saying_of (packets.Data d) = Data
+saying_of (packets.Data d) = Data no_signs
 saying_of (packets.Freeze f) = Freeze f.leaver
 saying_of (packets.Frozen f) = Frozen f.leaver
 saying_of (packets.Cut c) = Cut c.leaver
 saying_of (packets.Show m) = Hello
 saying_of (packets.Seen ack) = Hello
+saying_of (packets.Pass m) = Pass m.player
+saying_of (packets.Refused m) = RefusedLife
 
 -- the datagram of a player in an epoch to another player, whose known epoch is given
 abbrev pub datagram : Rules → ℕ → ℕ → ℕ → ℕ → Message → Packet
@@ -83,12 +86,16 @@ datagram rules from epoch to known message = record {
   head = record {
     kind = kind_of message;
     version = rules.wire;
+    width = rules.width;
     session = session_of rules 0;
     from = from;
     to = to;
     sender_epoch = epoch;
     addressee_epoch = known;
+    match_number = 0;
+    life = 0;
   };
+  news = None;
   message = message;
 }
 
@@ -125,6 +132,7 @@ two frames window = record {
   window = window;
   seed = 0;
   wire = versions.One;
+  width = 2;
   masks = 0x000f ∷ 0xfff0 ∷ 0 ∷ 0 ∷ [];
   program = program;
 }
@@ -138,6 +146,7 @@ three = record {
   window = 12;
   seed = 0;
   wire = versions.One;
+  width = 2;
   masks = 0x000f ∷ 0xfff0 ∷ 0xffff ∷ 0 ∷ [];
   program = program;
 }
@@ -151,6 +160,7 @@ four = record {
   window = 8;
   seed = 0;
   wire = versions.One;
+  width = 2;
   masks = 0x000f ∷ 0xfff0 ∷ 0xffff ∷ 0xffff ∷ [];
   program = program;
 }
@@ -216,7 +226,7 @@ pub record GoesInTurn : Type 0 where
 abbrev pub stops : ℕ → ℕ → DiskOutcome → Bool → Line
 stops calls pick on_disk leaves = record {
   event = Stop (Tick 1 0x0020) calls pick;
-  happening = record { finds = false; opening = Stands; on_disk = on_disk; leaves = leaves };
+  happening = record { finds = false; drawn = 0; opening = Stands; on_disk = on_disk; leaves = leaves };
   answer = Stopped;
 }
 
@@ -378,10 +388,10 @@ pub record EndsAfterLastFrame : Type 0 where
 
 -- no peer is open, and player 1's disk holds a journal with only its HEAD
 abbrev pub with_head : List ℕ → ℕ → World
-with_head id room = with_peer (start (two 100 8)) 1 (record never_opened { journal = Head 1 0 id room ∷ [] })
+with_head id room = with_peer (start (two 100 8)) 1 (record never_opened { journal = Head 1 0 id room 0 ∷ [] })
 
 -- a journal of another game or room is refused, and does not change
 pub record RefusesOther (id : List ℕ) (room : ℕ) : Type 0 where
   pub end : World
   pub refused : CanHappen (two 100 8) 0 (with_head id room) (Do (Open 1)) (not_opened_for openings.WrongGame) end
-  pub stays : journal_of end 1 ≡ Head 1 0 id room ∷ []
+  pub stays : journal_of end 1 ≡ Head 1 0 id room 0 ∷ []

@@ -5,10 +5,11 @@ use Rattle.c8_peer.specs.Replies.{mode_told}
 use Rattle.c8_world.specs.declared.answer.Answer as codes
 use Rattle.c8_world.specs.declared.answer.Answer.TheVariants as answers
 use Rattle.c8_world.specs.declared.event.Event as asked
-use Rattle.c8_world.specs.World.{player_of, Event, act_inside, Answer, Told, IsUp, IsDown, NoSuch, Stopped, Watched, Spoken, Anew}
+use Rattle.c8_world.specs.World.{player_of, Event, act_inside, Answer, Told, IsUp, IsDown, NoSuch, Stopped, Watched, Spoken, Anew, Wiped}
 use Rattle.c8_world.specs.Events.{event_of}
 
--- after an answer of its own: a peer that was not asked keeps its mode, and a stopped one is away
+-- after an answer of its own: a peer that was not asked keeps its mode, and one that was stopped or lost its journal is
+-- away
 abbrev pub mode_answered : Mode → Answer → Mode
 mode_answered mode (Told reply) = mode_told reply
 mode_answered mode IsUp = mode
@@ -18,6 +19,7 @@ mode_answered mode Stopped = Away
 mode_answered mode (Watched result) = mode
 mode_answered mode (Spoken packet) = mode
 mode_answered mode Anew = mode
+mode_answered mode Wiped = Away
 
 -- a player's mode after an event, which may be another player's
 abbrev pub mode_after : ℕ → Mode → Event → Answer → Mode
@@ -49,6 +51,7 @@ mode_reported mode answers.Stopped = Away
 mode_reported mode (answers.Watched result) = mode
 mode_reported mode (answers.Spoken posted) = mode
 mode_reported mode answers.Anew = mode
+mode_reported mode answers.Wiped = Away
 
 -- a player's mode after a list of events
 abbrev pub reported_by : ℕ → Mode → List asked.Event → List codes.Answer → Mode

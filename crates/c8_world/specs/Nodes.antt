@@ -28,13 +28,13 @@ pub record IsPeerOf (rules : Rules) (room p : ℕ) (peer : PeerValue MemDisk) (s
   pub state_is : peer.state ≡ s
 
 -- each image that a crash may leave of a disk now has the journal of a state, with its pending record or without
-abbrev pub Tells : State → MemDisk → Type 0
-Tells s disk = (image : List ℕ) → images_of disk image → (finds : Bool) × Keeps (found s finds) image
+abbrev pub Tells : ℕ → State → MemDisk → Type 0
+Tells width s disk = (image : List ℕ) → images_of disk image → (finds : Bool) × Keeps width (found s finds) image
 
 -- A node with a peer is in its state; if the peer is away, its disk has the journal of the state.
 abbrev pub IsNode : Rules → ℕ → ℕ → Node → State → Type 0
 IsNode rules room p (nodes.Held peer) s = IsPeerOf rules room p peer s
-IsNode rules room p (nodes.Away disk) s = (s.mode ≡ Away) × Tells s disk
+IsNode rules room p (nodes.Away disk) s = (s.mode ≡ Away) × Tells rules.width s disk
 
 -- A call at a node: an open peer answers by its step, and is then in the step's state; a peer that is not open is not
 -- asked.
@@ -65,6 +65,7 @@ IsAsked rules room p s call answers.Stopped node = ⊥
 IsAsked rules room p s call (answers.Watched result) node = ⊥
 IsAsked rules room p s call (answers.Spoken posted) node = ⊥
 IsAsked rules room p s call answers.Anew node = ⊥
+IsAsked rules room p s call answers.Wiped node = ⊥
 
 -- Sending changes nothing at a node, and the first bytes spell the datagram.
 abbrev pub IsSaying : Rules → ℕ → State → Call → Result ℕ Unsayable → List ℕ → Type 0
@@ -76,15 +77,16 @@ abbrev pub IsSaidAt : Rules → ℕ → ℕ → State → Call → Option (Resul
 IsSaidAt rules room p s call None bytes = s.mode ≢ Open
 IsSaidAt rules room p s call (Some result) bytes = (s.mode ≡ Open) × IsSaying rules p s call result bytes
 
--- An opening at a node whose peer is not open. It ends in one of the ways that the definitions allow.
-pub record IsOpening (rules : Rules) (room p : ℕ) (s : State) (result : Result ℕ OpenError) (node : Node) : Type 0 where
+-- An opening at a node whose peer is not open, with a number for a new journal. It ends in one of the ways that the
+-- definitions allow.
+pub record IsOpening (rules : Rules) (room p drawn : ℕ) (s : State) (result : Result ℕ OpenError) (node : Node) : Type 0 where
   pub not_open : s.mode ≢ Open
   pub finds : Bool
   pub opening : Opening
   pub may : MayBecome rules room p (found s finds) opening
-  pub replies : (opened rules room p s (found s finds) opening).reply ≡ Opened result
-  pub node_is : IsNode rules room p node (opened rules room p s (found s finds) opening).state
+  pub replies : (opened rules room p drawn s (found s finds) opening).reply ≡ Opened result
+  pub node_is : IsNode rules room p node (opened rules room p drawn s (found s finds) opening).state
 
-abbrev pub IsOpenedNode : Rules → ℕ → ℕ → State → Option (Result ℕ OpenError) → Node → Type 0
-IsOpenedNode rules room p s None node = (s.mode ≡ Open) × IsNode rules room p node s
-IsOpenedNode rules room p s (Some result) node = IsOpening rules room p s result node
+abbrev pub IsOpenedNode : Rules → ℕ → ℕ → ℕ → State → Option (Result ℕ OpenError) → Node → Type 0
+IsOpenedNode rules room p drawn s None node = (s.mode ≡ Open) × IsNode rules room p node s
+IsOpenedNode rules room p drawn s (Some result) node = IsOpening rules room p drawn s result node

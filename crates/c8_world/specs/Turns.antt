@@ -1,5 +1,5 @@
 -- What each event of a run does to the nodes and their disks.
-use Rattle.std.specs.Prelude.{◌≡◌, ◌≢◌, ◌⊎◌, ℕ, List, [], ◌∷◌, ◌++◌, Option, Some, None, Result, Ok, Err}
+use Rattle.std.specs.Prelude.{◌≡◌, ◌≢◌, ◌⊎◌, ℕ, ◌+◌, length, List, [], ◌∷◌, ◌++◌, Option, Some, None, Result, Ok, Err}
 use Rattle.std.specs.List.{slice_get}
 use Rattle.c8_game.specs.Rules.{Rules}
 use Rattle.c8_wire.specs.checked.Read.{read}
@@ -7,7 +7,7 @@ use Rattle.c8_disk.specs.declared.disk.Arm.{Arm}
 use Rattle.c8_disk.specs.declared.disk.Arm.TheVariants as arms
 use Rattle.c8_disk.specs.declared.mem_disk.MemDisk.{MemDisk}
 use Rattle.c8_disk.specs.contracts.mem_disk.MemDiskDisk.TheImpl.{ghosts}
-use Rattle.c8_disk.specs.Memory.{bytes_of, images_of, synced_of, calls_allowed, value_of, with_arm}
+use Rattle.c8_disk.specs.Memory.{MemValue, bytes_of, images_of, synced_of, calls_allowed, value_of, with_arm}
 use Rattle.c8_known.specs.Journal.{epoch}
 use Rattle.c8_refusals.specs.declared.error.OpenError.{OpenError}
 use Rattle.c8_peer.specs.State.{Open as Up, Call, Tick, Deliver, Leave, Decide, Checkpoint, Reply, Ticked, Delivered, Left, Decided, Checked}
@@ -61,6 +61,7 @@ IsActedBy call answers.Stopped old new = ⊥
 IsActedBy call (answers.Watched result) old new = ⊥
 IsActedBy call (answers.Spoken posted) old new = ⊥
 IsActedBy call answers.Anew old new = ⊥
+IsActedBy call answers.Wiped old new = ⊥
 
 -- a delivery of the datagram with a number, if there is one
 abbrev pub IsGiven : Option (List ℕ) → codes.Answer → Node → Node → Type 0
@@ -73,25 +74,37 @@ answer_of None = answers.Up
 answer_of (Some result) = answers.Opened result
 
 -- What an opening with this answer does to a node, as the contract of the opening says.
-abbrev pub IsOpenedAt : Rules → ℕ → ℕ → codes.Answer → Node → Node → Type 0
-IsOpenedAt rules room p answers.Up old new = new ≡ old
-IsOpenedAt rules room p (answers.Opened (Ok number)) old (nodes.Held peer) =
-    IsOpened ghosts (disk_in old) rules room p peer × (number ≡ epoch peer.state.journal)
-IsOpenedAt rules room p (answers.Opened (Ok number)) old (nodes.Away disk) = ⊥
-IsOpenedAt rules room p (answers.Opened (Err error)) old (nodes.Held peer) = ⊥
-IsOpenedAt rules room p (answers.Opened (Err error)) old (nodes.Away disk) = IsRefusedOpening ghosts (disk_in old) rules room p error disk
-IsOpenedAt rules room p (answers.Ticked result) old new = ⊥
-IsOpenedAt rules room p (answers.Said result) old new = ⊥
-IsOpenedAt rules room p (answers.Delivered result) old new = ⊥
-IsOpenedAt rules room p answers.NoSuch old new = ⊥
-IsOpenedAt rules room p (answers.Left result) old new = ⊥
-IsOpenedAt rules room p (answers.Decided result) old new = ⊥
-IsOpenedAt rules room p (answers.Checked result) old new = ⊥
-IsOpenedAt rules room p answers.Down old new = ⊥
-IsOpenedAt rules room p answers.Stopped old new = ⊥
-IsOpenedAt rules room p (answers.Watched result) old new = ⊥
-IsOpenedAt rules room p (answers.Spoken posted) old new = ⊥
-IsOpenedAt rules room p answers.Anew old new = ⊥
+abbrev pub IsOpenedAt : Rules → ℕ → ℕ → ℕ → codes.Answer → Node → Node → Type 0
+IsOpenedAt rules room p drawn answers.Up old new = new ≡ old
+IsOpenedAt rules room p drawn (answers.Opened (Ok number)) old (nodes.Held peer) =
+    IsOpened ghosts (disk_in old) rules room p drawn peer × (number ≡ epoch peer.state.journal)
+IsOpenedAt rules room p drawn (answers.Opened (Ok number)) old (nodes.Away disk) = ⊥
+IsOpenedAt rules room p drawn (answers.Opened (Err error)) old (nodes.Held peer) = ⊥
+IsOpenedAt rules room p drawn (answers.Opened (Err error)) old (nodes.Away disk) = IsRefusedOpening ghosts (disk_in old) rules room p drawn error disk
+IsOpenedAt rules room p drawn (answers.Ticked result) old new = ⊥
+IsOpenedAt rules room p drawn (answers.Said result) old new = ⊥
+IsOpenedAt rules room p drawn (answers.Delivered result) old new = ⊥
+IsOpenedAt rules room p drawn answers.NoSuch old new = ⊥
+IsOpenedAt rules room p drawn (answers.Left result) old new = ⊥
+IsOpenedAt rules room p drawn (answers.Decided result) old new = ⊥
+IsOpenedAt rules room p drawn (answers.Checked result) old new = ⊥
+IsOpenedAt rules room p drawn answers.Down old new = ⊥
+IsOpenedAt rules room p drawn answers.Stopped old new = ⊥
+IsOpenedAt rules room p drawn (answers.Watched result) old new = ⊥
+IsOpenedAt rules room p drawn (answers.Spoken posted) old new = ⊥
+IsOpenedAt rules room p drawn answers.Anew old new = ⊥
+IsOpenedAt rules room p drawn answers.Wiped old new = ⊥
+
+-- Its peer is gone, and its disk is empty. The disk serves as many calls as a new one, and none is to fail.
+abbrev pub emptied : MemValue → MemValue
+emptied v = record v { bytes = []; first = []; calls = []; left = v.allowed; arm = arms.Off }
+
+abbrev pub IsEmptied : Node → Node → Type 0
+IsEmptied old new = (disk : MemDisk) × (new ≡ nodes.Away disk) × (value_of disk ≡ emptied (value_of (disk_in old)))
+
+-- The loss of a journal, with this answer.
+abbrev pub IsEmptiedAt : codes.Answer → Node → Node → Type 0
+IsEmptiedAt answer old new = ((answer ≡ answers.Wiped) × IsEmptied old new) ⊎ ((answer ≢ answers.Wiped) × (new ≡ old))
 
 abbrev pub IsSameNode : Node → Node → Type 0
 IsSameNode old new = new ≡ old
@@ -117,6 +130,10 @@ OfNodes P (Some old) (Some new) = P old new
 
 -- ---- a table
 
+-- the number that an opening draws: one more than there are lost journals
+abbrev pub next_life : TableValue → ℕ
+next_life t = length t.lost + 1
+
 -- the nodes of all players but one do not change
 abbrev pub OthersStay : ℕ → TableValue → TableValue → Type 0
 OthersStay player old new = (p : ℕ) → IsPlayer old.rules p → p ≢ player → node_of new p ≡ node_of old p
@@ -129,8 +146,8 @@ pub record IsMove (player : ℕ) (P : Node → Node → Type 0) (old new : Table
 
 -- What an act with this answer does to its player's node; sending does nothing to it, and a watcher has none.
 abbrev pub IsActed : TableValue → code.Act → codes.Answer → Node → Node → Type 0
-IsActed t (acts.Open player) answer = IsOpenedAt t.rules t.room player.number answer
-IsActed t (acts.Tick player keys) answer = IsActedBy (Tick keys.0) answer
+IsActed t (acts.Open player) answer = IsOpenedAt t.rules t.room player.number (next_life t) answer
+IsActed t (acts.Tick player input) answer = IsActedBy (Tick input) answer
 IsActed t (acts.Say player to what) answer = IsSameNode
 IsActed t (acts.Give number player) answer = IsGiven (slice_get t.pool number) answer
 IsActed t (acts.Leave leaver) answer = IsActedBy (Leave leaver.number) answer
@@ -140,6 +157,7 @@ IsActed t (acts.Show watcher) answer = IsSameNode
 IsActed t (acts.Hear number watcher) answer = IsSameNode
 IsActed t (acts.Seen watcher) answer = IsSameNode
 IsActed t (acts.Fresh watcher) answer = IsSameNode
+IsActed t (acts.Wipe player) answer = IsEmptiedAt answer
 
 -- An act has happened, with this answer.
 pub record IsCarriedOut (act : code.Act) (answer : codes.Answer) (old new : TableValue) : Type 0 where

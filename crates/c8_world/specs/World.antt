@@ -1,12 +1,13 @@
--- All peers of one match, everything that they ever sent, and what one event does to them.
-use Rattle.std.specs.Prelude.{◌≡◌, ℕ, ◌^◌, ◌-◌, ◌<◌, ◌==◌, ◌&&◌, List, [], ◌∷◌, ◌++◌, replicate, slice_index_or, slice_set, nat_le, Bool}
+-- All peers of a game, everything that they ever sent, the journals that they lost, and what one event does to them.
+use Rattle.std.specs.Prelude.{◌≡◌, ◌≢◌, ◌⊎◌, ℕ, ◌^◌, ◌-◌, ◌<◌, ◌==◌, ◌&&◌, List, [], ◌∷◌, ◌++◌, replicate, slice_index_or, slice_set, nat_le, Bool}
 use Rattle.std.specs.Prelude.{true, false, Option, Some, None, Result, Ok, Err, if◌then◌else◌}
 use Rattle.std.specs.List.{slice_get}
 use Rattle.c8_game.specs.Rules.{Rules}
 use Rattle.c8_game.specs.declared.row.Row.{Row}
 use Rattle.c8_wire.specs.Seats.{is_watcher}
+use Rattle.c8_wire.specs.Format.{has_lives}
 use Rattle.c8_wire.specs.Packet.{Packet}
-use Rattle.c8_known.specs.Journal.{Record}
+use Rattle.c8_known.specs.Journal.{Record, life_of}
 use Rattle.c8_known.specs.Known.{KnownValue, known_of}
 use Rattle.c8_refusals.specs.declared.error.OpenError.TheVariants as opens
 use Rattle.c8_peer.specs.Runs.{never_opened}
@@ -16,20 +17,34 @@ use Rattle.c8_spectator.specs.declared.taken.Taken.{Taken}
 use Rattle.c8_spectator.specs.Watching.{WatchValue, Watched as HeardWatch, hear, seen}
 use Rattle.c8_peer.specs.State.{Mode, Down, Away, State, Saying, Call, Reply, Opened, Ticked, Delivered, Said, Left, Decided, Checked}
 use Rattle.c8_peer.specs.Steps.{DiskOutcome, Stepped, step}
-use Rattle.c8_peer.specs.Opening.{Opening, found, opened, away, MayBecome}
+use Rattle.c8_peer.specs.Opening.{Opening, found, opened, away, MayDraw, MayBecome}
 
 -- ---- the world
 
--- each player's peer, player 1 first, every datagram that was sent, numbered from 0, and the rows of the watchers in
--- seats 5 and 6
+-- a journal that a player's disk had, and lost
+pub record Lost : Type 0 where
+  pub player : ℕ
+  pub journal : List Record
+
+-- the rows that a watcher has taken, and the match that they are of, 0 for none
+pub record Sight : Type 0 where
+  pub match_number : ℕ
+  pub rows : List Row
+
+abbrev pub no_sight : Sight
+no_sight = record { match_number = 0; rows = [] }
+
+-- each player's peer, player 1 first, the journals that disks have lost, oldest first, every datagram that was sent,
+-- numbered from 0, and what the watchers in seats 5 and 6 have seen
 pub record World : Type 0 where
   pub peers : List State
+  pub lost : List Lost
   pub said : List Packet
-  pub five : List Row
-  pub six : List Row
+  pub five : Sight
+  pub six : Sight
 
 abbrev pub start : Rules → World
-start rules = record { peers = replicate rules.players never_opened; said = []; five = []; six = [] }
+start rules = record { peers = replicate rules.players never_opened; lost = []; said = []; five = no_sight; six = no_sight }
 
 abbrev pub is_player : Rules → ℕ → Bool
 is_player rules p = nat_le 1 p && nat_le p rules.players
@@ -48,23 +63,43 @@ known_by rules w p = known_of rules p (journal_of w p)
 abbrev pub with_peer : World → ℕ → State → World
 with_peer w p s = record w { peers = slice_set w.peers (p - 1) s }
 
--- the rows of the watcher in a seat
+-- what the watcher in a seat has seen, and its rows
+abbrev pub sight_of : World → ℕ → Sight
+sight_of w watcher = if watcher == 5 then w.five else (if watcher == 6 then w.six else no_sight)
+
 abbrev pub rows_of : World → ℕ → List Row
-rows_of w watcher = if watcher == 5 then w.five else (if watcher == 6 then w.six else [])
+rows_of w watcher = (sight_of w watcher).rows
 
 -- that watcher's value
 abbrev pub watch_of : Rules → ℕ → World → ℕ → WatchValue
-watch_of rules room w watcher = record { rules = rules; room = room; seat = watcher; rows = rows_of w watcher }
+watch_of rules room w watcher = record {
+  rules = rules;
+  room = room;
+  seat = watcher;
+  match_number = (sight_of w watcher).match_number;
+  rows = rows_of w watcher;
+}
 
--- the same except for one watcher's rows
-abbrev pub with_rows : World → ℕ → List Row → World
-with_rows w watcher rows = record w { five = if watcher == 5 then rows else w.five; six = if watcher == 6 then rows else w.six }
+-- the same except for what one watcher has seen
+abbrev pub with_sight : World → ℕ → Sight → World
+with_sight w watcher sight = record w { five = if watcher == 5 then sight else w.five; six = if watcher == 6 then sight else w.six }
+
+abbrev pub sight_in : WatchValue → Sight
+sight_in watch = record { match_number = watch.match_number; rows = watch.rows }
+
+-- a journal that a player's disk has lost, and any that it has or had
+abbrev pub IsLost : List Lost → ℕ → List Record → Type 0
+IsLost [] p journal = ⊥
+IsLost (one ∷ lost) p journal = ((one.player ≡ p) × (one.journal ≡ journal)) ⊎ IsLost lost p journal
+
+abbrev pub IsLife : World → ℕ → List Record → Type 0
+IsLife w p journal = (journal ≡ journal_of w p) ⊎ IsLost w.lost p journal
 
 -- ---- events
 
 pub data Act : Type 0 where
   Open : (player : ℕ) → Act
-  Tick : (player : ℕ) → (keys : ℕ) → Act
+  Tick : (player : ℕ) → (input : ℕ) → Act
   Say : (player : ℕ) → (to : ℕ) → (what : Saying) → Act
   -- the datagram with a number is delivered to a player
   Give : (number : ℕ) → (player : ℕ) → Act
@@ -81,6 +116,8 @@ pub data Act : Type 0 where
   Seen : (watcher : ℕ) → Act
   -- a watcher starts over
   Fresh : (watcher : ℕ) → Act
+  -- a player's disk loses its journal
+  Wipe : (player : ℕ) → Act
 
 -- An act; or an act inside which the player stops: the disk serves that many calls, and the image that a crash then
 -- leaves is picked. By these definitions any crash may follow; the two numbers only steer a real disk.
@@ -91,7 +128,7 @@ pub data Event : Type 0 where
 -- who acts, by its seat: a player, or a watcher, for which stops and failures of disks do nothing
 abbrev pub player_of : Act → ℕ
 player_of (Open player) = player
-player_of (Tick player keys) = player
+player_of (Tick player input) = player
 player_of (Say player to what) = player
 player_of (Give number player) = player
 player_of (Leave leaver) = 1
@@ -101,17 +138,21 @@ player_of (Show watcher) = 1
 player_of (Hear number watcher) = watcher
 player_of (Seen watcher) = watcher
 player_of (Fresh watcher) = watcher
+player_of (Wipe player) = player
 
 -- what the disk did in an event: whether a read found the pending record, how an opening ended, whether the record was
--- taken, and whether a crash left the pending record; an event uses only what it needs
+-- taken, and whether a crash left the pending record; and the number that an opening draws for a new journal. An event
+-- uses only what it needs.
 pub record Happening : Type 0 where
   pub finds : Bool
+  pub drawn : ℕ
   pub opening : Opening
   pub on_disk : DiskOutcome
   pub leaves : Bool
 
 -- the answer: the peer's reply; or that it is open already, that it is not open, that there is no such datagram, or
--- that it was stopped; or what a watcher answers to a datagram, what it sends, or that it starts over
+-- that it was stopped; or what a watcher answers to a datagram, what it sends, or that it starts over; or that the disk
+-- is empty
 pub data Answer : Type 0 where
   Told : Reply → Answer
   IsUp : Answer
@@ -121,6 +162,7 @@ pub data Answer : Type 0 where
   Watched : Result Taken NotTaken → Answer
   Spoken : Packet → Answer
   Anew : Answer
+  Wiped : Answer
 
 pub record After : Type 0 where
   pub answer : Answer
@@ -154,8 +196,8 @@ call_at rules w p call on_disk = if is_player rules p then call_at_mode rules w 
 
 abbrev pub open_at_mode : Rules → ℕ → World → ℕ → Happening → Mode → After
 open_at_mode rules room w p h calls.Open = record { answer = IsUp; world = w }
-open_at_mode rules room w p h Down = stepped w p (opened rules room p (peer_of w p) (found (peer_of w p) h.finds) h.opening)
-open_at_mode rules room w p h Away = stepped w p (opened rules room p (peer_of w p) (found (peer_of w p) h.finds) h.opening)
+open_at_mode rules room w p h Down = stepped w p (opened rules room p h.drawn (peer_of w p) (found (peer_of w p) h.finds) h.opening)
+open_at_mode rules room w p h Away = stepped w p (opened rules room p h.drawn (peer_of w p) (found (peer_of w p) h.finds) h.opening)
 
 abbrev pub open_at : Rules → ℕ → World → ℕ → Happening → After
 open_at rules room w p h =
@@ -167,11 +209,24 @@ give_to rules w p on_disk None = record { answer = NoSuch; world = w }
 give_to rules w p on_disk (Some packet) = call_at rules w p (calls.Deliver (Ok packet)) on_disk
 
 abbrev pub heard_by : World → ℕ → HeardWatch → After
-heard_by w watcher heard = record { answer = Watched heard.answer; world = with_rows w watcher heard.watch.rows }
+heard_by w watcher heard = record { answer = Watched heard.answer; world = with_sight w watcher (sight_in heard.watch) }
 
 abbrev pub hear_at : Rules → ℕ → World → ℕ → Option Packet → After
 hear_at rules room w watcher None = record { answer = NoSuch; world = w }
 hear_at rules room w watcher (Some packet) = heard_by w watcher (hear (watch_of rules room w watcher) (Ok packet))
+
+-- A player's disk has lost its journal: its peer was never opened, as far as the disk tells.
+abbrev pub wiped : World → ℕ → World
+wiped w p = record w {
+  peers = slice_set w.peers (p - 1) never_opened;
+  lost = w.lost ++ record { player = p; journal = journal_of w p } ∷ [];
+}
+
+-- This happens in version 3 alone: in versions 1 and 2 each disk is empty at first, and never again.
+abbrev pub wipe_at : Rules → World → ℕ → After
+wipe_at rules w p = if is_player rules p then (if has_lives rules.wire then record { answer = Wiped; world = wiped w p } else
+    record { answer = NoSuch; world = w }) else
+    record { answer = IsDown; world = w }
 
 -- the datagram that a watcher sends
 abbrev pub seen_by_watcher : Rules → ℕ → World → ℕ → Packet
@@ -179,7 +234,7 @@ seen_by_watcher rules room w watcher = seen (watch_of rules room w watcher)
 
 unfoldable pub acted : Rules → ℕ → World → Act → Happening → After
 acted rules room w (Open p) h = open_at rules room w p h
-acted rules room w (Tick p keys) h = call_at rules w p (calls.Tick keys) h.on_disk
+acted rules room w (Tick p input) h = call_at rules w p (calls.Tick input) h.on_disk
 acted rules room w (Say p to what) h = call_at rules w p (calls.Say to what) h.on_disk
 acted rules room w (Give number p) h = give_to rules w p h.on_disk (slice_get w.said number)
 acted rules room w (Leave leaver) h = call_at rules w 1 (calls.Leave leaver) h.on_disk
@@ -191,7 +246,8 @@ acted rules room w (Seen watcher) h = record {
   answer = Spoken (seen_by_watcher rules room w watcher);
   world = record w { said = w.said ++ seen_by_watcher rules room w watcher ∷ [] };
 }
-acted rules room w (Fresh watcher) h = record { answer = Anew; world = with_rows w watcher [] }
+acted rules room w (Fresh watcher) h = record { answer = Anew; world = with_sight w watcher no_sight }
+acted rules room w (Wipe p) h = wipe_at rules w p
 
 -- a crash makes a peer away, with the journal that a read of its disk finds
 abbrev pub crashed : Rules → World → ℕ → Bool → World
@@ -205,10 +261,17 @@ after rules room w (Stop act calls pick) h =
 
 -- ---- what can happen
 
--- keys are a set of 16 keys, an opening ends in one of the ways that it may, and watchers sit in seats 5 and 6
+-- In version 3 an opening draws a number for a new journal, which no journal had that the player's disk has lost.
+pub record IsNewLife (rules : Rules) (w : World) (p drawn : ℕ) : Type 0 where
+  pub may : MayDraw rules drawn
+  pub new : (journal : List Record) → IsLost w.lost p journal → life_of journal ≢ drawn
+
+-- An input has 64 bits, an opening ends in one of the ways that it may and draws a new life, and watchers sit in seats 5
+-- and 6.
 abbrev pub MayAct : Rules → ℕ → World → Act → Happening → Type 0
-MayAct rules room w (Open p) h = is_player rules p ≡ true → MayBecome rules room p (found (peer_of w p) h.finds) h.opening
-MayAct rules room w (Tick p keys) h = keys < 2 ^ 16
+MayAct rules room w (Open p) h = is_player rules p ≡ true
+    → MayBecome rules room p (found (peer_of w p) h.finds) h.opening × IsNewLife rules w p h.drawn
+MayAct rules room w (Tick p input) h = input < 2 ^ 64
 MayAct rules room w (Say p to what) h = Unit {0}
 MayAct rules room w (Give number p) h = Unit {0}
 MayAct rules room w (Leave leaver) h = Unit {0}
@@ -218,6 +281,7 @@ MayAct rules room w (Show watcher) h = is_watcher watcher ≡ true
 MayAct rules room w (Hear number watcher) h = is_watcher watcher ≡ true
 MayAct rules room w (Seen watcher) h = is_watcher watcher ≡ true
 MayAct rules room w (Fresh watcher) h = is_watcher watcher ≡ true
+MayAct rules room w (Wipe p) h = Unit {0}
 
 abbrev pub act_inside : Event → Act
 act_inside (Do act) = act

@@ -30,7 +30,7 @@ pub enum Answer {
     Ticked(Result<Counts, TickError>),
     Said(Result<Posted, Unsayable>),
     Delivered(Result<Heard, Refused>),
-    /// No datagram with this number was sent.
+    /// No datagram with this number was sent, or a disk was to lose its journal in version 1 or 2, where none is lost.
     NoSuch,
     Left(Result<(), LeaveError>),
     /// The length at which the leaver's list is cut.
@@ -43,6 +43,8 @@ pub enum Answer {
     Spoken(Posted),
     /// A watcher has started over.
     Anew,
+    /// The player's journal is lost.
+    Wiped,
     /// The peer is down or away, or the game has no such player. An `Open` of a player who is not in the game gives its
     /// own error instead.
     Down,

@@ -2,7 +2,7 @@
 ghost use Rattle.std.specs.Prelude.{◌≡◌, ◌≤◌, ◌<◌, ◌↔◌, true, length, map, IfOk};
 ghost use Rattle.c8_known.specs.Known.{player_in};
 ghost use Rattle.c8_known.specs.Confirmed.{confirmed, row};
-ghost use Rattle.c8_world.specs.Ends.{known_at, held_of, tally_of, tally_at, AreSameRows, HasStayedAt, AgreesWith, AgreesWithAll, HaveAgreed};
+ghost use Rattle.c8_world.specs.Ends.{known_at, match_in, held_of, tally_of, tally_at, AreSameRows, HasStayedAt, AgreesWith, AgreesWithAll, HaveAgreed};
 
 use c8_disk::MemDisk;
 use c8_game::{MOST_PLAYERS, Player, Row};
@@ -26,11 +26,11 @@ pub struct Ends {
     pub agree: bool,
 }
 
-/// What a player knows: from its peer, or from a read of its disk.
+/// What a player knows: from its peer, or from a read of its disk. That has the match too, 0 for none.
 #[derive(Drop)]
 pub enum Standing<'w, 'g> {
     Held(&'w Peer<'g, MemDisk>),
-    Read(Known),
+    Read(Known, u64),
 }
 
 impl<'w, 'g> Standing<'w, 'g> {
@@ -55,7 +55,7 @@ impl<'w, 'g> Standing<'w, 'g> {
     {
         match self {
             Standing::Held(peer) => peer.now(),
-            Standing::Read(known) => known.ticks(),
+            Standing::Read(known, _) => known.ticks(),
         }
     }
 
@@ -65,7 +65,7 @@ impl<'w, 'g> Standing<'w, 'g> {
     {
         match self {
             Standing::Held(peer) => peer.confirmed(),
-            Standing::Read(known) => known.confirmed(),
+            Standing::Read(known, _) => known.confirmed(),
         }
     }
 
@@ -75,7 +75,7 @@ impl<'w, 'g> Standing<'w, 'g> {
     {
         match self {
             Standing::Held(peer) => peer.count(player),
-            Standing::Read(known) => {
+            Standing::Read(known, _) => {
                 if player.number > known.players() {
                     return 0;
                 }
@@ -90,7 +90,17 @@ impl<'w, 'g> Standing<'w, 'g> {
     {
         match self {
             Standing::Held(peer) => peer.leaving(player),
-            Standing::Read(known) => player.number <= known.players() && known.leaving(player),
+            Standing::Read(known, _) => player.number <= known.players() && known.leaving(player),
+        }
+    }
+
+    /// Returns the match that the player's journal is of, 0 if none.
+    fn match_number(&self) -> u64
+        ensures { result ≡ match_in self.now }
+    {
+        match self {
+            Standing::Held(peer) => peer.match_number(),
+            Standing::Read(_, match_number) => *match_number,
         }
     }
 
@@ -101,7 +111,7 @@ impl<'w, 'g> Standing<'w, 'g> {
     {
         match self {
             Standing::Held(peer) => peer.rows().row(frame),
-            Standing::Read(known) => known.row(frame),
+            Standing::Read(known, _) => known.row(frame),
         }
     }
 
@@ -119,8 +129,8 @@ impl<'w, 'g> Standing<'w, 'g> {
     }
 }
 
-/// Returns whether every two players that player 1 has not dropped have the same rows, up to the frames that both count
-/// as confirmed. `standings` has one item for each player of a match, player 1's first. [`crate::World::ends`] does
+/// Returns whether every two players of player 1's match that it has not dropped have the same rows, up to the frames
+/// that both count as confirmed. `standings` has one item for each player of a match, player 1's first. [`crate::World::ends`] does
 /// this for a world; call it yourself if you have the peers of a match.
 pub fn all_agree(standings: &[Standing<'_, '_>]) -> bool
     requires few { length standings.now ≤ 4 }
@@ -148,7 +158,7 @@ fn agrees_with_all(standings: &[Standing<'_, '_>], place: usize) -> bool
     true
 }
 
-/// Returns whether two players have the same rows, or player 1 has dropped one of them.
+/// Returns whether two players have the same rows, or player 1 has dropped one of them or is in another match.
 fn agrees_with(standings: &[Standing<'_, '_>], place: usize, other: usize) -> bool
     requires few { length standings.now ≤ 4 }
     requires within { place < length standings.now }
@@ -161,14 +171,17 @@ fn agrees_with(standings: &[Standing<'_, '_>], place: usize, other: usize) -> bo
     standings[place].agrees(&standings[other])
 }
 
-/// Returns whether player 1 has not dropped the player at a place.
+/// Returns whether player 1 has not dropped the player at a place, and is in the same match.
 fn stays(standings: &[Standing<'_, '_>], place: usize) -> bool
     requires few { length standings.now ≤ 4 }
     requires within { place < length standings.now }
     ensures { (result ≡ true) ↔ HasStayedAt standings.now place }
 {
     match Player::new(place as u8 + 1) {
-        Some(player) => !standings[0].leaving(player),
+        Some(player) => {
+            !standings[0].leaving(player)
+                && standings[place].match_number() == standings[0].match_number()
+        }
         None => unreachable!(),
     }
 }

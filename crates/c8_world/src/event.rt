@@ -1,7 +1,7 @@
 //! What can happen to the peers of a world.
 ghost use Rattle.std.specs.Prelude.{◌≡◌};
 
-use c8_game::{Keys, Player};
+use c8_game::{Input, Player};
 use c8_peer::Kind;
 use c8_wire::{Seat, Watcher};
 
@@ -10,8 +10,8 @@ use c8_wire::{Seat, Watcher};
 pub enum Act {
     /// Opens the player's peer on its disk. A peer that is down is closed first.
     Open(Player),
-    /// Enters a key set.
-    Tick(Player, Keys),
+    /// Enters an input.
+    Tick(Player, Input),
     /// Sends a datagram to another player; the sender comes first.
     Say(Player, Player, Kind),
     /// Delivers the datagram with this number, counted from 0, to a player.
@@ -30,6 +30,8 @@ pub enum Act {
     Seen(Watcher),
     /// A watcher starts over, without rows.
     Fresh(Watcher),
+    /// A player's disk loses its journal, in version 3 alone: its peer is gone, and the disk is empty.
+    Wipe(Player),
 }
 
 /// An act. Its player may stop inside it, or its disk may fail once.
@@ -55,7 +57,7 @@ impl Act {
     {
         match self {
             Act::Open(player) | Act::Tick(player, _) | Act::Say(player, _, _) => Seat::from(player),
-            Act::Give(_, player) | Act::Check(player) => Seat::from(player),
+            Act::Give(_, player) | Act::Check(player) | Act::Wipe(player) => Seat::from(player),
             Act::Leave(_) | Act::Decide(_) | Act::Show(_) => Seat::from(Player::CHAIR),
             Act::Hear(_, watcher) | Act::Seen(watcher) | Act::Fresh(watcher) => Seat::from(watcher),
         }

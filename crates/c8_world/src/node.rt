@@ -1,22 +1,22 @@
 //! One player's place in a world: its peer, or the disk of a peer that is away.
-ghost use Rattle.std.specs.Prelude.{◌≡◌, ◌≤◌, ◌↔◌, ℕ, [], ◌∷◌, Bool, true, Some, Err, IfSome, IfOk};
+ghost use Rattle.std.specs.Prelude.{◌≡◌, ◌≢◌, ◌≤◌, ◌↔◌, ℕ, [], ◌∷◌, Bool, true, Some, Err, IfSome, IfOk};
 ghost use Rattle.c8_game.specs.Rules.{Rules};
 ghost use Rattle.c8_record.specs.Allowed.{IsJournal};
 ghost use Rattle.c8_peer.specs.Opening.{found};
 ghost use Rattle.c8_peer.specs.State as states;
 ghost use Rattle.c8_peer.specs.State.{State};
 ghost use Rattle.c8_peer.specs.Asked.{saying_of};
-ghost use Rattle.c8_peer.specs.Runs.{crashed};
+ghost use Rattle.c8_peer.specs.Runs.{crashed, never_opened};
 ghost use Rattle.c8_wire.specs.checked.Read.{read};
 ghost use Rattle.c8_world.specs.Nodes.{IsNode, IsAsked, IsOpenedNode, IsSaidAt, Tells};
 ghost use Rattle.c8_world.specs.Ends.{IsStanding};
 ghost use Rattle.c8_world.specs.Disks.{setting_of, setting_of_disk, armed, disk_in, image_in};
-ghost use Rattle.c8_world.specs.Turns.{answer_of, IsActedBy, IsOpenedAt, IsSpared, IsTold, IsNodeCrash};
+ghost use Rattle.c8_world.specs.Turns.{answer_of, IsActedBy, IsOpenedAt, IsSpared, IsTold, IsNodeCrash, IsEmptied};
 
 use crate::answer::{Answer, Counts};
 use crate::ends::Standing;
 use c8_disk::{Arm, Disk, MemDisk};
-use c8_game::{Game, Keys, Player};
+use c8_game::{Game, Input, Player};
 use c8_known::Known;
 use c8_peer::laws::{openings_are_deeds, what_disks_tell};
 use c8_peer::{Kind, OpenError, Peer, Unsayable};
@@ -33,19 +33,22 @@ pub enum Node<'g> {
 }
 
 impl<'g> Node<'g> {
-    /// Opens the peer. Answers `None` if it is open already.
+    /// Opens the peer. A new journal gets the number `drawn` as its life, in version 3. Answers `None` if it is open
+    /// already.
     pub(crate) fn open(
         self,
         alloc: Global,
         game: &'g Game,
         player: Player,
         room: u64,
+        drawn: u64,
     ) -> (Node<'g>, Option<Result<u32, OpenError>>)
+        requires some { drawn ≢ 0 }
         ensures opened { (s : State) → player.number ≤ game.entry.now.players
             → IsNode game.entry.now room player.number self.entry s
             → ((finds : Bool) → IsJournal game.entry.now player.number room (found s finds))
-            → IsOpenedNode game.entry.now room player.number s result.1 result.0 }
-        ensures turn { IsOpenedAt game.entry.now room player.number (answer_of result.1)
+            → IsOpenedNode game.entry.now room player.number drawn s result.1 result.0 }
+        ensures turn { IsOpenedAt game.entry.now room player.number drawn (answer_of result.1)
             self.entry result.0 }
         ensures spared { result.1 ≡ Some (Err OpenError.Memory) → IsSpared self.entry result.0 }
         ensures setting { setting_of (Some result.0) ≡ setting_of (Some self.entry) }
@@ -56,7 +59,7 @@ impl<'g> Node<'g> {
         openings_are_deeds::<MemDisk>();
         bodies_are_the_spellings();
         let disk = self.into_disk();
-        match Peer::open(alloc, disk, game, player, room) {
+        match Peer::open(alloc, disk, game, player, room, drawn) {
             Ok(peer) => {
                 let epoch = peer.epoch();
                 (Node::Held(peer), Some(Ok(epoch)))
@@ -65,11 +68,11 @@ impl<'g> Node<'g> {
         }
     }
 
-    /// Enters a key set. Answers `Down` if the peer is not open, as do the calls below.
-    pub(crate) fn tick(&mut self, keys: Keys) -> Answer
+    /// Enters an input. Answers `Down` if the peer is not open, as do the calls below.
+    pub(crate) fn tick(&mut self, input: Input) -> Answer
         ensures asked { (rules : Rules) (room p : ℕ) (s : State) → IsNode rules room p self.old s
-            → IsAsked rules room p s (states.Tick keys.0) result self.new }
-        ensures turn { IsActedBy (states.Tick keys.0) result self.old self.new }
+            → IsAsked rules room p s (states.Tick input) result self.new }
+        ensures turn { IsActedBy (states.Tick input) result self.old self.new }
         ensures setting { setting_of (Some self.new) ≡ setting_of (Some self.old) }
     {
         match self {
@@ -77,7 +80,7 @@ impl<'g> Node<'g> {
                 if peer.is_down() {
                     return Answer::Down;
                 }
-                match peer.tick(keys) {
+                match peer.tick(input) {
                     Ok(()) => Answer::Ticked(Ok(Counts {
                         now: peer.now(),
                         confirmed: peer.confirmed(),
@@ -228,6 +231,15 @@ impl<'g> Node<'g> {
         Node::Away(self.into_disk().crash(pick))
     }
 
+    /// Empties the disk. The peer is gone.
+    pub(crate) fn wipe(self) -> Node<'g>
+        ensures wiped { (rules : Rules) (room p : ℕ) → IsNode rules room p result never_opened }
+        ensures emptied { IsEmptied self.entry result }
+        ensures setting { setting_of (Some result) ≡ setting_of (Some self.entry) }
+    {
+        Node::Away(self.into_disk().wipe())
+    }
+
     /// Returns whether the node has a peer that is open.
     fn is_up(&self) -> bool
         ensures { (rules : Rules) (room p : ℕ) (s : State) → IsNode rules room p self.now s
@@ -242,7 +254,7 @@ impl<'g> Node<'g> {
     /// Returns the disk, from which an opening reads the journal.
     fn into_disk(self) -> MemDisk
         ensures tells { (rules : Rules) (room p : ℕ) (s : State) → IsNode rules room p self.entry s
-            → Tells s result }
+            → Tells rules.width s result }
         ensures disk { result ≡ disk_in self.entry }
         ensures setting { setting_of_disk result ≡ setting_of (Some self.entry) }
     {
@@ -283,9 +295,16 @@ impl<'g> Node<'g> {
             Node::Held(peer) => Ok(Standing::Held(peer)),
             Node::Away(disk) => {
                 let mut known = Known::new(alloc, game, player)?;
-                // The replay never refuses this journal, so its result is dropped.
-                let _ = replay_bytes(disk.bytes(), game, room, &mut known, &mut Checks::new());
-                Ok(Standing::Read(known))
+                let read = replay_bytes(disk.bytes(), game, room, &mut known, &mut Checks::new());
+                let Ok(numbers) = read else {
+                    unreachable!();
+                };
+                let match_number = if player == Player::CHAIR {
+                    numbers.life
+                } else {
+                    numbers.met[0]
+                };
+                Ok(Standing::Read(known, match_number))
             }
         }
     }

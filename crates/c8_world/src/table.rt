@@ -1,5 +1,5 @@
 //! All nodes of a match and all datagrams that were sent, and what an event does to them.
-ghost use Rattle.std.specs.Prelude.{◌≡◌, ◌≤◌, ◌<◌, ◌+◌, ◌^◌, ℕ, [], ◌∷◌, Bool, true, is_some, Some, IfOk, IfErr, IfSome, vec_len, length, MatchOption};
+ghost use Rattle.std.specs.Prelude.{◌≡◌, ◌≢◌, map, ◌≤◌, ◌<◌, ◌+◌, ◌^◌, ℕ, [], ◌∷◌, Bool, true, is_some, Some, IfOk, IfErr, IfSome, vec_len, length, MatchOption};
 ghost use Rattle.std.specs.List.{slice_get};
 ghost use Rattle.c8_game.specs.Rules.{Rules, AreInRange};
 ghost use Rattle.c8_record.specs.Allowed.{IsJournal};
@@ -7,14 +7,14 @@ ghost use Rattle.c8_peer.specs.State.{State};
 ghost use Rattle.c8_peer.specs.Opening.{found};
 ghost use Rattle.c8_peer.specs.Runs.{crashed};
 ghost use Rattle.c8_peer.specs.Asked.{saying_of};
-ghost use Rattle.c8_world.specs.World.{World, act_inside, peer_of, player_of, start, Open, Tick, Say, Give, Leave, Decide, Check, Show, Hear, Seen, Fresh, Do, Stop};
+ghost use Rattle.c8_world.specs.World.{World, act_inside, peer_of, player_of, start, Open, Tick, Say, Give, Leave, Decide, Check, Show, Hear, Seen, Fresh, Wipe, Do, Stop};
 ghost use Rattle.c8_world.specs.Events.{act_of, event_of};
 ghost use Rattle.c8_disk.specs.declared.disk.Arm.TheVariants as arms;
 ghost use Rattle.c8_world.specs.Agreement.{IsPlayer};
 ghost use Rattle.c8_world.specs.Disks.{setting_of, KeepSettings, AreArmed, for_player, arms_by, arms_taken_back, IsNewDisk, image_in};
 ghost use Rattle.c8_peer.specs.State as calls;
 ghost use Rattle.c8_wire.specs.checked.Read.{read};
-ghost use Rattle.c8_world.specs.Turns.{IsActedBy, IsGiven, IsOpenedAt, IsSameNode, IsSpared, IsNodeCrash, OfNodes, IsMove, IsCarriedOut, IsNotCarriedOut, IsArmed, IsCrashed, IsFailure, IsTakenBack, IsTurn, IsTurnOut};
+ghost use Rattle.c8_world.specs.Turns.{IsActedBy, IsGiven, IsOpenedAt, IsSameNode, IsSpared, IsNodeCrash, IsEmptied, IsEmptiedAt, next_life, OfNodes, IsMove, IsCarriedOut, IsNotCarriedOut, IsArmed, IsCrashed, IsFailure, IsTakenBack, IsTurn, IsTurnOut};
 ghost use Rattle.c8_world.specs.declared.event.Event.TheVariants as happenings;
 ghost use Rattle.c8_world.specs.Ends.{IsStanding, AreStandings};
 ghost use Rattle.c8_world.specs.declared.node.Node.TheVariants.{Held};
@@ -27,11 +27,11 @@ use crate::laws::{openings_find_journals, what_was_said_is_true};
 use crate::node::Node;
 use crate::pool::Pool;
 use c8_disk::{Arm, MemDisk};
-use c8_game::{Game, Keys, Player};
+use c8_game::{Game, Input, Player};
 use c8_peer::{Kind, OpenError, Peer};
 use c8_spectator::Spectator;
 use c8_wire::laws::what_is_spelled_is_read;
-use c8_wire::{LONGEST_DATAGRAM, Seat, Watcher};
+use c8_wire::{LONGEST_DATAGRAM, Seat, Watcher, has_lives};
 use std::alloc::{AllocError, Global};
 use std::marker::Model;
 
@@ -41,6 +41,8 @@ pub(crate) struct Table<'g> {
     game: &'g Game,
     room: u64,
     nodes: Vec<Option<Node<'g>>>,
+    /// Who lost a journal, oldest first.
+    lost: Vec<Player>,
     pool: Pool,
     /// The watchers in seats 5 and 6.
     five: Spectator<'g>,
@@ -48,6 +50,7 @@ pub(crate) struct Table<'g> {
 }
 
 impl<'g> Model for Table<'g> {
+    ghost use Rattle.c8_world.specs.World.{sight_in};
     ghost use Rattle.c8_world.specs.Table.{TableValue, IsFull, IsWatch};
 
     ghost Value = { TableValue };
@@ -56,9 +59,10 @@ impl<'g> Model for Table<'g> {
       rules = t.game.now;
       room = t.room;
       nodes = t.nodes.items;
+      lost = map (λ player. player.number) t.lost.items;
       pool = t.pool;
-      five = t.five.rows;
-      six = t.six.rows;
+      five = sight_in t.five;
+      six = sight_in t.six;
     } };
 
     ghost invariant = { λ t. IsFull t.game.now t.room t.nodes.items
@@ -75,33 +79,35 @@ fn new_node<'g>(alloc: Global, capacity: u32, calls: u32) -> Result<Option<Node<
     Ok(Some(Node::Away(disk)))
 }
 
-/// Opens the peer of a node. The node is empty during the call.
+/// Opens the peer of a node, with a number for a new journal. The node is empty during the call.
 fn open_node<'g>(
     place: &mut Option<Node<'g>>,
     alloc: Global,
     game: &'g Game,
     player: Player,
     room: u64,
+    drawn: u64,
 ) -> Result<Answer, AllocError>
-    requires { is_some place.old ≡ true }
+    requires full { is_some place.old ≡ true }
+    requires some { drawn ≢ 0 }
     ensures full { is_some place.new ≡ true }
     ensures opened { IfOk result (λ answer. (s : State) → player.number ≤ game.entry.now.players
         → IsTaken game.entry.now room player.number place.old s
         → ((finds : Bool) → IsJournal game.entry.now player.number room (found s finds))
-        → IsOpenedAs game.entry.now room player.number s answer place.new) }
+        → IsOpenedAs game.entry.now room player.number drawn s answer place.new) }
     ensures memory { IfErr result (λ _. (s : State) → player.number ≤ game.entry.now.players
         → IsTaken game.entry.now room player.number place.old s
         → ((finds : Bool) → IsJournal game.entry.now player.number room (found s finds))
-        → IsUnopened game.entry.now room player.number s place.new) }
+        → IsUnopened game.entry.now room player.number drawn s place.new) }
     ensures turn { IfOk result (λ answer.
-        OfNodes (IsOpenedAt game.entry.now room player.number answer) place.old place.new) }
+        OfNodes (IsOpenedAt game.entry.now room player.number drawn answer) place.old place.new) }
     ensures spared { IfErr result (λ _. OfNodes IsSpared place.old place.new) }
     ensures setting { setting_of place.new ≡ setting_of place.old }
 {
     let Some(node) = place.take() else {
         unreachable!();
     };
-    let (node, result) = node.open(alloc, game, player, room);
+    let (node, result) = node.open(alloc, game, player, room, drawn);
     *place = Some(node);
     match result {
         None => Ok(Answer::Up),
@@ -123,6 +129,20 @@ fn crash_node(place: &mut Option<Node<'_>>, pick: u64)
         unreachable!();
     };
     *place = Some(node.crash(pick));
+}
+
+/// Empties the disk of a node. The node is empty during the call.
+fn wipe_node(place: &mut Option<Node<'_>>)
+    requires { is_some place.old ≡ true }
+    ensures full { is_some place.new ≡ true }
+    ensures wiped { IsUntouched place.new }
+    ensures emptied { OfNodes IsEmptied place.old place.new }
+    ensures setting { setting_of place.new ≡ setting_of place.old }
+{
+    let Some(node) = place.take() else {
+        unreachable!();
+    };
+    *place = Some(node.wipe());
 }
 
 /// Returns the player with a number.
@@ -163,6 +183,7 @@ impl<'g> Table<'g> {
             game,
             room,
             nodes,
+            lost: Vec::new(alloc),
             pool: Pool::new(alloc),
             five: Spectator::open(alloc, game, room, Watcher { number: 5 })?,
             six: Spectator::open(alloc, game, room, Watcher { number: 6 })?,
@@ -253,7 +274,7 @@ impl<'g> Table<'g> {
     {
         match act {
             Act::Open(player) => self.open(alloc, player),
-            Act::Tick(player, keys) => Ok(self.tick(player, keys)),
+            Act::Tick(player, input) => Ok(self.tick(player, input)),
             Act::Say(player, to, what) => self.say(player, to, what),
             Act::Give(number, player) => Ok(self.give(number, player)),
             Act::Leave(leaver) => Ok(self.leave(leaver)),
@@ -263,10 +284,11 @@ impl<'g> Table<'g> {
             Act::Hear(number, watcher) => Ok(self.hear(number, watcher)),
             Act::Seen(watcher) => self.seen(watcher),
             Act::Fresh(watcher) => Ok(self.fresh(watcher)),
+            Act::Wipe(player) => self.wipe(player),
         }
     }
 
-    /// Opens a player's peer.
+    /// Opens a player's peer. A new journal gets a life that none of the player's journals had.
     fn open(&mut self, alloc: Global, player: Player) -> Result<Answer, AllocError>
         ensures same { IsSameMatch self.old self.new }
         ensures happened { IfOk result (λ answer. (w : World) → Holds self.old w
@@ -274,7 +296,8 @@ impl<'g> Table<'g> {
         ensures memory { IfErr result (λ _. (w : World) → Holds self.old w
             → HasNotHappened self.old w (Open player.number) self.new) }
         ensures turn { IfOk result (λ answer. IsMove player.number
-            (IsOpenedAt self.old.rules self.old.room player.number answer) self.old self.new) }
+            (IsOpenedAt self.old.rules self.old.room player.number (next_life self.old) answer)
+            self.old self.new) }
         ensures turn_out { IfErr result (λ _. IsMove player.number IsSpared self.old self.new) }
         ensures disks { KeepSettings self.old self.new }
     {
@@ -283,16 +306,17 @@ impl<'g> Table<'g> {
         if player.number > self.game.players() {
             return Ok(Answer::Opened(Err(OpenError::WrongPlayer)));
         }
+        let drawn = self.lost.len() as u64 + 1;
         let node = &mut self.nodes[player.place()];
-        open_node(node, alloc, self.game, player, self.room)
+        open_node(node, alloc, self.game, player, self.room, drawn)
     }
 
-    /// Enters a player's key set.
-    fn tick(&mut self, player: Player, keys: Keys) -> Answer
+    /// Enters a player's input.
+    fn tick(&mut self, player: Player, input: Input) -> Answer
         ensures same { IsSameMatch self.old self.new }
         ensures happened { (w : World) → Holds self.old w
-            → HasHappened self.old w (Do (Tick player.number keys.0)) result self.new }
-        ensures turn { IsMove player.number (IsActedBy (calls.Tick keys.0) result)
+            → HasHappened self.old w (Do (Tick player.number input)) result self.new }
+        ensures turn { IsMove player.number (IsActedBy (calls.Tick input) result)
             self.old self.new }
         ensures disks { KeepSettings self.old self.new }
     {
@@ -302,7 +326,7 @@ impl<'g> Table<'g> {
         let Some(node) = &mut self.nodes[player.place()] else {
             unreachable!();
         };
-        node.tick(keys)
+        node.tick(input)
     }
 
     /// Sends a datagram of a player to another one.
@@ -484,6 +508,31 @@ impl<'g> Table<'g> {
             self.six.begin_again();
         }
         Answer::Anew
+    }
+
+    /// Empties a player's disk.
+    fn wipe(&mut self, player: Player) -> Result<Answer, AllocError>
+        ensures same { IsSameMatch self.old self.new }
+        ensures happened { IfOk result (λ answer. (w : World) → Holds self.old w
+            → HasHappened self.old w (Do (Wipe player.number)) answer self.new) }
+        ensures memory { IfErr result (λ _. (w : World) → Holds self.old w
+            → HasNotHappened self.old w (Wipe player.number) self.new) }
+        ensures turn { IfOk result (λ answer.
+            IsMove player.number (IsEmptiedAt answer) self.old self.new) }
+        ensures turn_out { IfErr result (λ _. IsMove player.number IsSpared self.old self.new) }
+        ensures disks { KeepSettings self.old self.new }
+    {
+        if player.number > self.game.players() {
+            return Ok(Answer::Down);
+        }
+        if !has_lives(self.game.wire()) {
+            return Ok(Answer::NoSuch);
+        }
+        if self.lost.push(player).is_err() {
+            return Err(AllocError);
+        }
+        wipe_node(&mut self.nodes[player.place()]);
+        Ok(Answer::Wiped)
     }
 
     /// Returns the watcher in a seat.

@@ -32,8 +32,9 @@ use std::marker::Model;
 /// All peers of one match over disks in memory, and every datagram that they sent.
 ///
 /// Events happen to it one after the other: openings, ticks, datagrams that are sent, deliveries of anything that was
-/// sent, as often and as late as one likes, players who are dropped, and stops inside any of these. Whatever the events
-/// are, any two peers that were not dropped agree on every frame that both count as confirmed.
+/// sent, as often and as late as one likes, players who are dropped, journals that are lost, and stops inside any of
+/// these. Whatever the events are, any two peers of one match that were not dropped in it agree on every frame that both
+/// count as confirmed.
 #[derive(Drop)]
 pub struct World<'g> {
     table: Table<'g>,

@@ -3,7 +3,7 @@
 //! No call takes memory. `rt try --test --fail-alloc N` refuses the Nth allocation. Up to the last opening's allocation
 //! the test ends without peers; with any later one it runs as it does with ample memory.
 use c8_disk::{Arm, MemDisk};
-use c8_game::{Game, Keys, Player};
+use c8_game::{Game, Input, Player};
 use c8_peer::{Check, Heard, Kind, Peer, Refused};
 use c8_wire::Watcher;
 use std::alloc::Global;
@@ -41,24 +41,24 @@ fn tells(
     }
 }
 
-/// Links two peers. The other one enters a key set, and each gets the other's inputs.
+/// Links two peers. The other one enters an input, and each gets the other's inputs.
 fn meet(one: &mut Peer<'_, MemDisk>, other: &mut Peer<'_, MemDisk>) -> bool {
     tells(one, other, Kind::Hello) == NOTHING
         && tells(other, one, Kind::Welcome) == NOTHING
         && tells(one, other, Kind::Welcome) == NOTHING
-        && other.tick(Keys(0x0020)) == Ok(())
+        && other.tick(Input(0x0020)) == Ok(())
         && tells(one, other, Kind::Data) == KEPT
         && tells(other, one, Kind::Data) == KEPT
 }
 
-/// Player 1 enters a key set, and meets both others.
+/// Player 1 enters an input, and meets both others.
 fn play(
     one: &mut Peer<'_, MemDisk>,
     two: &mut Peer<'_, MemDisk>,
     three: &mut Peer<'_, MemDisk>,
 ) -> bool {
     one.arm(Arm::Off);
-    one.tick(Keys(0x0001)) == Ok(()) && meet(one, two) && meet(one, three)
+    one.tick(Input(0x0001)) == Ok(()) && meet(one, two) && meet(one, three)
 }
 
 /// Player 1 makes a checkpoint after its one confirmed frame, and shows this frame to a watcher.

@@ -175,7 +175,7 @@ fn is_counted(bytes: &[u8], size: u64) -> bool {
     size % 3 == 0 && size <= 126
 }
 
-/// Returns whether each pair has inputs and another key set than the one before, and all pairs together have as many
+/// Returns whether each pair has inputs and another input than the one before, and all pairs together have as many
 /// inputs as the run.
 fn are_pairs(bytes: &[u8]) -> bool {
     let (_, count) = run(bytes);

@@ -4,7 +4,7 @@
 //! that is one of the run's, the test fails with the text `STANDS`, or with another one if something else is wrong.
 use crate::run::{ONE, TWO, answers_to, ends};
 use c8_disk::DiskError;
-use c8_game::{Game, Keys};
+use c8_game::{Game, Input};
 use c8_peer::{Heard, Kind, OpenError, TickError};
 use c8_wire::Watcher;
 use c8_world::{Act, Answer, Counts, Event, Posted, Report, RunError, Tally, World};
@@ -31,13 +31,13 @@ const EVENTS: [Event; 23] = [
     Event::Do(Act::Give(0, TWO)),
     Event::Do(Act::Say(TWO, ONE, Kind::Welcome)),
     Event::Do(Act::Give(1, ONE)),
-    Event::Do(Act::Tick(ONE, Keys(0x0001))),
-    Event::Fail(Act::Tick(ONE, Keys(0x0002)), 1),
+    Event::Do(Act::Tick(ONE, Input(0x0001))),
+    Event::Fail(Act::Tick(ONE, Input(0x0002)), 1),
     Event::Stop(Act::Open(ONE), 7, 1),
     Event::Do(Act::Open(ONE)),
-    Event::Do(Act::Tick(ONE, Keys(0x0004))),
-    Event::Do(Act::Tick(TWO, Keys(0x0020))),
-    Event::Fail(Act::Tick(TWO, Keys(0x0040)), 3),
+    Event::Do(Act::Tick(ONE, Input(0x0004))),
+    Event::Do(Act::Tick(TWO, Input(0x0020))),
+    Event::Fail(Act::Tick(TWO, Input(0x0040)), 3),
     Event::Do(Act::Open(TWO)),
     HELLO,
     Event::Fail(Act::Say(ONE, TWO, Kind::Hello), 0),

@@ -5,7 +5,7 @@ use crate::scene::{ROOM, Scene, Step, Text, Version, versions};
 use crate::scenes::{scenes, steps};
 use crate::tells::{Tells, telling};
 use c8_disk::MemDisk;
-use c8_game::{Game, Keys, Player};
+use c8_game::{Game, Input, Player};
 use c8_peer::{Heard, Peer, Refused};
 use std::alloc::Global;
 use std::test::Fail;
@@ -55,7 +55,7 @@ impl<'a> Stage<'a> {
                 let _heard = hear(peer, self.letter(text).bytes());
             }
             Step::Tick => {
-                let _ticked = peer.tick(Keys(0x0201));
+                let _ticked = peer.tick(Input(0x0201));
             }
             Step::Leave => {
                 let _left = peer.leave(Player { number: 3 });

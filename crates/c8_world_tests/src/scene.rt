@@ -1,7 +1,7 @@
 //! The state before a datagram comes: whose peer gets it, what the peer did before, and what it then holds.
 //!
 //! All scenes are of one game of three players in both versions of the datagrams, with two frames of delay. For each
-//! frame n after the delay, player p enters the key set 256p + n / 3, rounded down, so up to three frames in a row have
+//! frame n after the delay, player p enters the input 256p + n / 3, rounded down, so up to three frames in a row have
 //! the same.
 use c8_peer::{Heard, Refused};
 
@@ -81,7 +81,7 @@ pub(crate) struct Scene {
     pub(crate) answer: Result<Heard, Refused>,
 }
 
-/// Returns the key set that a player enters for a frame; empty in the frames of the delay.
+/// Returns the input that a player enters for a frame; 0 in the frames of the delay.
 pub(crate) fn keys(player: u64, frame: u64) -> u64 {
     if frame < 2 {
         0

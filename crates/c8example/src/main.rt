@@ -3,7 +3,7 @@
 #![tactic(auto)]
 
 use c8_disk::MemDisk;
-use c8_game::{Game, Keys, Player};
+use c8_game::{Game, Input, Player};
 use c8_live::{Packet, Putter, Taker, inlet, make_turn};
 use c8_peer::Peer;
 use c8_session::Session;
@@ -92,12 +92,12 @@ fn play<W: Write>(alloc: Global, out: &mut W) -> Option<()> {
 }
 
 fn meet<W: Write>(one: &mut Side<'_>, two: &mut Side<'_>, out: &mut W) -> Option<()> {
-    for turn in 0..10_000_u16 {
+    for turn in 0..10_000_u64 {
         if one.session.is_over() && two.session.is_over() {
             break;
         }
-        make_turn(&mut one.session, Some(Keys(turn / 7)), &mut one.wire).ok()?;
-        make_turn(&mut two.session, Some(Keys(turn * 3)), &mut two.wire).ok()?;
+        make_turn(&mut one.session, Some(Input(turn / 7)), &mut one.wire).ok()?;
+        make_turn(&mut two.session, Some(Input(turn * 3)), &mut two.wire).ok()?;
     }
     report(&one.session, out)?;
     report(&two.session, out)

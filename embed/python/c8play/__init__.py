@@ -22,8 +22,8 @@ a time; ctypes lets other threads run meanwhile.
 from .calls import DATAGRAM, PACKET, PICTURE, ROW, ROWS, RULES, STATE
 from .refusals import (BadSecret, Closed, Desync, DiskFailed, DiskFull, DiskLocked, Dropped, End, NotSealed, ReadOnly, Refusal,
                        SealedAlready, SeenBefore, Threshold, WatchesOnly, explain, version)
-from .session import Event, EventKind, Kind, PlayerState, Sender, Session, Status, Step, rules
+from .session import Event, EventKind, Kind, Over, PlayerState, Sender, Session, Status, Step, rules
 
 __all__ = ["BadSecret", "Closed", "DATAGRAM", "Desync", "DiskFailed", "DiskFull", "DiskLocked", "Dropped", "End", "Event", "EventKind", "Kind",
-           "NotSealed", "PACKET", "PICTURE", "PlayerState", "ROW", "ROWS", "RULES", "ReadOnly", "Refusal", "STATE", "SealedAlready", "SeenBefore",
+           "NotSealed", "Over", "PACKET", "PICTURE", "PlayerState", "ROW", "ROWS", "RULES", "ReadOnly", "Refusal", "STATE", "SealedAlready", "SeenBefore",
            "Sender", "Session", "Status", "Step", "Threshold", "WatchesOnly", "explain", "rules", "version"]

@@ -5,7 +5,7 @@ import sys
 from typing import Any
 
 # The version of this package. A library has to have the same first two numbers, and no smaller third.
-VERSION = "0.2.2"
+VERSION = "0.3.0"
 DATAGRAM, PACKET, PICTURE, STATE, RULES, ROW, ROWS = 174, 198, 256, 4419, 256, 4, 16
 
 HERE = os.path.dirname(os.path.realpath(__file__))
@@ -20,7 +20,7 @@ class Handle(c.Structure):
 class State(c.Structure):
     """c8_player_state"""
     _fields_ = [("silent", c.c_uint64), ("held", c.c_uint32), ("acknowledged", c.c_uint32), ("linked", c.c_bool), ("dropped", c.c_bool),
-                ("cut", c.c_uint32)]
+                ("cut", c.c_uint32), ("came_back", c.c_bool)]
 
 
 class EventState(c.Structure):
@@ -28,34 +28,36 @@ class EventState(c.Structure):
     _fields_ = [("kind", c.c_uint8), ("player", c.c_uint8), ("frame", c.c_uint32)]
 
 
-U8, U16, U32, U64, I32, SIZE, BYTES, FLAG = c.c_uint8, c.c_uint16, c.c_uint32, c.c_uint64, c.c_int32, c.c_size_t, c.c_char_p, c.c_bool
+U8, U32, U64, I32, SIZE, BYTES, FLAG = c.c_uint8, c.c_uint32, c.c_uint64, c.c_int32, c.c_size_t, c.c_char_p, c.c_bool
 SESSION = c.POINTER(Handle)
 
 # Each function: what it returns, and what it takes.
 CALLS: dict[str, tuple[Any, ...]] = {
-    "c8_open": (U32, BYTES, SIZE, U8, U64, U32, SESSION),
-    "c8_open_journal": (U32, BYTES, SIZE, U8, U64, U32, I32, I32, SESSION),
+    "c8_open": (U32, BYTES, SIZE, U8, U64, U64, U32, SESSION),
+    "c8_open_journal": (U32, BYTES, SIZE, U8, U64, U64, U32, I32, I32, SESSION),
     "c8_journal_open": (c.c_int, BYTES, c.POINTER(I32), c.POINTER(I32)),
     "c8_replay_open": (U32, BYTES, SIZE, I32, SESSION),
     "c8_watch_open": (U32, BYTES, SIZE, U8, U64, U64, SESSION),
     "c8_journal_read": (c.c_int, BYTES, c.POINTER(I32)),
     "c8_close": (None, SESSION),
     "c8_deliver": (U32, SESSION, BYTES, SIZE),
-    "c8_tick": (U32, SESSION, U16),
+    "c8_tick": (U32, SESSION, U64),
     "c8_turn": (U32, SESSION),
     "c8_next": (U32, SESSION, BYTES, c.POINTER(U8)),
     "c8_watched": (U32, SESSION, U8),
     "c8_patience": (U32, SESSION, U32, U32),
     "c8_clock": (U32, SESSION, U64),
     "c8_end": (U32, SESSION, U32),
+    "c8_bye": (U32, SESSION),
     "c8_event": (FLAG, SESSION, c.POINTER(EventState)),
     "c8_wait": (U32, SESSION),
     "c8_status": (U32, SESSION, U32, BYTES),
     "c8_is_over": (FLAG, SESSION),
+    "c8_why_over": (U32, SESSION),
     "c8_is_lost": (FLAG, SESSION),
-    "c8_step": (U32, SESSION, c.POINTER(U32), c.POINTER(U16), SIZE),
+    "c8_step": (U32, SESSION, c.POINTER(U32), c.POINTER(U64), SIZE),
     "c8_check": (U32, SESSION, U32),
-    "c8_rules": (U32, U8, U32, U8, U8, BYTES, BYTES, SIZE),
+    "c8_rules": (U32, U8, U32, U8, U8, U8, BYTES, BYTES, SIZE),
     "c8_ticked": (U32, SESSION),
     "c8_confirmed": (U32, SESSION),
     "c8_epoch": (U32, SESSION),

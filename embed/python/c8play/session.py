@@ -4,6 +4,7 @@ from __future__ import annotations
 import ctypes as c
 import enum
 import os
+import secrets
 import time
 from collections.abc import Iterator
 from typing import Any, NamedTuple
@@ -12,6 +13,8 @@ from .calls import IS_WINDOWS, LIBRARY, PACKET, PICTURE, ROW, ROWS, RULES, STATE
 from .refusals import Closed, Desync, DiskFailed, Dropped, End, Refusal, Threshold, done
 
 SECRET = 32
+# The most bytes of an input.
+MOST_BYTES = 8
 # Answers of c8_deliver.
 KEPT, DROPPED = 1, 2
 # The cut of a player whose inputs have no known end.
@@ -26,6 +29,8 @@ class Kind(enum.IntEnum):
     FREEZE = 3
     FROZEN = 4
     CUT = 5
+    PASS = 6
+    REFUSED = 7
 
 
 class PlayerState(NamedTuple):
@@ -36,6 +41,7 @@ class PlayerState(NamedTuple):
     linked: bool       # inputs can be sent
     dropped: bool      # player 1 has dropped it
     cut: int | None    # the frame from which on its inputs are empty, once it is known
+    came_back: bool    # version 3: it came back without its journal, and is refused
 
 
 class EventKind(enum.IntEnum):
@@ -45,8 +51,19 @@ class EventKind(enum.IntEnum):
     RESUMED = 3      # it is heard again after that
     DROPPED = 4      # it was dropped: from `frame` on its inputs are empty
     DESYNC = 5       # its CHIP-8 machine differs after `frame` frames
-    ENDED = 6        # `is_over` has become true, with `frame` frames confirmed
+    ENDED = 6        # `is_over` has become true, with `frame` frames confirmed; `why_over` says why
     RESTARTED = 7    # it has started again
+    CAME_BACK = 8    # version 3: it came back without its journal
+
+
+class Over(enum.IntEnum):
+    """Why a session is over."""
+    DONE = 1        # all frames are confirmed, and nobody needs this player any more
+    DROPPED = 2     # player 1 has dropped this player
+    LEFT = 3        # this player has left by `bye`
+    REFUSED = 4     # this player began the match with a journal that is not here; at player 1, another player did
+    CHAIR_LOST = 5  # player 1 came back without its journal, so the match is over
+    CHAIR_LEFT = 6  # player 1 has left
 
 
 class Event(NamedTuple):
@@ -75,16 +92,23 @@ class Step(NamedTuple):
     rows: list[tuple[int, ...]]
 
 
-def rules(players: int, frames: int, delay: int, window: int, id: bytes) -> bytes:
-    """The text of a game for an engine with a machine of its own. `id` has at most 32 bytes: the version of the game. Raises ValueError if
-    there is no such text."""
+def rules(players: int, frames: int, delay: int, window: int, id: bytes, width: int = 0) -> bytes:
+    """The text of a game for an engine with a machine of its own. `id` has at most 32 bytes: the version of the game. An input has `width`
+    bytes, 1 to 8; with a width of 0 it has two, and datagrams have version 1. Raises ValueError if there is no such text."""
     if len(id) > SECRET:
         raise ValueError("an id has at most 32 bytes")
+    if not 0 <= width <= MOST_BYTES:
+        raise ValueError("an input has at most 8 bytes")
     out = c.create_string_buffer(RULES)
-    length = LIBRARY.c8_rules(players, frames, delay, window, id.ljust(SECRET, b"\0"), out, RULES)
+    length = LIBRARY.c8_rules(players, frames, delay, window, width, id.ljust(SECRET, b"\0"), out, RULES)
     if not length:
         raise ValueError("there is no such game")
     return out.raw[:length]
+
+
+def drawn_life() -> int:
+    """The number of a new life: the seconds since 1970 in its upper 4 bytes, random ones below."""
+    return (int(time.time()) & 0xFFFFFFFF) << 32 | secrets.randbits(32)
 
 
 class Session:
@@ -95,10 +119,10 @@ class Session:
     def __init__(self, text: bytes, player: int, room: int, patience: int = 0, journal: str | os.PathLike[str] | None = None) -> None:
         self._make()
         if journal is None:
-            done(LIBRARY.c8_open(text, len(text), player, room, patience, self._session))
+            done(LIBRARY.c8_open(text, len(text), player, room, drawn_life(), patience, self._session))
             return
         file, folder = open_journal(journal)
-        done(LIBRARY.c8_open_journal(text, len(text), player, room, patience, file, folder, self._session))
+        done(LIBRARY.c8_open_journal(text, len(text), player, room, drawn_life(), patience, file, folder, self._session))
 
     @classmethod
     def replay(cls, text: bytes, journal: str | os.PathLike[str]) -> Session:
@@ -123,7 +147,7 @@ class Session:
     def _make(self) -> None:
         self._session = Handle()
         self._out, self._to, self._size = c.create_string_buffer(max(PACKET, STATE)), c.c_uint8(), c.c_uint32()
-        self._rows, self._newest = (c.c_uint16 * (ROW * ROWS))(), c.c_bool()
+        self._rows, self._newest = (c.c_uint64 * (ROW * ROWS))(), c.c_bool()
 
     def close(self) -> None:
         """Closes the session. Closing it again does nothing."""
@@ -156,11 +180,11 @@ class Session:
                 raise
             return False
 
-    def tick(self, keys: int) -> bool:
-        """Enters the own player's next input, 16 bits. Returns whether it was taken: not if the player is too far ahead (tick it again in the
+    def tick(self, input: int) -> bool:
+        """Enters the own player's next input, of as many bytes as the rules say. Returns whether it was taken: not if the player is too far ahead (tick it again in the
         next frame), at the end of the match, or once it was dropped."""
         try:
-            done(LIBRARY.c8_tick(self._session, keys))
+            done(LIBRARY.c8_tick(self._session, input))
         except (Threshold, End, Dropped):
             return False
         return True
@@ -185,6 +209,11 @@ class Session:
     def end(self, frames: int) -> None:
         """The match ends after this many frames, as the engine's own machine says. All players name the same."""
         done(LIBRARY.c8_end(self._session, frames))
+
+    def bye(self) -> bool:
+        """Leaves the match. True: the next turns say so; go on with turns until `is_over`, at most six, and close. False: games of versions 1
+        and 2 have no word for it; close the session."""
+        return done(LIBRARY.c8_bye(self._session)) == 1
 
     def packets(self) -> Iterator[tuple[int, bytes]]:
         """The packets of this turn that are still to be sent, each with the seat that it is for."""
@@ -219,6 +248,11 @@ class Session:
     def is_over(self) -> bool:
         return bool(LIBRARY.c8_is_over(self._session))
 
+    def why_over(self) -> Over | None:
+        """Why `is_over` is true, if it is."""
+        why = LIBRARY.c8_why_over(self._session)
+        return Over(why) if why else None
+
     def is_lost(self) -> bool:
         return bool(LIBRARY.c8_is_lost(self._session))
 
@@ -235,7 +269,7 @@ class Session:
         state = State()
         done(LIBRARY.c8_player(self._session, player, state))
         cut = None if state.cut == UNCUT else state.cut
-        return PlayerState(state.silent, state.held, state.acknowledged, state.linked, state.dropped, cut)
+        return PlayerState(state.silent, state.held, state.acknowledged, state.linked, state.dropped, cut, state.came_back)
 
     def events(self) -> Iterator[Event]:
         """The events that wait, the oldest first. Each comes once; one of each kind and player can wait."""

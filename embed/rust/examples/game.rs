@@ -23,10 +23,10 @@ const WIDTH: i32 = 64 * UNIT;
 const HEIGHT: i32 = 20 * UNIT;
 const FLIGHT: i32 = 40;
 
-const LEFT: u16 = 1;
-const RIGHT: u16 = 2;
-const THRUST: u16 = 4;
-const FIRE: u16 = 8;
+const LEFT: u64 = 1;
+const RIGHT: u64 = 2;
+const THRUST: u64 = 4;
+const FIRE: u64 = 8;
 
 /// Places are in 256ths of a cell, speeds in those of a cell a frame. There are 64 angles; 0 points to the right.
 #[derive(Clone, Copy, Default)]
@@ -69,7 +69,7 @@ fn wrap(place: i32, size: i32) -> i32 {
 }
 
 impl Ship {
-    fn fly(&mut self, keys: u16) {
+    fn fly(&mut self, keys: u64) {
         if keys & LEFT != 0 {
             self.angle = (self.angle + 63) & 63;
         }
@@ -118,7 +118,7 @@ impl State {
         state
     }
 
-    fn step(mut self, row: [u16; 4]) -> State {
+    fn step(mut self, row: [u64; 4]) -> State {
         let [one, two] = &mut self.ships;
         one.fly(row[0]);
         two.fly(row[1]);
@@ -177,8 +177,8 @@ fn mix(x: u64) -> u64 {
 }
 
 /// Some keys of the four, for six frames each.
-fn scripted(seed: u64, frame: u32) -> u16 {
-    (mix(mix(seed).wrapping_add(u64::from(frame / 6))) & 15) as u16
+fn scripted(seed: u64, frame: u32) -> u64 {
+    mix(mix(seed).wrapping_add(u64::from(frame / 6))) & 15
 }
 
 /// A terminal that gives each key at once.
@@ -198,7 +198,7 @@ impl Keyboard {
 
     /// The keys of a frame; `None` to quit. A terminal says when a key is struck, and not when it is released: a stroke
     /// counts for ten frames.
-    fn keys(&mut self) -> Option<u16> {
+    fn keys(&mut self) -> Option<u64> {
         for byte in self.bytes.try_iter() {
             match byte {
                 b'q' | 3 => return None,
@@ -368,7 +368,7 @@ impl Options {
     fn open(&self) -> Result<Session, Box<dyn Error>> {
         let mut id = [0; 32];
         id[..11].copy_from_slice(b"two ships 1");
-        let rules = Rules { players: 2, frames: self.frames, delay: DELAY, window: WINDOW, id }.text()?;
+        let rules = Rules { players: 2, frames: self.frames, delay: DELAY, window: WINDOW, width: 0, id }.text()?;
         let (room, patience) = (1, if self.script.is_some() { 0 } else { 600 });
         let mut session = match &self.journal {
             Some(path) => Session::open_journal(rules, self.me, room, patience, Journal::open(path)?)?,

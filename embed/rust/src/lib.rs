@@ -7,7 +7,7 @@
 //! ```
 //! use c8play_session::{Rules, Session, Steps};
 //!
-//! let rules = Rules { players: 2, frames: 600, delay: 1, window: 8, id: *b"a level of an engine, version 1 " };
+//! let rules = Rules { players: 2, frames: 600, delay: 1, window: 8, width: 0, id: *b"a level of an engine, version 1 " };
 //! let mut session = Session::open(rules.text()?, 1, 7, 0)?;
 //! let mut steps = Steps::new(16);
 //! let mut states = vec![0_u64; 601];
@@ -43,5 +43,5 @@ mod sys;
 pub use packet::{Packet, Sender};
 pub use refusal::Refusal;
 pub use rules::{version, Rules};
-pub use session::{Event, Heard, Journal, Kind, Packets, Session, Status, Steps};
+pub use session::{Event, Heard, Journal, Kind, Over, Packets, Session, Status, Steps};
 pub use sys::PlayerState;

@@ -64,6 +64,10 @@ refusals! {
     Replay = 107,
     /// The session is a watcher's, which only watches.
     Watcher = 108,
+    /// A number for a new life that is 0, in a game of version 3. An opening of this crate never answers it.
+    NoLife = 109,
+    /// The file is something else than a journal. It has not changed.
+    NoJournal = 110,
     // the text of a game
     GameLine = 201,
     GameRange = 202,
@@ -85,6 +89,8 @@ refusals! {
     /// Player 1 has dropped this player.
     TickDropped = 403,
     TickDown = 405,
+    /// An input with more bytes than the game's inputs.
+    Wide = 406,
     // a received datagram: its bytes
     WireShort = 501,
     WireMagic = 502,
@@ -102,6 +108,10 @@ refusals! {
     Ahead = 603,
     HeardNotMine = 604,
     OtherSession = 605,
+    /// From a player that came back without its journal. It is refused for good.
+    Restarted = 606,
+    /// From another match of the room, or this player has none yet.
+    OtherMatch = 607,
     // its inputs
     Gap = 701,
     FromLeaver = 702,
@@ -153,6 +163,8 @@ refusals! {
     ShownDiffers = 1404,
     ShownFull = 1405,
     ShownAbsent = 1406,
+    /// Rows of another match of the room: player 1 came back without its journal.
+    ShownRestarted = 1407,
 }
 
 impl fmt::Display for Refusal {

@@ -23,6 +23,8 @@ pub struct Rules {
     pub delay: u8,
     /// By how many frames a player may be ahead of the confirmed ones, 1 to 12.
     pub window: u8,
+    /// How many bytes an input has, 1 to 8, in version 3 of the datagrams; with 0 it has two, in version 1.
+    pub width: u8,
     /// The engine's version, its level: players with different ids do not meet.
     pub id: [u8; 32],
 }
@@ -38,7 +40,7 @@ impl Rules {
             return Err(Refusal::GameRange);
         }
         let mut text = vec![0; LONGEST];
-        let length = sys::rules(self.players, self.frames, self.delay, self.window, &self.id, &mut text);
+        let length = sys::rules(self.players, self.frames, self.delay, self.window, self.width, &self.id, &mut text);
         text.truncate(length as usize);
         Ok(String::from_utf8(text).expect("the text of a game is ASCII"))
     }
@@ -48,5 +50,6 @@ impl Rules {
             && (1..=262_144).contains(&self.frames)
             && self.delay <= 4
             && (1..=12).contains(&self.window)
+            && self.width <= 8
     }
 }

@@ -57,6 +57,9 @@ pub enum Kind {
     Freeze(u8),
     Frozen(u8),
     Cut(u8),
+    /// Inputs of this player, from player 1. Version 3 alone has it and the next one.
+    Pass(u8),
+    Refused,
 }
 
 /// What happened in a session.
@@ -77,6 +80,26 @@ pub enum Event {
     Ended { frames: u32 },
     /// This player has started again.
     Restarted(u8),
+    /// Version 3: this player has come back without its journal, and is refused.
+    CameBack(u8),
+}
+
+/// Why a session is over.
+#[derive(Clone, Copy, Debug, PartialEq, Eq, Hash)]
+#[non_exhaustive]
+pub enum Over {
+    /// All frames are confirmed, and nobody needs this player any more.
+    Done,
+    /// Player 1 has dropped this player.
+    Dropped,
+    /// This player has left by [`Session::bye`].
+    Left,
+    /// This player began the match with a journal that is not here; at player 1, another player did.
+    Refused,
+    /// Player 1 came back without its journal, so the match is over.
+    ChairLost,
+    /// Player 1 has left.
+    ChairLeft,
 }
 
 impl Event {
@@ -91,6 +114,7 @@ impl Event {
             5 => Some(Event::Desync { player, frame }),
             6 => Some(Event::Ended { frames: frame }),
             7 => Some(Event::Restarted(player)),
+            8 => Some(Event::CameBack(player)),
             _ => None,
         }
     }
@@ -261,9 +285,9 @@ impl Session {
     ///
     /// # Errors
     ///
-    /// [`Refusal::Threshold`], [`Refusal::End`], [`Refusal::TickDropped`]; [`Refusal::DiskFailed`] or [`Refusal::DiskFull`],
-    /// and [`Refusal::TickDown`] after that.
-    pub fn tick(&mut self, input: u16) -> Result<(), Refusal> {
+    /// [`Refusal::Threshold`], [`Refusal::End`], [`Refusal::TickDropped`]; [`Refusal::Wide`] if the input has more bytes than
+    /// the rules say; [`Refusal::DiskFailed`] or [`Refusal::DiskFull`], and [`Refusal::TickDown`] after that.
+    pub fn tick(&mut self, input: u64) -> Result<(), Refusal> {
         done(self.handle.tick(input))
     }
 
@@ -329,6 +353,12 @@ impl Session {
         self.handle.end(frames);
     }
 
+    /// Leaves the match. True: the next turns say so; go on with turns until [`is_over`](Session::is_over), at most six, and drop the
+    /// session. False: games of versions 1 and 2 have no word for it; drop the session.
+    pub fn bye(&mut self) -> bool {
+        self.handle.bye() == 1
+    }
+
     /// What the input of each player in the best row of a frame is.
     pub fn status(&self, frame: u32) -> [Status; 4] {
         let mut out = [0; 4];
@@ -346,6 +376,19 @@ impl Session {
         self.handle.is_over()
     }
 
+    /// Why the session is over, if it is.
+    pub fn why_over(&self) -> Option<Over> {
+        match self.handle.why_over() {
+            1 => Some(Over::Done),
+            2 => Some(Over::Dropped),
+            3 => Some(Over::Left),
+            4 => Some(Over::Refused),
+            5 => Some(Over::ChairLost),
+            6 => Some(Over::ChairLeft),
+            _ => None,
+        }
+    }
+
     /// Whether another player acknowledged inputs of this player that its journal does not have: the journal was lost or
     /// replaced by an older copy, and this session cannot go on.
     pub fn is_lost(&self) -> bool {
@@ -359,7 +402,7 @@ impl Session {
 
     /// Calls `run` with each frame whose row changed, in order: an engine goes back to its state before that frame, runs
     /// its machine on the row, and keeps the state after it.
-    pub fn run(&mut self, steps: &mut Steps, mut run: impl FnMut(u32, [u16; 4])) {
+    pub fn run(&mut self, steps: &mut Steps, mut run: impl FnMut(u32, [u64; 4])) {
         loop {
             self.step(steps);
             steps.frames().for_each(|(frame, row)| run(frame, row));
@@ -440,6 +483,8 @@ impl Session {
             Kind::Freeze(leaver) => (3, leaver),
             Kind::Frozen(leaver) => (4, leaver),
             Kind::Cut(leaver) => (5, leaver),
+            Kind::Pass(player) => (6, player),
+            Kind::Refused => (7, 0),
         };
         let (mut bytes, mut length) = ([0; sys::PACKET], 0);
         done(self.handle.say(to, number, leaver, &mut bytes, &mut length))?;
@@ -510,7 +555,7 @@ impl Iterator for Packets<'_> {
 /// Room for the rows of a step.
 #[derive(Clone, Debug)]
 pub struct Steps {
-    rows: Vec<[u16; 4]>,
+    rows: Vec<[u64; 4]>,
     from: u32,
     count: usize,
 }
@@ -528,12 +573,12 @@ impl Steps {
     }
 
     /// The rows from there on, with an input of each of four players; 0 for a player that the game has not.
-    pub fn rows(&self) -> &[[u16; 4]] {
+    pub fn rows(&self) -> &[[u64; 4]] {
         &self.rows[..self.count]
     }
 
     /// The rows with their frames.
-    pub fn frames(&self) -> impl Iterator<Item = (u32, [u16; 4])> + '_ {
+    pub fn frames(&self) -> impl Iterator<Item = (u32, [u64; 4])> + '_ {
         (self.from..).zip(self.rows().iter().copied())
     }
 

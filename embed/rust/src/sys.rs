@@ -13,7 +13,10 @@
 
 use c8play_sys::*;
 use std::cell::UnsafeCell;
+use std::collections::hash_map::RandomState;
+use std::hash::{BuildHasher, Hasher};
 use std::ptr;
+use std::time::{SystemTime, UNIX_EPOCH};
 
 pub use c8play_sys::c8_event_state as EventState;
 pub use c8play_sys::c8_player_state as PlayerState;
@@ -39,6 +42,13 @@ fn number(file: Owned) -> i32 {
     file.into_raw_handle() as usize as i32
 }
 
+/// The number of a new life: the seconds since 1970 in its upper 4 bytes, random ones below.
+fn drawn_life() -> u64 {
+    let seconds = SystemTime::now().duration_since(UNIX_EPOCH).map_or(1, |since| since.as_secs());
+    let random = RandomState::new().build_hasher().finish();
+    seconds << 32 | random & u64::from(u32::MAX)
+}
+
 /// A handle, which is closed when it is dropped.
 pub struct Handle(UnsafeCell<c8_session>);
 
@@ -57,15 +67,15 @@ impl Handle {
 
     pub fn open(text: &[u8], player: u8, room: u64, patience: u32) -> (u32, Handle) {
         let handle = Handle::closed();
-        let why = unsafe { c8_open(text.as_ptr(), text.len(), player, room, patience, handle.0.get()) };
+        let why = unsafe { c8_open(text.as_ptr(), text.len(), player, room, drawn_life(), patience, handle.0.get()) };
         (why, handle)
     }
 
     pub fn open_journal(text: &[u8], player: u8, room: u64, patience: u32, files: (Owned, Owned)) -> (u32, Handle) {
         let handle = Handle::closed();
         let (file, folder) = (number(files.0), number(files.1));
-        let why =
-            unsafe { c8_open_journal(text.as_ptr(), text.len(), player, room, patience, file, folder, handle.0.get()) };
+        let (at, length, drawn) = (text.as_ptr(), text.len(), drawn_life());
+        let why = unsafe { c8_open_journal(at, length, player, room, drawn, patience, file, folder, handle.0.get()) };
         (why, handle)
     }
 
@@ -85,7 +95,7 @@ impl Handle {
         unsafe { c8_deliver(self.0.get(), bytes.as_ptr(), bytes.len()) }
     }
 
-    pub fn tick(&mut self, input: u16) -> u32 {
+    pub fn tick(&mut self, input: u64) -> u32 {
         unsafe { c8_tick(self.0.get(), input) }
     }
 
@@ -113,6 +123,10 @@ impl Handle {
         unsafe { c8_end(self.0.get(), frames) }
     }
 
+    pub fn bye(&mut self) -> u32 {
+        unsafe { c8_bye(self.0.get()) }
+    }
+
     pub fn event(&mut self, event: &mut EventState) -> bool {
         unsafe { c8_event(self.0.get(), event) }
     }
@@ -129,6 +143,10 @@ impl Handle {
         unsafe { c8_is_over(self.0.get()) }
     }
 
+    pub fn why_over(&self) -> u32 {
+        unsafe { c8_why_over(self.0.get()) }
+    }
+
     pub fn is_lost(&self) -> bool {
         unsafe { c8_is_lost(self.0.get()) }
     }
@@ -142,7 +160,7 @@ impl Handle {
     }
 
     /// Four words in a row are an array: a slice of arrays has no gaps.
-    pub fn step(&mut self, from: &mut u32, rows: &mut [[u16; 4]]) -> u32 {
+    pub fn step(&mut self, from: &mut u32, rows: &mut [[u64; 4]]) -> u32 {
         unsafe { c8_step(self.0.get(), from, rows.as_mut_ptr().cast(), 4 * rows.len()) }
     }
 
@@ -199,8 +217,8 @@ impl Handle {
     }
 }
 
-pub fn rules(players: u8, frames: u32, delay: u8, window: u8, id: &[u8; 32], out: &mut [u8]) -> u32 {
-    unsafe { c8_rules(players, frames, delay, window, id.as_ptr(), out.as_mut_ptr(), out.len()) }
+pub fn rules(players: u8, frames: u32, delay: u8, window: u8, width: u8, id: &[u8; 32], out: &mut [u8]) -> u32 {
+    unsafe { c8_rules(players, frames, delay, window, width, id.as_ptr(), out.as_mut_ptr(), out.len()) }
 }
 
 pub fn explain(number: u32, out: &mut [u8]) -> u32 {

@@ -5,11 +5,11 @@ use c8play_session::{Heard, Kind, Refusal, Rules, Sender, Session, Steps};
 const FRAMES: u32 = 400;
 
 fn rules(players: u8) -> String {
-    Rules { players, frames: FRAMES, delay: 1, window: 8, id: [7; 32] }.text().unwrap()
+    Rules { players, frames: FRAMES, delay: 1, window: 8, width: 0, id: [7; 32] }.text().unwrap()
 }
 
-fn step(state: u64, row: [u16; 4]) -> u64 {
-    row.iter().fold(state, |sum, input| sum.wrapping_mul(1_000_003).wrapping_add(u64::from(*input)))
+fn step(state: u64, row: [u64; 4]) -> u64 {
+    row.iter().fold(state, |sum, input| sum.wrapping_mul(1_000_003).wrapping_add(*input))
 }
 
 /// A player with all its states.
@@ -34,7 +34,7 @@ impl Player {
 
     fn turn(&mut self, queue: &mut Vec<(u8, Vec<u8>)>) {
         let input = self.session.ticked().wrapping_mul(7919 * u32::from(self.number)) >> 3;
-        let _ = self.session.tick(input as u16);
+        let _ = self.session.tick(u64::from(input as u16));
         self.session.turn().unwrap();
         queue.extend(self.session.packets().map(|packet| (packet.to(), packet.to_vec())));
         let states = &mut self.states;

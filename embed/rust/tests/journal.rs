@@ -27,7 +27,7 @@ impl Drop for Folder {
 }
 
 fn rules() -> String {
-    Rules { players: 2, frames: 100, delay: 1, window: 8, id: [1; 32] }.text().unwrap()
+    Rules { players: 2, frames: 100, delay: 1, window: 8, width: 0, id: [1; 32] }.text().unwrap()
 }
 
 fn open(journal: Journal) -> Result<Session, Refusal> {
@@ -35,7 +35,7 @@ fn open(journal: Journal) -> Result<Session, Refusal> {
 }
 
 /// All rows of a session.
-fn rows(session: &mut Session) -> Vec<[u16; 4]> {
+fn rows(session: &mut Session) -> Vec<[u64; 4]> {
     let mut rows = vec![];
     session.run(&mut Steps::new(3), |frame, row| {
         assert_eq!(frame as usize, rows.len());
@@ -110,7 +110,7 @@ fn a_replay_reads_and_changes_nothing() {
     one.tick(6).unwrap();
     assert_eq!((one.ticked(), replay.ticked()), (4, 3));
 
-    let other = Rules { players: 2, frames: 100, delay: 1, window: 8, id: [2; 32] }.text().unwrap();
+    let other = Rules { players: 2, frames: 100, delay: 1, window: 8, width: 0, id: [2; 32] }.text().unwrap();
     assert_eq!(Session::replay(other, File::open(&path).unwrap()).err(), Some(Refusal::WrongGame));
     fs::write(&path, "").unwrap();
     assert_eq!(Session::replay(rules(), File::open(&path).unwrap()).err(), Some(Refusal::BadRecord));

@@ -6,7 +6,7 @@ const ROOM: u64 = 9;
 
 /// Three players, four frames, delay 0, window 2.
 fn rules() -> String {
-    Rules { players: 3, frames: 4, delay: 0, window: 2, id: [0; 32] }.text().unwrap()
+    Rules { players: 3, frames: 4, delay: 0, window: 2, width: 0, id: [0; 32] }.text().unwrap()
 }
 
 fn open(player: u8) -> Session {
@@ -73,11 +73,11 @@ fn texts_of_games() {
     assert_eq!(line("mask1 fffg\n"), Some(Refusal::GameHex));
     let odd = [(1, 1, 0, 1), (5, 1, 0, 1), (2, 0, 0, 1), (2, 262_145, 0, 1), (2, 1, 5, 1), (2, 1, 0, 13)];
     for (players, frames, delay, window) in odd {
-        let rules = Rules { players, frames, delay, window, id: [0; 32] };
+        let rules = Rules { players, frames, delay, window, width: 0, id: [0; 32] };
         assert_eq!(rules.text(), Err(Refusal::GameRange), "{rules:?}");
     }
     for (players, frames, delay, window) in [(2, 1, 0, 1), (4, 262_144, 4, 12)] {
-        let rules = Rules { players, frames, delay, window, id: [0; 32] };
+        let rules = Rules { players, frames, delay, window, width: 0, id: [0; 32] };
         assert!(Session::open(rules.text().unwrap(), 1, ROOM, 0).is_ok(), "{rules:?}");
     }
 }
@@ -93,8 +93,9 @@ fn openings() {
 #[test]
 fn ticks() {
     let mut session = open(1);
+    assert_eq!(session.tick(1 << 16), Err(Refusal::Wide));
     assert_eq!((session.tick(1), session.tick(1), session.tick(1)), (Ok(()), Ok(()), Err(Refusal::Threshold)));
-    let rules = Rules { players: 2, frames: 1, delay: 0, window: 9, id: [0; 32] };
+    let rules = Rules { players: 2, frames: 1, delay: 0, window: 9, width: 0, id: [0; 32] };
     let mut short = Session::open(rules.text().unwrap(), 1, ROOM, 0).unwrap();
     assert_eq!((short.tick(1), short.tick(1)), (Ok(()), Err(Refusal::End)));
 }
@@ -111,11 +112,13 @@ fn bytes_that_are_no_datagram() {
     refused(&mut two, &[], Refusal::WireShort);
     refused(&mut two, &hello[..23], Refusal::WireShort);
     refused(&mut two, &with(1, 0), Refusal::WireMagic);
-    refused(&mut two, &with(2, 3), Refusal::WireVersion);
+    refused(&mut two, &with(2, 0), Refusal::WireVersion);
+    refused(&mut two, &with(2, 11), Refusal::WireVersion);
     refused(&mut two, &with(3, 9), Refusal::WireKind);
     refused(&mut two, &with(15, 1), Refusal::WireLength);
     refused(&mut two, &with(13, 1), Refusal::WirePlayer);
     refused(&mut two, &with(2, 2), Refusal::OtherWire);
+    refused(&mut two, &with(2, 4), Refusal::OtherWire);
     refused(&mut two, &datagram(4, 1, 2, &[3, 1, 0, 0, 0, 0]), Refusal::WireReserved);
     refused(&mut two, &datagram(3, 1, 2, &data(&open(1), 0, 0, &[0; 65])), Refusal::WireCount);
     refused(&mut two, &datagram(3, 1, 2, &data(&open(1), 262_149, 0, &[])), Refusal::WireBeyond);
@@ -195,7 +198,7 @@ fn sayings() {
 #[test]
 fn checkpoints() {
     assert_eq!(open(1).checkpoint(), Err(Refusal::Nothing));
-    let rules = Rules { players: 2, frames: 4, delay: 1, window: 2, id: [0; 32] }.text().unwrap();
+    let rules = Rules { players: 2, frames: 4, delay: 1, window: 2, width: 0, id: [0; 32] }.text().unwrap();
     let mut session = Session::open(rules, 1, ROOM, 0).unwrap();
     session.tick(0).unwrap(); // the first frame is confirmed: its inputs are those of the delay
     let parts = (0..).take_while(|_| session.checkpoint() == Ok(false)).count();

@@ -54,9 +54,9 @@ static void say(c8_session players[3], uint8_t from, uint8_t kind) {
 static void record(uint32_t frames) {
     static const uint8_t id[32] = "bench 1";
     c8_session players[3] = {{0}};
-    parts[TEXT].length = c8_rules(2, frames + WINDOW, 0, WINDOW, id, parts[TEXT].bytes, LONGEST);
+    parts[TEXT].length = c8_rules(2, frames + WINDOW, 0, WINDOW, 0, id, parts[TEXT].bytes, LONGEST);
     for (uint8_t me = 1; me <= 2; me++)
-        must(c8_open(parts[TEXT].bytes, parts[TEXT].length, me, ROOM, 0, &players[me]), "open");
+        must(c8_open(parts[TEXT].bytes, parts[TEXT].length, me, ROOM, 0, 0, &players[me]), "open");
     count = 1;
     for (uint8_t kind = HELLO; kind <= WELCOME; kind++) say(players, 1, kind), say(players, 2, kind);
     for (uint32_t frame = 0; frame < WINDOW; frame++) must(c8_tick(&players[1], input(1, frame)), "tick");
@@ -105,9 +105,9 @@ static double play(const char *journal, c8_session *player) {
     if (journal) {
         int32_t file, folder;
         must(c8_journal_open(journal, &file, &folder) < 0, journal);
-        must(c8_open_journal(parts[TEXT].bytes, parts[TEXT].length, 1, ROOM, 0, file, folder, player), "open");
+        must(c8_open_journal(parts[TEXT].bytes, parts[TEXT].length, 1, ROOM, 0, 0, file, folder, player), "open");
     } else {
-        must(c8_open(parts[TEXT].bytes, parts[TEXT].length, 1, ROOM, 0, player), "open");
+        must(c8_open(parts[TEXT].bytes, parts[TEXT].length, 1, ROOM, 0, 0, player), "open");
     }
     for (uint32_t i = TEXT + 1; i < FIRST; i++) must(c8_deliver(player, parts[i].bytes, parts[i].length), "deliver");
     for (uint32_t frame = 0; frame < WINDOW; frame++) must(c8_tick(player, input(1, frame)), "tick");

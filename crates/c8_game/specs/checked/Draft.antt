@@ -7,11 +7,12 @@ use Rattle.c8_game.specs.declared.error.GameError.{GameError}
 use Rattle.c8_game.specs.declared.error.GameError.TheVariants.{Memory}
 use Rattle.c8_game.specs.declared.text.draft.Draft.{Draft}
 use Rattle.c8_game.specs.declared.text.field.Field.{Field}
-use Rattle.c8_game.specs.declared.text.field.Field.TheVariants.{Players, Ipf, Frames, Delay, Window, Seed, Wire, Mask1, Mask2, Mask3, Mask4}
+use Rattle.c8_game.specs.declared.text.field.Field.TheVariants.{Players, Ipf, Frames, Delay, Window, Seed, Wire, InputWidth, Mask1, Mask2}
+use Rattle.c8_game.specs.declared.text.field.Field.TheVariants.{Mask3, Mask4}
 use Rattle.c8_game.specs.GameText.{Item, Says, numbers_for, code_of}
 use Rattle.c8_game.specs.Faults.{AreFaultless}
-use Rattle.c8_game.specs.GameFaults.{line_fault, end_fault}
-use Rattle.c8_game.specs.checked.Places.{number_at, untold_number, listed}
+use Rattle.c8_game.specs.GameFaults.{line_fault, width_in, end_fault}
+use Rattle.c8_game.specs.checked.Places.{number_at, untold_number, told_by, listed}
 use Rattle.c8_game.specs.Rules.{Rules}
 use Rattle.c8_game.specs.Wire.{version_number}
 
@@ -23,9 +24,10 @@ pub record Holds (draft : Draft) (items : List Item) : Type 0 where
 -- a line was added to those before it, or its fault was found
 abbrev pub AddsLine : Draft → Draft → List ℕ → Result (Unit {0}) GameError → Type 0
 AddsLine old new line result =
-    (before : List (List ℕ)) (items : List Item) → AllZip Says before items → Holds old items
-    → MatchResult result (λ _. (line_fault before line ≡ None) × ((item : Item) × Says line item × Holds new (items ++ item ∷ [])))
-    (λ e. (e ≡ Memory) ⊎ (line_fault before line ≡ Some e))
+    (before : List (List ℕ)) (items : List Item) → AllZip (Says old.width.bytes) before items → Holds old items
+    → MatchResult result (λ _. (line_fault old.width.bytes before line ≡ None)
+    × ((item : Item) × Says old.width.bytes line item × Holds new (items ++ item ∷ [])))
+    (λ e. (e ≡ Memory) ⊎ (line_fault old.width.bytes before line ≡ Some e))
 
 -- the first number that the items have for a field, else what the field has without a line
 abbrev pub first_for : List Item → Field → ℕ
@@ -40,6 +42,7 @@ pub record AreFirst (items : List Item) (rules : Rules) : Type 0 where
   pub window : rules.window ≡ first_for items Window
   pub seed : rules.seed ≡ first_for items Seed
   pub wire : version_number rules.wire ≡ first_for items Wire
+  pub width : rules.width ≡ first_for items InputWidth
   pub masks : rules.masks ≡ first_for items Mask1 ∷ first_for items Mask2 ∷ first_for items Mask3 ∷ first_for items Mask4 ∷ []
   pub program : rules.program ≡ code_of items
 
@@ -51,7 +54,9 @@ Finishes draft result =
 
 -- no line of the text has a fault, and the draft has what they say
 pub record IsDraftOf (text : List ℕ) (draft : Draft) : Type 0 where
-  pub faultless : AreFaultless line_fault (lines text)
+  pub wide : draft.width.bytes ≡ width_in (lines text)
+  pub told : draft.width.bytes ≡ told_by draft.values InputWidth
+  pub faultless : AreFaultless (line_fault (width_in (lines text))) (lines text)
   pub items : List Item
-  pub says : AllZip Says (lines text) items
+  pub says : AllZip (Says (width_in (lines text))) (lines text) items
   pub holds : Holds draft items

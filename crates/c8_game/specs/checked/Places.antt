@@ -3,7 +3,8 @@
 use Rattle.std.specs.Prelude.{ℕ, List, [], ◌∷◌, Option, Some, None, unwrap_or, slice_index_or}
 use Rattle.c8_game.specs.declared.text.field.Field.{Field}
 use Rattle.c8_game.specs.Fields.{default_of}
-use Rattle.c8_game.specs.declared.text.field.Field.TheVariants.{Players, Ipf, Frames, Delay, Window, Seed, Wire, Mask1, Mask2, Mask3, Mask4}
+use Rattle.c8_game.specs.declared.text.field.Field.TheVariants.{Players, Ipf, Frames, Delay, Window, Seed, Wire, InputWidth, Mask1, Mask2}
+use Rattle.c8_game.specs.declared.text.field.Field.TheVariants.{Mask3, Mask4}
 
 -- the place of a field among the draft's numbers
 abbrev pub index_of : Field → ℕ
@@ -14,10 +15,11 @@ index_of Delay = 3
 index_of Window = 4
 index_of Seed = 5
 index_of Wire = 6
-index_of Mask1 = 7
-index_of Mask2 = 8
-index_of Mask3 = 9
-index_of Mask4 = 10
+index_of InputWidth = 7
+index_of Mask1 = 8
+index_of Mask2 = 9
+index_of Mask3 = 10
+index_of Mask4 = 11
 
 -- the number that a draft has for a field, if it has one
 abbrev pub number_at : List (Option ℕ) → Field → Option ℕ

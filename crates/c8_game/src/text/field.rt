@@ -13,6 +13,7 @@ pub enum Field {
     Window,
     Seed,
     Wire,
+    InputWidth,
     Mask1,
     Mask2,
     Mask3,
@@ -20,7 +21,7 @@ pub enum Field {
 }
 
 /// All fields, each at its index.
-pub const FIELDS: [Field; 11] = [
+pub const FIELDS: [Field; 12] = [
     Field::Players,
     Field::Ipf,
     Field::Frames,
@@ -28,6 +29,7 @@ pub const FIELDS: [Field; 11] = [
     Field::Window,
     Field::Seed,
     Field::Wire,
+    Field::InputWidth,
     Field::Mask1,
     Field::Mask2,
     Field::Mask3,
@@ -36,7 +38,7 @@ pub const FIELDS: [Field; 11] = [
 
 impl Field {
     ghost use Rattle.c8_game.specs.checked.Places.{index_of};
-    ghost use Rattle.c8_game.specs.Fields.{fields, word_of, owner_of, is_mask, least_of, greatest_of, default_of, field_named};
+    ghost use Rattle.c8_game.specs.Fields.{fields, word_of, owner_of, since_of, is_mask, least_of, greatest_of, default_of, field_named};
 
     /// Returns the field with this name.
     pub fn named(word: &[u8]) -> Option<Field>
@@ -57,6 +59,7 @@ impl Field {
             Field::Window => b"window",
             Field::Seed => b"seed",
             Field::Wire => b"wire",
+            Field::InputWidth => b"input",
             Field::Mask1 => b"mask1",
             Field::Mask2 => b"mask2",
             Field::Mask3 => b"mask3",
@@ -67,7 +70,7 @@ impl Field {
     /// Returns the place of the field in `FIELDS`.
     pub(crate) fn index(self) -> usize
         ensures value { result ≡ index_of self }
-        ensures small { result < 11 }
+        ensures small { result < 12 }
     {
         self as usize
     }
@@ -85,7 +88,17 @@ impl Field {
         }
     }
 
-    /// Returns whether the field is a mask. Masks are four hexadecimal digits, all other fields decimals.
+    /// Returns the first wire version whose games have the field.
+    pub fn since(self) -> u64
+        ensures { result ≡ since_of self }
+    {
+        match self {
+            Field::InputWidth => 3,
+            _ => 1,
+        }
+    }
+
+    /// Returns whether the field is a mask. Masks are hexadecimal digits, all other fields decimals.
     pub fn is_mask(self) -> bool
         ensures { result ≡ is_mask self }
     {
@@ -98,12 +111,12 @@ impl Field {
     {
         match self {
             Field::Players => 2,
-            Field::Ipf | Field::Frames | Field::Window | Field::Wire => 1,
+            Field::Ipf | Field::Frames | Field::Window | Field::Wire | Field::InputWidth => 1,
             _ => 0,
         }
     }
 
-    /// Returns the greatest number that the field may have.
+    /// Returns the greatest number that the field may have. The digits of a mask bound it further.
     pub fn greatest(self) -> u64
         ensures { result ≡ greatest_of self }
     {
@@ -112,9 +125,9 @@ impl Field {
             Field::Ipf => 100,
             Field::Frames => u64::from(MOST_FRAMES),
             Field::Window => 12,
-            Field::Seed => u64::MAX,
-            Field::Wire => 2,
-            Field::Mask1 | Field::Mask2 | Field::Mask3 | Field::Mask4 => 65535,
+            Field::Wire => 3,
+            Field::InputWidth => 8,
+            Field::Seed | Field::Mask1 | Field::Mask2 | Field::Mask3 | Field::Mask4 => u64::MAX,
         }
     }
 
@@ -126,6 +139,7 @@ impl Field {
     {
         match self {
             Field::Wire => Some(1),
+            Field::InputWidth => Some(2),
             _ => None,
         }
     }

@@ -1,12 +1,13 @@
 //! Reads the value of a field.
 ghost use Rattle.std.specs.Prelude.{◌≡◌, true, false, Some, None, IfOk, IsTrue, MatchResult};
+ghost use Rattle.c8_game.specs.Inputs.{Fits};
 ghost use Rattle.std.specs.Char.{is_ascii_digit};
 ghost use Rattle.std.specs.List.{list_all};
 ghost use Rattle.c8_game.specs.Fields.{is_mask, is_decimal, decimal_number, is_number, number_of, IsWithin};
 ghost use Rattle.c8_game.specs.GameFaults.{field_fault};
 
 use crate::error::GameError;
-use crate::row::Keys;
+use crate::input::{Input, Width};
 use crate::text::field::Field;
 
 /// Returns whether the text is 1 to 20 digits.
@@ -35,17 +36,18 @@ pub fn decimal_number(text: &[u8]) -> u128
 }
 
 /// Returns the number of a value, the digits of a mask or a decimal, if it is in the field's range.
-pub fn number(field: Field, value: &[u8]) -> Result<u64, GameError>
+pub fn number(field: Field, value: &[u8], width: Width) -> Result<u64, GameError>
     requires { is_mask field ≡ false → is_decimal value.now ≡ true }
-    ensures value { IfOk result (λ n. n ≡ number_of field value.now) }
+    ensures value { IfOk result (λ n. n ≡ number_of width.bytes field value.now) }
     ensures within { IfOk result (IsWithin field) }
+    ensures fits { is_mask field ≡ true → IfOk result (Fits width.bytes) }
     ensures fault { MatchResult result
-        (λ _. field_fault field false value.now ≡ None)
-        (λ e. field_fault field false value.now ≡ Some e) }
+        (λ _. field_fault width.bytes field false value.now ≡ None)
+        (λ e. field_fault width.bytes field false value.now ≡ Some e) }
 {
     if field.is_mask() {
-        return match Keys::from_hex(value) {
-            Some(keys) => Ok(u64::from(keys.0)),
+        return match Input::from_hex(value, width) {
+            Some(input) => Ok(input.0),
             None => Err(GameError::Hex),
         };
     }

@@ -136,12 +136,8 @@ set_stays old new still frame q below from =
     ]
 
 pub same_row : (a b : ℕ → ℕ) → a 1 ≡ b 1 → a 2 ≡ b 2 → a 3 ≡ b 3 → a 4 ≡ b 4
-    → ◌≡◌ {A = Row} (record { sets = map (λ q. record { 0 = a q }) (1 ∷ 2 ∷ 3 ∷ 4 ∷ []) })
-    (record { sets = map (λ q. record { 0 = b q }) (1 ∷ 2 ∷ 3 ∷ 4 ∷ []) })
-same_row a b one two three four = λ i. record {
-  sets =
-      (record { 0 = one i }) ∷ (record { 0 = two i }) ∷ (record { 0 = three i }) ∷ (record { 0 = four i }) ∷ [];
-}
+    → ◌≡◌ {A = Row} (record { inputs = map a (1 ∷ 2 ∷ 3 ∷ 4 ∷ []) }) (record { inputs = map b (1 ∷ 2 ∷ 3 ∷ 4 ∷ []) })
+same_row a b one two three four = λ i. record { inputs = one i ∷ two i ∷ three i ∷ four i ∷ [] }
 
 pub row_stays : (old new : KnownValue) → IsStillKnown old new → (frame : ℕ) → frame < confirmed old → row new frame ≡ row old frame
 row_stays old new still frame below =

@@ -1,13 +1,14 @@
 -- Checked, not believed: what a journal says with more records after it.
-use Rattle.std.proofs.Common.{◌≡◌, ℕ, ◌||◌, ◌⊎◌, inl, inr, List, [], ◌∷◌, ◌++◌, Bool, true, false, Some, refl, sym, ap, ◌∙◌, append_assoc}
-use Rattle.std.specs.Prelude.{◌==◌}
+use Rattle.std.proofs.Common.{◌≡◌, ℕ, zero, suc, ◌≢◌, ◌||◌, ◌⊎◌, inl, inr, List, [], ◌∷◌, ◌++◌, Bool, true, false, Some, refl, sym, ap, ◌∙◌, append_assoc, arith}
+use Rattle.std.specs.Prelude.{◌==◌, if◌then◌else◌}
 use Rattle.std.specs.List.{slice_get, flat_map, list_any}
-use Rattle.std.proofs.lemmas.Bool.{or_parts}
+use Rattle.std.proofs.lemmas.Bool.{or_parts, ne_eqb}
 use Rattle.std.proofs.lemmas.Grind.{flat_map-append}
 use Rattle.std.proofs.lemmas.List.{append-nil}
 use Rattle.std.proofs.lemmas.List.Folds.{list_any-append}
 use Rattle.c8_game.specs.Rules.{Rules}
 use Rattle.c8_known.specs.Journal.{Record, words_of, freezes, lets_go, cuts_of, epochs_of, held, epochs, had_epoch, has_freeze, has_leave, cut_of}
+use Rattle.c8_known.specs.Journal.{life_in, met_in, first_of, first_in, life_of, met_of, match_of}
 use Rattle.c8_known.specs.Growth.{Begins}
 
 pub held_more : (rules : Rules) (q : ℕ) (journal more : List Record)
@@ -60,14 +61,14 @@ epoch_stays number journal more is =
     rw (flat_map-append epochs_of journal more, list_any-append (λ epoch. epoch == number) (flat_map epochs_of journal) (flat_map epochs_of more))
     (or_first (list_any (λ epoch. epoch == number) (flat_map epochs_of journal)) (list_any (λ epoch. epoch == number) (flat_map epochs_of more)) is)
 
-first_of : (xs ys : List ℕ) (K : ℕ) → slice_get xs 0 ≡ Some K → slice_get (xs ++ ys) 0 ≡ Some K
-first_of [] ys K is = absurd cc
-first_of (x ∷ xs) ys K is = is
+front_of : (xs ys : List ℕ) (K : ℕ) → slice_get xs 0 ≡ Some K → slice_get (xs ++ ys) 0 ≡ Some K
+front_of [] ys K is = absurd cc
+front_of (x ∷ xs) ys K is = is
 
 pub cut_stays : (q K : ℕ) (journal more : List Record) → cut_of q journal ≡ Some K → cut_of q (journal ++ more) ≡ Some K
 unfolding cut_of
 cut_stays q K journal more is = rw (flat_map-append (cuts_of q) journal more)
-    (first_of (flat_map (cuts_of q) journal) (flat_map (cuts_of q) more) K is)
+    (front_of (flat_map (cuts_of q) journal) (flat_map (cuts_of q) more) K is)
 
 -- a cut was there before, or the record makes it
 old_or_new : (xs ys : List ℕ) (K : ℕ) → slice_get (xs ++ ys) 0 ≡ Some K → (slice_get xs 0 ≡ Some K) ⊎ (slice_get ys 0 ≡ Some K)
@@ -82,3 +83,69 @@ cut_next q K journal r is =
     (sym (ap (λ (cuts : List ℕ). slice_get cuts 0)
     (flat_map-append (cuts_of q) journal (r ∷ [])
     ∙ ap (λ (more : List ℕ). flat_map (cuts_of q) journal ++ more) (append-nil (cuts_of q r)))) ∙ is)
+
+-- ---- lives
+
+first_kept : (a b : ℕ) → a ≢ 0 → first_of a b ≡ a
+first_kept a b some = ap (λ (none : Bool). if none then b else a) (ne_eqb a 0 some)
+
+some_there : (a : ℕ) → suc a ≢ 0
+some_there a = λ e. absurd (omega (arith, e))
+
+one_of_three : (a b c : ℕ) → first_of a (first_of b c) ≡ first_of (first_of a b) c
+one_of_three zero b c = refl
+one_of_three (suc a) b c =
+    first_kept (suc a) (first_of b c) (some_there a)
+    ∙ sym (ap (λ (n : ℕ). first_of n c) (first_kept (suc a) b (some_there a)) ∙ first_kept (suc a) c (some_there a))
+
+pub first_more : (f : Record → ℕ) (journal more : List Record)
+    → first_in f (journal ++ more) ≡ first_of (first_in f journal) (first_in f more)
+unfolding first_in
+first_more f [] more = refl
+first_more f (r ∷ journal) more =
+    ap (λ (n : ℕ). first_of (f r) n) (first_more f journal more) ∙ one_of_three (f r) (first_in f journal) (first_in f more)
+
+of_one : (n : ℕ) → first_of n 0 ≡ n
+of_one zero = refl
+of_one (suc n) = first_kept (suc n) 0 (some_there n)
+
+pub first_next : (f : Record → ℕ) (journal : List Record) (r : Record) → first_in f (journal ++ r ∷ []) ≡ first_of (first_in f journal) (f r)
+unfolding first_in
+first_next f journal r = first_more f journal (r ∷ []) ∙ ap (λ (n : ℕ). first_of (first_in f journal) n) (of_one (f r))
+
+first_stays : (f : Record → ℕ) (journal more : List Record) → first_in f journal ≢ 0 → first_in f (journal ++ more) ≡ first_in f journal
+first_stays f journal more some = first_more f journal more ∙ first_kept (first_in f journal) (first_in f more) some
+
+pub life_stays : (journal more : List Record) → life_of journal ≢ 0 → life_of (journal ++ more) ≡ life_of journal
+life_stays journal more some = first_stays life_in journal more some
+
+pub met_stays : (q : ℕ) (journal more : List Record) → met_of q journal ≢ 0 → met_of q (journal ++ more) ≡ met_of q journal
+met_stays q journal more some = first_stays (met_in q) journal more some
+
+pub life_next : (journal : List Record) (r : Record) → life_of (journal ++ r ∷ []) ≡ first_of (life_of journal) (life_in r)
+life_next journal r = first_next life_in journal r
+
+pub met_next : (q : ℕ) (journal : List Record) (r : Record) → met_of q (journal ++ r ∷ []) ≡ first_of (met_of q journal) (met_in q r)
+met_next q journal r = first_next (met_in q) journal r
+
+-- of either kind of player
+either_stays : (b : Bool) (one later other after : ℕ) → (one ≢ 0 → later ≡ one) → (other ≢ 0 → after ≡ other)
+    → (if b then one else other) ≢ 0 → (if b then later else after) ≡ (if b then one else other)
+either_stays true one later other after first second some = first some
+either_stays false one later other after first second some = second some
+
+pub match_stays : (me : ℕ) (journal more : List Record) → match_of me journal ≢ 0 → match_of me (journal ++ more) ≡ match_of me journal
+match_stays me journal more some =
+    either_stays (me == 1) (life_of journal) (life_of (journal ++ more)) (met_of 1 journal) (met_of 1 (journal ++ more))
+    (life_stays journal more) (met_stays 1 journal more) some
+
+either_next : (b : Bool) (one later other after first second : ℕ) → later ≡ first_of one first → after ≡ first_of other second
+    → (if b then later else after) ≡ first_of (if b then one else other) (if b then first else second)
+either_next true one later other after first second left right = left
+either_next false one later other after first second left right = right
+
+pub match_next : (me : ℕ) (journal : List Record) (r : Record)
+    → match_of me (journal ++ r ∷ []) ≡ first_of (match_of me journal) (if me == 1 then life_in r else met_in 1 r)
+match_next me journal r =
+    either_next (me == 1) (life_of journal) (life_of (journal ++ r ∷ [])) (met_of 1 journal) (met_of 1 (journal ++ r ∷ []))
+    (life_in r) (met_in 1 r) (life_next journal r) (met_next 1 journal r)

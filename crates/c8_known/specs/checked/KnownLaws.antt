@@ -1,18 +1,47 @@
 -- Checked, not believed: each record keeps the invariant and what is known.
 use Rattle.std.proofs.Common.{◌≡◌, ◌≢◌, ℕ, zero, suc, ◌+◌, ◌-◌, ◌<◌, ◌≤◌, ◌||◌, List, [], ◌∷◌, ◌++◌, length, Bool, true, false, Option}
-use Rattle.std.proofs.Common.{Some, None, refl, sym, ap, ◌∙◌, inl, inr, length-append, arith, slice_set, slice_index_or}
+use Rattle.std.proofs.Common.{Some, None, refl, sym, ap, ◌∙◌, inl, inr, length-append, arith, slice_set, slice_index_or, slice_index, take, drop}
+use Rattle.std.specs.Prelude.{nat_le, cond}
+use Rattle.std.specs.List.{slice_get}
 use Rattle.std.proofs.lemmas.Bool.{cases_eq}
-use Rattle.std.proofs.lemmas.List.{append-nil, length-set, get_or-set_same, get_or-set_other}
+use Rattle.std.proofs.lemmas.List.{append-nil, length-set, get_or-set_same, get_or-set_other, get_or-drop}
+use Rattle.c8_game.specs.Inputs.{Fits}
+use Rattle.c8_wire.specs.Packet.{AreInputs, IsRow}
+use Rattle.c8_wire.specs.checked.WordLaws.{one_or_more}
 use Rattle.c8_known.specs.Journal.{Own, Got, Freeze, Leave, Cut}
 use Rattle.c8_known.specs.Known.{PlayerValue, KnownValue, nobody, player_in, count_in, is_frozen_in, with_words, cut_at, with_cut}
 use Rattle.c8_known.specs.Known.{with_record, Plays, EndsAtCut, IsKnown}
 use Rattle.c8_known.specs.Growth.{IsStillKnownOf, IsStillKnown}
+use Rattle.c8_known.specs.Confirmed.{past_cut, unless_held, input_of, or_empty, row_of, row, or_last, best_input, best_row}
 use Rattle.c8_known.specs.checked.BeginsLaws.{begins_more}
+
+-- ---- inputs that fit
+
+pub fits_none : (width : ℕ) → AreInputs width []
+fits_none width i = one_or_more width
+
+pub fits_one : (width word : ℕ) → Fits width word → AreInputs width (word ∷ [])
+fits_one width word fits zero = fits
+fits_one width word fits (suc i) = one_or_more width
+
+pub fits_joined : (width : ℕ) (xs ys : List ℕ) → AreInputs width xs → AreInputs width ys → AreInputs width (xs ++ ys)
+fits_joined width [] ys first second i = second i
+fits_joined width (x ∷ xs) ys first second zero = first 0
+fits_joined width (x ∷ xs) ys first second (suc i) = fits_joined width xs ys (λ k. first (suc k)) second i
+
+pub fits_drop : (width n : ℕ) (xs : List ℕ) → AreInputs width xs → AreInputs width (drop n xs)
+fits_drop width n xs fits i = rw get_or-drop (fits (n + i))
+
+pub fits_take : (width n : ℕ) (xs : List ℕ) → AreInputs width xs → AreInputs width (take n xs)
+fits_take width zero xs fits i = one_or_more width
+fits_take width (suc n) [] fits i = one_or_more width
+fits_take width (suc n) (x ∷ xs) fits zero = fits 0
+fits_take width (suc n) (x ∷ xs) fits (suc i) = fits_take width n xs (λ k. fits (suc k)) i
 
 -- ---- one player and the number of ticks change
 
 abbrev pub changed : KnownValue → ℕ → ℕ → PlayerValue → KnownValue
-changed k ticks q p = record { me = k.me; delay = k.delay; limit = k.limit; ticks = ticks; players = slice_set k.players (q - 1) p }
+changed k ticks q p = record { me = k.me; delay = k.delay; limit = k.limit; width = k.width; ticks = ticks; players = slice_set k.players (q - 1) p }
 
 pub player_same : (k : KnownValue) (ticks q : ℕ) (p : PlayerValue) (other : ℕ) → q - 1 < length k.players → other - 1 ≡ q - 1
     → player_in (changed k ticks q p) other ≡ p
@@ -28,6 +57,7 @@ place_of k q plays = let from = plays.from_one in let to = plays.in_game in omeg
 -- what a change has to keep
 pub record KeepsSound (k : KnownValue) (ticks q : ℕ) (p : PlayerValue) : Type 0 where
   pub within : length p.held ≤ k.limit
+  pub fits : (place : ℕ) → Fits k.width (slice_index p.held place)
   pub own : q ≡ k.me → length p.held ≡ k.delay + ticks
   pub own_uncut : q ≡ k.me → p.cut ≡ None
   pub others : q ≢ k.me → ticks ≡ k.ticks
@@ -51,6 +81,10 @@ sound_changed k ticks q p known plays keeps =
       within = λ other. elim (cases_eq (other - 1) (q - 1)) [
         | inl same ↦ rw (player_same k ticks q p other place same) keeps.within
         | inr apart ↦ rw (player_other k ticks q p other apart) (known.within other)
+      ];
+      fits = λ other. elim (cases_eq (other - 1) (q - 1)) [
+        | inl same ↦ rw (player_same k ticks q p other place same) keeps.fits
+        | inr apart ↦ rw (player_other k ticks q p other apart) (known.fits other)
       ];
       own = elim (cases_eq k.me q) [
         | inl same ↦ rw (player_same k ticks q p k.me place (ap (λ (n : ℕ). n - 1) same)) (keeps.own (sym same))
@@ -81,6 +115,7 @@ still_changed k ticks q p plays later still = record {
   me = refl;
   delay = refl;
   limit = refl;
+  width = refl;
   ticks = later;
   players = length-set k.players (q - 1) p;
   each = λ other. elim (cases_eq (other - 1) (q - 1)) [
@@ -108,13 +143,15 @@ still_longer p words uncut = record {
 length_more : (xs : List ℕ) (x : ℕ) → length (xs ++ x ∷ []) ≡ length xs + 1
 length_more xs x = length-append xs (x ∷ [])
 
-pub own_known : (k : KnownValue) (start word : ℕ) → IsKnown k → count_in k k.me < k.limit → IsKnown (with_record k (Own k.me start word))
-own_known k start word known room =
+pub own_known : (k : KnownValue) (start word : ℕ) → IsKnown k → count_in k k.me < k.limit → Fits k.width word
+    → IsKnown (with_record k (Own k.me start word))
+own_known k start word known room fits =
     let p : PlayerValue = player_in k k.me in
     let own = known.own in
     let uncut : p.cut ≡ None = known.own_uncut in
     sound_changed k (k.ticks + 1) k.me (with_words p (word ∷ [])) known known.me (record {
       within = omega (arith, length_more p.held word);
+      fits = fits_joined k.width p.held (word ∷ []) (known.fits k.me) (fits_one k.width word fits);
       own = λ same. omega (arith, length_more p.held word, own);
       own_uncut = λ same. uncut;
       others = λ apart. absurd (apart refl);
@@ -127,11 +164,12 @@ own_still k start word known =
     (still_longer (player_in k k.me) (word ∷ []) known.own_uncut)
 
 pub got_known : (k : KnownValue) (q start : ℕ) (words : List ℕ) → IsKnown k → Plays k q → q ≢ k.me → (player_in k q).cut ≡ None
-    → count_in k q + length words ≤ k.limit → IsKnown (with_record k (Got q start words))
-got_known k q start words known plays other uncut room =
+    → count_in k q + length words ≤ k.limit → AreInputs k.width words → IsKnown (with_record k (Got q start words))
+got_known k q start words known plays other uncut room fits =
     let p : PlayerValue = player_in k q in
     sound_changed k k.ticks q (with_words p words) known plays (record {
       within = omega (arith, length-append p.held words);
+      fits = fits_joined k.width p.held words (known.fits q) fits;
       own = λ same. absurd (other same);
       own_uncut = λ same. absurd (other same);
       others = λ apart. refl;
@@ -152,6 +190,7 @@ freeze_known k q known plays =
     let p : PlayerValue = player_in k q in
     sound_changed k k.ticks q (record p { frozen = true }) known plays (record {
       within = known.within q;
+      fits = known.fits q;
       own = λ same. rw same known.own;
       own_uncut = λ same. rw same known.own_uncut;
       others = λ apart. refl;
@@ -170,6 +209,7 @@ leave_known k q known plays =
     let p : PlayerValue = player_in k q in
     sound_changed k k.ticks q (record p { leaving = true }) known plays (record {
       within = known.within q;
+      fits = known.fits q;
       own = λ same. rw same known.own;
       own_uncut = λ same. rw same known.own_uncut;
       others = λ apart. refl;
@@ -189,12 +229,13 @@ some_same (Some first) K length none is = absurd cc
 
 pub cut_known : (k : KnownValue) (q K start : ℕ) (words : List ℕ) → IsKnown k → Plays k q → q ≢ k.me → is_frozen_in k q ≡ true
     → (player_in k q).cut ≡ None
-    → count_in k q + length words ≡ K → K ≤ k.limit → IsKnown (with_record k (Cut q K start words))
-cut_known k q K start words known plays other leaves uncut all room =
+    → count_in k q + length words ≡ K → K ≤ k.limit → AreInputs k.width words → IsKnown (with_record k (Cut q K start words))
+cut_known k q K start words known plays other leaves uncut all room fits =
     let p : PlayerValue = player_in k q in
     let longer = length-append p.held words in
     sound_changed k k.ticks q (with_cut (with_words p words) K) known plays (record {
       within = omega (arith, longer);
+      fits = fits_joined k.width p.held words (known.fits q) fits;
       own = λ same. absurd (other same);
       own_uncut = λ same. absurd (other same);
       others = λ apart. refl;
@@ -230,7 +271,15 @@ cut_in_two k q K start later words plays =
 -- ---- what is still known
 
 pub still_same : (k : KnownValue) → IsStillKnown k k
-still_same k = record { me = refl; delay = refl; limit = refl; ticks = omega arith; players = refl; each = λ q. still_of_same (player_in k q) }
+still_same k = record {
+  me = refl;
+  delay = refl;
+  limit = refl;
+  width = refl;
+  ticks = omega arith;
+  players = refl;
+  each = λ q. still_of_same (player_in k q);
+}
 
 still_of_more : (a b c : PlayerValue) → IsStillKnownOf a b → IsStillKnownOf b c → IsStillKnownOf a c
 still_of_more a b c one two = record {
@@ -249,7 +298,68 @@ still_more a b c one two =
       me = two.me ∙ one.me;
       delay = two.delay ∙ one.delay;
       limit = two.limit ∙ one.limit;
+      width = two.width ∙ one.width;
       ticks = omega (arith, early, late);
       players = two.players ∙ one.players;
       each = λ q. still_of_more (player_in a q) (player_in b q) (player_in c q) (one.each q) (two.each q);
     }
+
+-- ---- rows fit
+
+-- an input that may be missing fits where it is there
+abbrev OneFits : ℕ → Option ℕ → Type 0
+OneFits width None = Unit {0}
+OneFits width (Some input) = Fits width input
+
+got_fits : (width : ℕ) (xs : List ℕ) (place : ℕ) → AreInputs width xs → OneFits width (slice_get xs place)
+got_fits width [] place fits = tt
+got_fits width (x ∷ xs) zero fits = fits 0
+got_fits width (x ∷ xs) (suc place) fits = got_fits width xs place (λ i. fits (suc i))
+
+past_fits : (width : ℕ) (cut : Option ℕ) (frame : ℕ) → OneFits width (past_cut cut frame)
+past_fits width None frame = tt
+past_fits width (Some K) frame = elim (nat_le K frame) as (λ b. OneFits width (cond b (Some 0) None)) [ true ↦ one_or_more width | false ↦ tt ]
+
+either_fits : (width : ℕ) (held past : Option ℕ) → OneFits width held → OneFits width past → OneFits width (unless_held held past)
+either_fits width (Some input) past one other = one
+either_fits width None past one other = other
+
+input_fits : (width : ℕ) (p : PlayerValue) (frame : ℕ) → AreInputs width p.held → OneFits width (input_of p frame)
+unfolding input_of
+input_fits width p frame fits = either_fits width (slice_get p.held frame) (past_cut p.cut frame) (got_fits width p.held frame fits)
+    (past_fits width p.cut frame)
+
+empty_fits : (width : ℕ) (input : Option ℕ) → OneFits width input → Fits width (or_empty input)
+empty_fits width None fits = one_or_more width
+empty_fits width (Some input) fits = fits
+
+last_fits : (width : ℕ) (input : Option ℕ) (p : PlayerValue) → OneFits width input → AreInputs width p.held → Fits width (or_last input p)
+last_fits width None p fits held = held (length p.held - 1)
+last_fits width (Some input) p fits held = fits
+
+best_input_fits : (width : ℕ) (p : PlayerValue) (frame : ℕ) → AreInputs width p.held → Fits width (best_input p frame)
+unfolding best_input
+best_input_fits width p frame fits = last_fits width (input_of p frame) p (input_fits width p frame fits) fits
+
+-- a row of inputs that fit
+row_of_four : (width a b c d place : ℕ) → Fits width a → Fits width b → Fits width c → Fits width d
+    → Fits width (slice_index (a ∷ b ∷ c ∷ d ∷ []) place)
+row_of_four width a b c d zero first second third fourth = first
+row_of_four width a b c d (suc zero) first second third fourth = second
+row_of_four width a b c d (suc (suc zero)) first second third fourth = third
+row_of_four width a b c d (suc (suc (suc zero))) first second third fourth = fourth
+row_of_four width a b c d (suc (suc (suc (suc place)))) first second third fourth = one_or_more width
+
+rows_of : (k : KnownValue) (input : PlayerValue → ℕ) → ((q : ℕ) → Fits k.width (input (player_in k q))) → IsRow k.width (row_of input k)
+rows_of k input fits = record {
+  four = refl;
+  fits = λ place. row_of_four k.width (input (player_in k 1)) (input (player_in k 2)) (input (player_in k 3)) (input (player_in k 4)) place
+      (fits 1) (fits 2) (fits 3) (fits 4);
+}
+
+pub row_fits : (k : KnownValue) (frame : ℕ) → IsKnown k → IsRow k.width (row k frame)
+row_fits k frame known = rows_of k (λ p. or_empty (input_of p frame)) (λ q. empty_fits k.width (input_of (player_in k q) frame)
+    (input_fits k.width (player_in k q) frame (known.fits q)))
+
+pub best_fits : (k : KnownValue) (frame : ℕ) → IsKnown k → IsRow k.width (best_row k frame)
+best_fits k frame known = rows_of k (λ p. best_input p frame) (λ q. best_input_fits k.width (player_in k q) frame (known.fits q))

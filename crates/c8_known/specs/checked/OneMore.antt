@@ -11,7 +11,7 @@ use Rattle.std.proofs.lemmas.List.Sums.{sum_by-append}
 use Rattle.std.proofs.lemmas.List.FromFn.{get_or-map-range_with_len}
 use Rattle.c8_game.specs.Rules.{Rules}
 use Rattle.c8_known.specs.Journal as journals
-use Rattle.c8_known.specs.Journal.{Record, Head, Epoch, Own, Got, Freeze, Leave, Cut, State, Check, words_of, is_own, freezes, lets_go}
+use Rattle.c8_known.specs.Journal.{Record, Head, Epoch, Own, Got, Freeze, Leave, Cut, State, Check, Met, words_of, is_own, freezes, lets_go}
 use Rattle.c8_known.specs.Journal.{cuts_of, player_of}
 use Rattle.c8_known.specs.checked.JournalLaws.{held_next, freeze_next, leave_next}
 use Rattle.c8_known.specs.Known.{PlayerValue, KnownValue, nobody, player_in, said_of, known_of, with_words, cut_at, with_cut, with_record}
@@ -58,10 +58,11 @@ after_none p q r words freeze leave cuts =
     same_player (rw words (append-nil p.held)) (rw freeze (or-false p.frozen)) (rw leave (or-false p.leaving)) (rw cuts refl)
 
 after_other : (p : PlayerValue) (q : ℕ) (r : Record) → player_of r ≢ q → after p q r ≡ p
-after_other p q (Head player form id room) other = after_none p q (Head player form id room) refl refl refl refl
+after_other p q (Head player form id room life) other = after_none p q (Head player form id room life) refl refl refl refl
 after_other p q (Epoch player number form) other = after_none p q (Epoch player number form) refl refl refl refl
 after_other p q (State player frames piece bytes) other = after_none p q (State player frames piece bytes) refl refl refl refl
 after_other p q (Check player frames digest) other = after_none p q (Check player frames digest) refl refl refl refl
+after_other p q (Met player life) other = after_none p q (Met player life) refl refl refl refl
 after_other p q (Own player start word) other = after_none p q (Own player start word) (rw (ne_eqb player q other) refl) refl refl refl
 after_other p q (Got player start words) other = after_none p q (Got player start words) (rw (ne_eqb player q other) refl) refl refl refl
 after_other p q (Freeze player) other = after_none p q (Freeze player) refl (ne_eqb player q other) refl refl
@@ -165,8 +166,8 @@ one_tick journal r own = ticks_more journal r 1 (rw own refl)
 pub one_more : (rules : Rules) (me : ℕ) (journal : List Record) (r : Record) → NamesPlayer rules r
     → known_of rules me (journal ++ r ∷ []) ≡ with_record (known_of rules me journal) r
 unfolding known_of
-one_more rules me journal (Head player form id room) named =
-    let r : Record = Head player form id room in
+one_more rules me journal (Head player form id room life) named =
+    let r : Record = Head player form id room life in
     same_known (known_of rules me journal) (no_tick journal r refl) (table_same rules journal r (λ p q. after_none p q r refl refl refl refl))
 one_more rules me journal (Epoch player number form) named =
     let r : Record = Epoch player number form in
@@ -176,6 +177,9 @@ one_more rules me journal (State player frames piece bytes) named =
     same_known (known_of rules me journal) (no_tick journal r refl) (table_same rules journal r (λ p q. after_none p q r refl refl refl refl))
 one_more rules me journal (Check player frames digest) named =
     let r : Record = Check player frames digest in
+    same_known (known_of rules me journal) (no_tick journal r refl) (table_same rules journal r (λ p q. after_none p q r refl refl refl refl))
+one_more rules me journal (Met player life) named =
+    let r : Record = Met player life in
     same_known (known_of rules me journal) (no_tick journal r refl) (table_same rules journal r (λ p q. after_none p q r refl refl refl refl))
 one_more rules me journal (Own player start word) named =
     let r : Record = Own player start word in

@@ -1,15 +1,17 @@
 -- Checked, not believed: what is known before a journal has a record.
-use Rattle.std.proofs.Common.{◌≡◌, ℕ, ◌+◌, ◌-◌, ◌<◌, ◌≤◌, List, [], length, false, None, sym, ap, ◌∙◌, ◌⊎◌, inl, inr, ⊎_elim, arith}
-use Rattle.std.proofs.Common.{replicate, slice_index_or}
+use Rattle.std.proofs.Common.{◌≡◌, ℕ, zero, suc, ◌+◌, ◌-◌, ◌<◌, ◌≤◌, List, [], length, false, None, sym, ap, subst, ◌∙◌, ◌⊎◌, inl, inr, ⊎_elim, arith}
+use Rattle.std.proofs.Common.{replicate, slice_index, slice_index_or}
 use Rattle.std.proofs.lemmas.Bool.{cases_lt}
 use Rattle.std.proofs.lemmas.List.{append-nil, length-replicate, get_or_past}
 use Rattle.std.proofs.lemmas.List.FromFn.{length-map-range_with_len}
+use Rattle.c8_game.specs.Inputs.{Fits}
 use Rattle.c8_game.specs.Rules.{Rules, AreInRange}
+use Rattle.c8_wire.specs.checked.WordLaws.{one_or_more}
 use Rattle.c8_known.specs.Journal as journals
 use Rattle.c8_known.specs.Known.{PlayerValue, nobody, player_in, count_in, said_of, known_of, IsKnown}
 use Rattle.c8_known.specs.checked.OneMore.{player_known}
 
--- a player with only the empty sets of the delay
+-- a player with only the inputs of the delay
 abbrev pub at_start : ℕ → PlayerValue
 at_start delay = record { held = replicate delay 0; frozen = false; leaving = false; cut = None }
 
@@ -54,6 +56,16 @@ uncut_at_start : (rules : Rules) (me q : ℕ) → (player_in (known_of rules me 
 uncut_at_start rules me q =
     ⊎_elim (λ held. ap (λ (p : PlayerValue). p.cut) held) (λ none. ap (λ (p : PlayerValue). p.cut) none) (player_at_start rules me q)
 
+zeros_fit : (width n i : ℕ) → Fits width (slice_index (replicate n 0) i)
+zeros_fit width zero i = one_or_more width
+zeros_fit width (suc n) zero = one_or_more width
+zeros_fit width (suc n) (suc i) = zeros_fit width n i
+
+fits_at_start : (width : ℕ) (rules : Rules) (me q place : ℕ) → Fits width (slice_index (player_in (known_of rules me []) q).held place)
+fits_at_start width rules me q place =
+    ⊎_elim (λ held. subst (λ (p : PlayerValue). Fits width (slice_index p.held place)) (sym held) (zeros_fit width rules.delay place))
+    (λ none. subst (λ (p : PlayerValue). Fits width (slice_index p.held place)) (sym none) (one_or_more width)) (player_at_start rules me q)
+
 pub known_at_start : (rules : Rules) (me : ℕ) → AreInRange rules → 1 ≤ me → me ≤ rules.players → IsKnown (known_of rules me [])
 unfolding known_of journals.ticks
 known_at_start rules me range from to =
@@ -64,6 +76,7 @@ known_at_start rules me range from to =
       me = record { from_one = from; in_game = omega (arith, all, to) };
       limit = omega (arith, range.frames, range.delay);
       within = λ q. omega (arith, few_at_start rules me q);
+      fits = λ q. fits_at_start rules.width rules me q;
       own = omega (arith, count_at_start rules me me (omega (arith, from, to)));
       own_uncut = uncut_at_start rules me me;
       cuts = λ q K is. absurd (cc (uncut_at_start rules me q, is));

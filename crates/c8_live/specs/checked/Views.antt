@@ -20,7 +20,7 @@ IsViewer {S} me = (w : Watch) × (me ≡ (Watching w, []))
 
 -- a value for views that no token has: no game and no start
 abbrev pub no_game : Rules
-no_game = record { players = 0; ipf = 0; frames = 0; delay = 0; window = 0; seed = 0; wire = One; masks = []; program = [] }
+no_game = record { players = 0; ipf = 0; frames = 0; delay = 0; window = 0; seed = 0; wire = One; width = 0; masks = []; program = [] }
 
 abbrev pub no_start : StartValue
 no_start = record { frames = 0; machine = []; marks = [] }

@@ -5,8 +5,8 @@ ghost use Rattle.c8_machine.specs.Instructions.{Return, Jump, Call, SkipIfValue,
 ghost use Rattle.c8_machine.specs.State.{state};
 ghost use Rattle.c8_machine.specs.Steps.{skipped_if, is_down, Does, Performs};
 
+use crate::keys::Keys;
 use crate::machine::{ADDRESSES, MEMORY_SIZE, Machine, Step, Stop};
-use c8_game::Keys;
 
 impl Machine {
     /// 1MMM: jumps to the address.

@@ -2,12 +2,14 @@
 ghost use Rattle.std.specs.Prelude.{◌≡◌, List, [], ◌∷◌, ◌++◌};
 ghost use Rattle.c8_game.specs.Rules.{joined};
 ghost use Rattle.c8_game.specs.declared.row.Row.{Row};
+ghost use Rattle.c8_machine.specs.Keys.{keys_of};
 ghost use Rattle.c8_machine.specs.State.{state};
 ghost use Rattle.c8_machine.specs.Frames.{IsFrame, Acts, Runs, settled, ended, lowest_released};
 ghost use Rattle.c8_machine.specs.Serial.{frame_of, serial};
 
+use crate::keys::Keys;
 use crate::machine::Machine;
-use c8_game::{Game, Keys};
+use c8_game::Game;
 
 impl Machine {
     /// Runs one frame with the keys that are down in it.
@@ -19,7 +21,7 @@ impl Machine {
         ensures relation { IsFrame game.now keys.0 (state self.old) (state self.new) }
         ensures function { state self.new ≡ frame_of game.now keys.0 (state self.old) }
         ensures serial { (rows : List Row) (row : Row) → state self.old ≡ serial game.now rows
-            → keys.0 ≡ joined game.now row → state self.new ≡ serial game.now (rows ++ row ∷ []) }
+            → keys.0 ≡ keys_of (joined game.now row) → state self.new ≡ serial game.now (rows ++ row ∷ []) }
     {
         if self.stop.is_some() {
             return;

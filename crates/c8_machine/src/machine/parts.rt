@@ -3,8 +3,8 @@ ghost use Rattle.std.specs.Prelude.{◌≡◌, ℕ, ◌<◌, ◌≤◌, IfSome, 
 ghost use Rattle.c8_machine.specs.State.{state};
 ghost use Rattle.c8_machine.specs.Parts.{state_of, are_addresses, is_register, are_of_a_machine};
 
+use crate::keys::Keys;
 use crate::machine::{MEMORY_SIZE, Machine, Stop};
-use c8_game::Keys;
 use c8_screen::Screen;
 
 /// The parts of a machine, with any values. [`Machine::of_parts`] says which values a machine can have.

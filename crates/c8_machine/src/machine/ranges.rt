@@ -2,8 +2,8 @@
 ghost use Rattle.std.specs.Prelude.{ℕ, ◌^◌, ◌<◌, slice_index};
 ghost use Rattle.c8_machine.specs.State.{state, IsState};
 
+use crate::keys::Keys;
 use crate::machine::Machine;
-use c8_game::Keys;
 
 impl Machine {
     /// Ghost call: tells the caller's proof that each part of the state is in its range. It does nothing at run time.

@@ -5,9 +5,10 @@ ghost use Rattle.c8_machine.specs.checked.Decoding.{meaning};
 ghost use Rattle.c8_machine.specs.State.{state};
 ghost use Rattle.c8_machine.specs.Steps.{code_at, next, stopped, register, Executes, IsStep};
 
+use crate::keys::Keys;
 use crate::machine::{ADDRESSES, MEMORY_SIZE, Machine, Step, Stop};
 use crate::operation::{Operation, decode};
-use c8_game::{Game, Keys};
+use c8_game::Game;
 
 impl Machine {
     /// Performs the instruction at the counter, with the keys that are down in this frame. If the machine waits or has

@@ -152,5 +152,5 @@ pub(crate) fn sealer_of(has: Has, seat: Seat, session: u64) -> Option<Sealer> {
         seat,
         session,
     };
-    Some(Sealer::new(seal, Counters::of_epoch(1)))
+    Some(Sealer::new(seal, Counters::of_epoch(0, 1)))
 }

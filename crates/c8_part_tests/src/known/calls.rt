@@ -1,6 +1,6 @@
 //! Each call in a function of its own, which checks what the call requires and has no contract. So a test that makes
 //! many calls is proved for any answers. Each returns `None` or false if the call does not apply.
-use c8_game::{Game, Keys, Player};
+use c8_game::{Game, Input, Player};
 use c8_known::{Known, KnownError};
 use c8_wire::Run;
 use std::alloc::Global;
@@ -22,13 +22,14 @@ pub fn at_first(alloc: Global, game: &Game, me: u8) -> Result<Known, Fail> {
     Ok(Known::new(alloc, game, me)?)
 }
 
-/// Enters a key set of the own player. Returns how many ticks it has then made.
-pub fn enter(known: &mut Known, keys: u16) -> Option<u32> {
+/// Enters an input of the own player. Returns how many ticks it has then made.
+pub fn enter(known: &mut Known, input: u64) -> Option<u32> {
     let me = known.me();
     if known.count(me) >= known.limit() {
         return None;
     }
-    known.own(Keys(keys));
+    let width = known.width();
+    known.own(Input(input).cut(width));
     Some(known.ticks())
 }
 
@@ -39,10 +40,15 @@ pub fn hear(
     start: u32,
     bytes: &[u8],
 ) -> Option<Result<usize, KnownError>> {
-    if player.number > known.players() || bytes.len() > 128 || bytes.len() % 2 != 0 {
+    let width = known.width();
+    let size = usize::from(width.bytes);
+    if bytes.len() > 128 || bytes.len() > 64 * size || bytes.len() % size != 0 {
         return None;
     }
-    let part = match known.fresh(player, player, start, Run::new(bytes)) {
+    if player.number > known.players() {
+        return None;
+    }
+    let part = match known.fresh(player, player, start, Run::new(bytes, width)) {
         Ok(part) => part,
         Err(error) => return Some(Err(error)),
     };

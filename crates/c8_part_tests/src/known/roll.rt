@@ -7,8 +7,8 @@ use c8_known::Known;
 use c8_roll::Roll;
 
 /// Makes a tick of player 1. Returns whether it could.
-fn tick(known: &mut Known, roll: &mut Roll<'_>, keys: u16) -> bool {
-    if enter(known, keys).is_none() || known.ticks() == 0 || known.ticks() - 1 != roll.ticks() {
+fn tick(known: &mut Known, roll: &mut Roll<'_>, input: u64) -> bool {
+    if enter(known, input).is_none() || known.ticks() == 0 || known.ticks() - 1 != roll.ticks() {
         return false;
     }
     roll.advance(known);

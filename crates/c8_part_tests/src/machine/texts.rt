@@ -1,7 +1,8 @@
-//! The texts of errors, players and key sets, and the `Debug` texts of large values.
+//! The texts of errors, players and inputs, and the `Debug` texts of large values.
 use crate::told::{prints, shows};
 use c8_digest::Marks;
-use c8_game::{Game, GameError, Keys, Lines, NoPlayer, Player};
+use c8_game::{Game, GameError, Input, Lines, NoPlayer, Player, Width};
+use c8_machine::Keys;
 use std::alloc::Global;
 use std::test::Fail;
 
@@ -17,12 +18,21 @@ fn tells_that_memory_ran_out(rt: HostRuntime) {
 }
 
 #[test]
-fn prints_players_and_key_sets(rt: HostRuntime) {
+fn prints_players_and_inputs(rt: HostRuntime) {
     let alloc = rt.alloc();
     assert!(rt; prints(alloc, Player::CHAIR, "1"));
     assert!(rt; prints(alloc, Player { number: 4 }, "4"));
     assert!(rt; prints(alloc, NoPlayer, "a player's number is 1 to 4"));
     assert!(rt; prints(alloc, Keys(0x0abc), "0abc"));
+    assert!(rt; prints(alloc, Input(0x0abc).digits(Width::DEFAULT), "0abc"));
+    assert!(rt; prints(alloc, Input(0x0abc).digits(Width { bytes: 1 }), "bc"));
+    assert!(rt;
+        prints(
+            alloc,
+            Input(0x0abc).digits(Width { bytes: 8 }),
+            "0000000000000abc"
+        )
+    );
 }
 
 const GAME: &[u8] =

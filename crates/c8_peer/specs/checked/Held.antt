@@ -2,7 +2,7 @@
 use Rattle.std.specs.Prelude.{◌≡◌, ◌≢◌, ◌⊎◌, ℕ, ◌+◌, ◌^◌, ◌<◌, ◌≤◌, ◌==◌, Some, List, Bool, true, false, if◌then◌else◌}
 use Rattle.c8_game.specs.Rules.{Rules, AreInRange}
 use Rattle.c8_log.specs.Journal.{JournalValue}
-use Rattle.c8_known.specs.Journal.{Record, Head, Epoch, Own, Got, Freeze, Leave, Cut, State, Check, epoch}
+use Rattle.c8_known.specs.Journal.{Record, Head, Epoch, Own, Got, Freeze, Leave, Cut, State, Check, Met, epoch, life_in, met_in}
 use Rattle.c8_known.specs.Known.{KnownValue, known_of}
 use Rattle.c8_known.specs.Confirmed.{confirmed}
 use Rattle.c8_known.specs.Growth.{IsStillKnown}
@@ -28,11 +28,12 @@ pub record IsPeer {D : Type 0} (rules : Rules) (room : ℕ) (journal : JournalVa
   pub from_one : 1 ≤ k.me
   pub in_game : k.me ≤ rules.players
   pub bodies : AreJournalBodies rules k.me room journal.bodies
-  pub pending : (body : List ℕ) → journal.pending ≡ Some body → Spells body (record_of body)
-  pub pending_may : (body : List ℕ) → journal.pending ≡ Some body → IsAllowed rules k.me room (records_of journal.bodies) (record_of body)
-  pub known : k ≡ known_of rules k.me (records_of journal.bodies)
-  pub memory : IsMemory rules room k.me (records_of journal.bodies) m
-  pub last : m.links.epoch ≡ epoch (records_of journal.bodies)
+  pub pending : (body : List ℕ) → journal.pending ≡ Some body → Spells rules.width body (record_of rules.width body)
+  pub pending_may : (body : List ℕ) → journal.pending ≡ Some body → IsAllowed rules k.me room (records_of rules.width journal.bodies)
+      (record_of rules.width body)
+  pub known : k ≡ known_of rules k.me (records_of rules.width journal.bodies)
+  pub memory : IsMemory rules room k.me (records_of rules.width journal.bodies) m
+  pub last : m.links.epoch ≡ epoch (records_of rules.width journal.bodies)
 
 -- The roll is that of what is known, run from where the machine began at the opening. The kept checkpoints are the
 -- journal's. `ran` frames were run last: at most a window and one, or all since that beginning.
@@ -56,7 +57,7 @@ next_said c = if c.count == all_pieces then Done c.frames else Piece c.count
 
 -- the record is an input that the own player entered
 abbrev pub is_entry : Record → Bool
-is_entry (Head player form id room) = false
+is_entry (Head player form id room life) = false
 is_entry (Epoch player number form) = false
 is_entry (Own player start word) = true
 is_entry (Got player start words) = false
@@ -65,10 +66,11 @@ is_entry (Leave player) = false
 is_entry (Cut player length start words) = false
 is_entry (State player frames piece bytes) = false
 is_entry (Check player frames digest) = false
+is_entry (Met player life) = false
 
 -- the record is one of what players do: neither an opening nor a checkpoint adds it
 abbrev pub is_play : Record → Bool
-is_play (Head player form id room) = false
+is_play (Head player form id room life) = false
 is_play (Epoch player number form) = false
 is_play (Own player start word) = true
 is_play (Got player start words) = true
@@ -77,6 +79,12 @@ is_play (Leave player) = true
 is_play (Cut player length start words) = true
 is_play (State player frames piece bytes) = false
 is_play (Check player frames digest) = false
+is_play (Met player life) = true
+
+-- the record names no life
+pub record HasNoLife (r : Record) : Type 0 where
+  pub life : life_in r ≡ 0
+  pub met : (q : ℕ) → met_in q r ≡ 0
 
 -- the most frames that a record makes the peer run: a window, and one more for an input that the own player entered
 abbrev pub most_run_with : Rules → Record → ℕ

@@ -9,7 +9,7 @@ use Rattle.c8_machine.specs.Serial.{serial}
 use Rattle.c8_digest.specs.StateBytes.{mark_of}
 use Rattle.c8_digest.specs.Marks.{kept}
 use Rattle.c8_digest.specs.Origin.{Origin}
-use Rattle.c8_known.specs.Journal.{Record, Head, Epoch, Own, Got, Freeze, Leave, Cut, State, Check, epoch}
+use Rattle.c8_known.specs.Journal.{Record, Head, Epoch, Own, Got, Freeze, Leave, Cut, State, Check, Met, epoch}
 use Rattle.c8_known.specs.Known.{KnownValue, known_of}
 use Rattle.c8_known.specs.Confirmed.{confirmed, rows_below}
 use Rattle.c8_known.specs.Growth.{IsStillKnown}
@@ -19,9 +19,9 @@ use Rattle.c8_record.specs.Checks.{save_bytes, before_piece}
 use Rattle.c8_record.specs.checked.OpenedLaws.{opened_more}
 use Rattle.c8_roll.specs.Roll.{mark_after, marks_up_to, IsOnTheWay}
 use Rattle.c8_roll.specs.checked.RollLaws.{first_on_the_way}
-use Rattle.c8_record.specs.Allowed.{IsAllowed, IsJournal}
+use Rattle.c8_record.specs.Allowed.{IsAllowed, IsJournal, form_of}
 use Rattle.c8_record.specs.checked.JournalLaws.{journal_more, journal_grows, checks_more}
-use Rattle.c8_peer.specs.Opening.{second_form, opening_record}
+use Rattle.c8_peer.specs.Opening.{life_drawn, opening_record}
 use Rattle.c8_peer.specs.TrueChecks.{serial_at, AreTruePieces, is_no_check, SaysNoCheck, HasTrueLast, HasTrueChecks}
 use Rattle.c8_peer.specs.checked.TruthLaws.{rows_same}
 use Rattle.c8_peer.specs.checked.Held.{is_play}
@@ -82,7 +82,7 @@ record IsNone (c : ChecksValue) (before : Option Origin) : Type 0 where
 
 one_none : (c : ChecksValue) (before : Option Origin) (r : Record) → is_no_check r ≡ true → IsNone c before
     → IsNone (with_check c r) (opened_at c before r)
-one_none c before (Head player form id room) is none = record { last = none.last; under_way = refl; begun = none.last }
+one_none c before (Head player form id room life) is none = record { last = none.last; under_way = refl; begun = none.last }
 one_none c before (Epoch player number form) is none = record { last = none.last; under_way = refl; begun = none.last }
 one_none c before (Own player start word) is none = none
 one_none c before (Got player start words) is none = none
@@ -91,6 +91,7 @@ one_none c before (Leave player) is none = none
 one_none c before (Cut player length start words) is none = none
 one_none c before (State player frames piece bytes) is none = absurd cc
 one_none c before (Check player frames digest) is none = absurd cc
+one_none c before (Met player life) is none = none
 
 all_none : (c : ChecksValue) (before : Option Origin) (journal : List Record) → SaysNoCheck journal → IsNone c before
     → IsNone (fold with_check c journal) (opened_since c before journal)
@@ -114,7 +115,7 @@ no_check_true rules me journal all =
 -- ---- a record that players add
 
 play_says_nothing : (c : ChecksValue) (r : Record) → is_play r ≡ true → with_check c r ≡ c
-play_says_nothing c (Head player form id room) is = absurd cc
+play_says_nothing c (Head player form id room life) is = absurd cc
 play_says_nothing c (Epoch player number form) is = absurd cc
 play_says_nothing c (Own player start word) is = refl
 play_says_nothing c (Got player start words) is = refl
@@ -123,9 +124,10 @@ play_says_nothing c (Leave player) is = refl
 play_says_nothing c (Cut player length start words) is = refl
 play_says_nothing c (State player frames piece bytes) is = absurd cc
 play_says_nothing c (Check player frames digest) is = absurd cc
+play_says_nothing c (Met player life) is = refl
 
 play_begins_nothing : (c : ChecksValue) (before : Option Origin) (r : Record) → is_play r ≡ true → opened_at c before r ≡ before
-play_begins_nothing c before (Head player form id room) is = absurd cc
+play_begins_nothing c before (Head player form id room life) is = absurd cc
 play_begins_nothing c before (Epoch player number form) is = absurd cc
 play_begins_nothing c before (Own player start word) is = refl
 play_begins_nothing c before (Got player start words) is = refl
@@ -134,6 +136,7 @@ play_begins_nothing c before (Leave player) is = refl
 play_begins_nothing c before (Cut player length start words) is = refl
 play_begins_nothing c before (State player frames piece bytes) is = absurd cc
 play_begins_nothing c before (Check player frames digest) is = absurd cc
+play_begins_nothing c before (Met player life) is = refl
 
 pub play_checks : (journal : List Record) (r : Record) → is_play r ≡ true → checks_of (journal ++ r ∷ []) ≡ checks_of journal
 play_checks journal r play = checks_more journal r ∙ play_says_nothing (checks_of journal) r play
@@ -166,16 +169,16 @@ record IsOpeningOf (rules : Rules) (journal : List Record) (new : Record) : Type
   last : (checks_of (journal ++ new ∷ [])).last ≡ (checks_of journal).last
   none : (checks_of (journal ++ new ∷ [])).under_way ≡ None
 
-opens : (rules : Rules) (room me : ℕ) (journal : List Record) → IsOpeningOf rules journal (opening_record rules room me journal)
-opens rules room me [] =
-    let new : Record = Head me second_form (id_of rules) room in
+opens : (rules : Rules) (room me drawn : ℕ) (journal : List Record) → IsOpeningOf rules journal (opening_record rules room me drawn journal)
+opens rules room me drawn [] =
+    let new : Record = Head me (form_of rules) (id_of rules) room (life_drawn rules drawn) in
     record {
       begins = ap (or_first rules) (opened_more [] new);
       last = ap (λ (c : ChecksValue). c.last) (checks_more [] new);
       none = ap (λ (c : ChecksValue). c.under_way) (checks_more [] new);
     }
-opens rules room me (r ∷ rest) =
-    let new : Record = Epoch me (epoch (r ∷ rest) + 1) second_form in
+opens rules room me drawn (r ∷ rest) =
+    let new : Record = Epoch me (epoch (r ∷ rest) + 1) (form_of rules) in
     record {
       begins = ap (or_first rules) (opened_more (r ∷ rest) new);
       last = ap (λ (c : ChecksValue). c.last) (checks_more (r ∷ rest) new);
@@ -187,17 +190,17 @@ first_or_last : (rules : Rules) (k : KnownValue) (last : Option Origin) → ((fr
 first_or_last rules k None ways = first_on_the_way rules k
 first_or_last rules k (Some from) ways = ways from refl
 
-pub opening_true : (rules : Rules) (me room : ℕ) (journal : List Record) → AreInRange rules → 1 ≤ me → me ≤ rules.players
+pub opening_true : (rules : Rules) (me room drawn : ℕ) (journal : List Record) → AreInRange rules → 1 ≤ me → me ≤ rules.players
     → IsJournal rules me room journal
-    → IsAllowed rules me room journal (opening_record rules room me journal) → HasTrueLast rules me journal
-    → HasTrueChecks rules me (journal ++ opening_record rules room me journal ∷ [])
-opening_true rules me room journal range from to is may are =
-    let new : Record = opening_record rules room me journal in
+    → IsAllowed rules me room journal (opening_record rules room me drawn journal) → HasTrueLast rules me journal
+    → HasTrueChecks rules me (journal ++ opening_record rules room me drawn journal ∷ [])
+opening_true rules me room drawn journal range from to is may are =
+    let new : Record = opening_record rules room me drawn journal in
     let early : KnownValue = known_of rules me journal in
     let late : KnownValue = known_of rules me (journal ++ new ∷ []) in
     let still : IsStillKnown early late = journal_grows rules me room journal (new ∷ []) range from to
     (journal_more rules me room journal new is may) in
-    let opening = opens rules room me journal in
+    let opening = opens rules room me drawn journal in
     let ways : (at : Origin) → (checks_of journal).last ≡ Some at → IsOnTheWay rules late at =
     λ at e. way_stays rules early late at still (are at e) in
     record {

@@ -7,7 +7,7 @@ ghost use Rattle.c8_peer.specs.State.{Tick, Leave, Decide, Ticked, Left, Decided
 use super::Peer;
 use crate::judging::{judge_decide, judge_leave, judge_tick};
 use c8_disk::Disk;
-use c8_game::{Keys, Player};
+use c8_game::{Input, Player, Width};
 use c8_record::Record;
 use c8_refusals::{DecideError, LeaveError, TickError};
 use c8_wire::Run;
@@ -15,24 +15,24 @@ use c8_wire::Run;
 impl<'g, D: Disk> Peer<'g, D> {
     ghost use Rattle.c8_peer.specs.Peer.{IsAnswered};
 
-    /// Enters the own player's next key set. It counts for the frame of this tick plus the game's
-    /// delay. Refusals are found in the order `Down`, `Dropped`, `End`, `Threshold`, `Disk`. After
+    /// Enters the own player's next input. It counts for the frame of this tick plus the game's delay.
+    /// Refusals are found in the order `Down`, `Dropped`, `End`, `Threshold`, `Wide`, `Disk`. After
     /// `Disk` the peer is down; any other refusal changes nothing.
-    pub fn tick(&mut self, keys: Keys) -> Result<(), TickError>
-        ensures { IsAnswered D.Disk self.old (Tick keys.0) (Ticked result) self.new }
+    pub fn tick(&mut self, input: Input) -> Result<(), TickError>
+        ensures { IsAnswered D.Disk self.old (Tick input) (Ticked result) self.new }
     {
         if self.is_down() {
             return Err(TickError::Down);
         }
-        judge_tick(self.game, &self.known)?;
+        judge_tick(self.game, &self.known, input)?;
         let player = self.known.me();
         let start = self.known.count(player);
         let own = Record::Own {
             player,
             start,
-            keys,
+            input,
         };
-        match self.keep(&own) {
+        match self.keep(&own, None) {
             Ok(()) => Ok(()),
             Err(error) => Err(TickError::Disk(error)),
         }
@@ -48,7 +48,7 @@ impl<'g, D: Disk> Peer<'g, D> {
             return Err(LeaveError::Down);
         }
         judge_leave(&self.known, leaver)?;
-        match self.keep(&Record::Leave { player: leaver }) {
+        match self.keep(&Record::Leave { player: leaver }, None) {
             Ok(()) => Ok(()),
             Err(error) => Err(LeaveError::Disk(error)),
         }
@@ -64,7 +64,7 @@ impl<'g, D: Disk> Peer<'g, D> {
             return Err(DecideError::Down);
         }
         let length = judge_decide(&self.known, &self.memory, leaver)?;
-        match self.keep(&end_at(leaver, length)) {
+        match self.keep(&end_at(leaver, length), None) {
             Ok(()) => Ok(length),
             Err(error) => Err(DecideError::Disk(error)),
         }
@@ -72,7 +72,7 @@ impl<'g, D: Disk> Peer<'g, D> {
 }
 
 /// Builds the record that cuts a player's list at `length`, with no inputs.
-#[tactic(auto, unfolding(c8_wire::specs::Reading::words_of))]
+#[tactic(auto, unfolding(c8_wire::specs::Reading::words_up))]
 fn end_at(player: Player, length: u32) -> Record<'static>
     ensures { value_of result ≡ Cut player.number length length [] }
 {
@@ -80,6 +80,6 @@ fn end_at(player: Player, length: u32) -> Record<'static>
         player,
         length,
         start: length,
-        run: Run::new(&[]),
+        run: Run::new(&[], Width::DEFAULT),
     }
 }

@@ -11,7 +11,7 @@ ghost use Rattle.c8_peer.specs.checked.Held.{next_record, next_said};
 use super::{Peer, go_on};
 use crate::check::Check;
 use c8_disk::Disk;
-use c8_game::Player;
+use c8_game::{Player, Width};
 use c8_known::Known;
 use c8_log::BODY_LENGTH;
 use c8_record::laws::journals_stay_within_the_window;
@@ -45,7 +45,7 @@ impl<'g, D: Disk> Peer<'g, D> {
         }
         cut(&mut self.checks, &self.known, &self.roll)?;
         let said = next_said(&self.checks);
-        let body = next_body(&self.checks, self.known.me());
+        let body = next_body(&self.checks, self.known.me(), self.game.width());
         match self.journal.append(&body) {
             Ok(()) => {
                 note(&mut self.checks);
@@ -100,28 +100,30 @@ fn next_said(checks: &Checks) -> Check
     }
 }
 
-/// Builds the body of the record that comes next, from the bytes that `cut` saved.
-fn next_body(checks: &Checks, player: Player) -> [u8; BODY_LENGTH]
-    ensures { result ≡ body_of (next_record player.number checks.now) }
+/// Builds the body of the record that comes next, from the bytes that `cut` saved, in a game with inputs of this width.
+fn next_body(checks: &Checks, player: Player, width: Width) -> [u8; BODY_LENGTH]
+    ensures { result ≡ body_of width.bytes (next_record player.number checks.now) }
 {
     let frames = checks.frames();
     if checks.count() == PIECES {
         let digest = checks.digest();
-        let run = Run::new(&digest);
-        return body_of(&Record::Check {
+        let run = Run::new(&digest, Width::DEFAULT);
+        let record = Record::Check {
             player,
             frames,
             run,
-        });
+        };
+        return body_of(&record, width);
     }
     let piece = checks.count();
-    let run = Run::new(checks.next_piece());
-    body_of(&Record::State {
+    let run = Run::new(checks.next_piece(), Width::DEFAULT);
+    let record = Record::State {
         player,
         frames,
         piece,
         run,
-    })
+    };
+    body_of(&record, width)
 }
 
 /// Notes that the record stands.

@@ -4,12 +4,13 @@ ghost use Rattle.c8_wire.specs.Packet.{IsPacket};
 ghost use Rattle.c8_wire.specs.Lent.{packet_of};
 ghost use Rattle.c8_wire.specs.checked.Read.{read};
 ghost use Rattle.c8_hand.specs.Links.{refusal, refusal_of_seen, IsForMe};
+ghost use Rattle.c8_peer.specs.Hearing.{after_refusal};
 ghost use Rattle.c8_known.specs.Known.{Plays, player_in};
 ghost use Rattle.c8_known.specs.Confirmed.{confirmed};
 ghost use Rattle.c8_peer.specs.State.{Open, Deliver, Delivered, with_seen};
 ghost use Rattle.c8_peer.specs.Hearing.{is_of_other_wire, hear_message, seen_in};
 ghost use Rattle.c8_peer.specs.Lawful.{IsMemory};
-ghost use Rattle.c8_peer.specs.checked.Verdicts.{AcksWithin, Judges, memory_after};
+ghost use Rattle.c8_peer.specs.checked.Verdicts.{IsNotable, Judges, memory_after};
 
 use super::Peer;
 use crate::heard::Heard;
@@ -17,6 +18,7 @@ use crate::hearing::{judge, judge_seen, rows_seen};
 use crate::verdict::Verdict;
 use c8_disk::Disk;
 use c8_game::Player;
+use c8_hand::HandError;
 use c8_refusals::Refused;
 use c8_wire::{Datagram, Watcher, view};
 
@@ -26,7 +28,7 @@ impl<'g, D: Disk> Peer<'g, D> {
     /// Processes a received datagram: any bytes, of any length, read in place. Refusals are found in
     /// the order `Down`, `Dropped`, `Wire`, `OtherWire`, `Hand`, then by kind in the order of the
     /// lines in `specs/Hearing.antt`. A SEEN needs no link. After `Disk` the peer is down, `Desync`
-    /// raises the alarm, and any other refusal changes nothing.
+    /// raises the alarm, `Hand(Restarted)` notes the other life of the sender, and any other refusal changes nothing.
     pub fn deliver(&mut self, bytes: &[u8]) -> Result<Heard, Refused>
         ensures { IsAnswered D.Disk self.old (Deliver (read bytes.now)) (Delivered result)
             self.new }
@@ -61,6 +63,7 @@ impl<'g, D: Disk> Peer<'g, D> {
             return Err(Refused::OtherWire);
         }
         if let Err(error) = self.memory.links.admit(datagram) {
+            self.note_refusal(datagram, error);
             return Err(Refused::Hand(error));
         }
         match rows_seen(datagram) {
@@ -69,13 +72,37 @@ impl<'g, D: Disk> Peer<'g, D> {
         }
     }
 
+    /// Returns whether a datagram is in another version, or has inputs of another width, than the game's.
     fn is_of_other_wire(&self, datagram: &Datagram<'_>) -> bool
         ensures { result ≡ is_of_other_wire self.now.rules (packet_of datagram.now).head }
     {
-        datagram.header().version().number() != self.game.wire().number()
+        let header = datagram.header();
+        header.version().number() != self.game.wire().number()
+            || header.width().bytes != self.game.width().bytes
     }
 
-    /// Takes an admitted datagram of the game's version.
+    /// Notes another life of the sender, if the links refuse the datagram for it.
+    fn note_refusal(&mut self, datagram: &Datagram<'_>, error: HandError)
+        requires { IsMemory self.old.rules self.old.room self.old.me self.old.state.journal
+            (after_refusal self.old.state.memory (packet_of datagram.now).head error) }
+        ensures { self.new ≡ record self.old {
+          state = record self.old.state {
+            memory = after_refusal self.old.state.memory (packet_of datagram.now).head error;
+          };
+        } }
+    {
+        match error {
+            HandError::Restarted => self.memory.shun(datagram),
+            HandError::NotOpen
+            | HandError::Stale
+            | HandError::Ahead
+            | HandError::NotMine
+            | HandError::Session
+            | HandError::OtherMatch => {}
+        }
+    }
+
+    /// Takes an admitted datagram of the game's version and width.
     fn hear(&mut self, datagram: &Datagram<'_>) -> Result<Heard, Refused>
         requires up { self.old.state.mode ≡ Open }
         requires stays { (player_in (known_by self.old) self.old.me).leaving ≡ false }
@@ -99,11 +126,8 @@ impl<'g, D: Disk> Peer<'g, D> {
                 self.raise_alarm();
                 Err(Refused::Desync)
             }
-            Ok(Verdict::Keep(record, heard)) => match self.keep(&record) {
-                Ok(()) => {
-                    self.note(sender, datagram);
-                    Ok(heard)
-                }
+            Ok(Verdict::Keep(record, heard)) => match self.keep(&record, Some((sender, datagram))) {
+                Ok(()) => Ok(heard),
                 Err(error) => Err(Refused::Disk(error)),
             },
             Err(error) => Err(error),
@@ -128,12 +152,20 @@ impl<'g, D: Disk> Peer<'g, D> {
         requires from { sender.number ≡ (packet_of datagram.now).head.from }
         requires plays { Plays (known_by self.now) sender.number }
         ensures judged { Judges (hear_message self.now.rules (told_by self.now)
-            (known_by self.now) self.now.state.memory (packet_of datagram.now).head (packet_of datagram.now).message)
+            (known_by self.now) self.now.state.memory (packet_of datagram.now).head (packet_of datagram.now).news
+            (packet_of datagram.now).message)
             self.now.state.memory
-            (memory_after self.now.state.memory (packet_of datagram.now)) result }
-        ensures acks { OnOk result (AcksWithin (known_by self.now) (packet_of datagram.now).message) }
+            (memory_after (known_by self.now) self.now.state.memory (packet_of datagram.now)) result }
+        ensures notable { OnOk result (IsNotable (known_by self.now) self.now.state.memory.links
+            (packet_of datagram.now)) }
     {
-        judge(&self.known, self.roll.marks(), sender, datagram)
+        judge(
+            &self.known,
+            &self.memory.links,
+            self.roll.marks(),
+            sender,
+            datagram,
+        )
     }
 
     /// Notes in memory what an admitted datagram says besides inputs. Call it after the last refusal.
@@ -141,12 +173,12 @@ impl<'g, D: Disk> Peer<'g, D> {
         requires from { sender.number ≡ (packet_of datagram.now).head.from }
         requires admitted { refusal self.old.state.memory.links (packet_of datagram.now).head
             ≡ None }
-        requires acks { AcksWithin (known_by self.old) (packet_of datagram.now).message }
+        requires notable { IsNotable (known_by self.old) self.old.state.memory.links (packet_of datagram.now) }
         requires memory { IsMemory self.old.rules self.old.room self.old.me self.old.state.journal
-            (memory_after self.old.state.memory (packet_of datagram.now)) }
+            (memory_after (known_by self.old) self.old.state.memory (packet_of datagram.now)) }
         ensures { self.new ≡ record self.old {
           state = record self.old.state {
-            memory = memory_after self.old.state.memory (packet_of datagram.now);
+            memory = memory_after (known_by self.old) self.old.state.memory (packet_of datagram.now);
           };
         } }
     {
@@ -163,7 +195,7 @@ impl<'g, D: Disk> Peer<'g, D> {
         self.memory.raise_alarm();
     }
 
-    /// Takes a SEEN of the game's version, in which a watcher acknowledges rows.
+    /// Takes a SEEN of the game's version and width, in which a watcher acknowledges rows.
     fn hear_seen(&mut self, datagram: &Datagram<'_>, rows: u32) -> Result<Heard, Refused>
         requires up { self.old.state.mode ≡ Open }
         requires stays { (player_in (known_by self.old) self.old.me).leaving ≡ false }

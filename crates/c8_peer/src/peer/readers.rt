@@ -4,6 +4,8 @@ ghost use Rattle.c8_game.specs.Rules.{limit_of};
 ghost use Rattle.c8_machine.specs.State.{state};
 ghost use Rattle.c8_machine.specs.Serial.{serial};
 ghost use Rattle.c8_hand.specs.Links.{link_to};
+ghost use Rattle.c8_hand.specs.Lives.{life_of, match_of};
+ghost use Rattle.c8_news.specs.News.{news_of};
 ghost use Rattle.c8_digest.specs.Origin.{run_since};
 ghost use Rattle.c8_record.specs.Checks.{frames_of, checks_of};
 ghost use Rattle.c8_known.specs.Known.{player_in, count_in, is_frozen_in, is_player};
@@ -14,8 +16,10 @@ ghost use Rattle.c8_peer.specs.TrueChecks.{HasTrueChecks};
 
 use super::Peer;
 use c8_disk::Disk;
-use c8_game::Player;
+use c8_game::{Player, Width, WireVersion};
+use c8_hand::Told;
 use c8_machine::Machine;
+use c8_news::News;
 use c8_record::laws::journals_stay_within_the_window;
 
 impl<'g, D: Disk> Peer<'g, D> {
@@ -34,6 +38,20 @@ impl<'g, D: Disk> Peer<'g, D> {
         ensures most { result ≤ 4 }
     {
         self.known.players()
+    }
+
+    /// Returns how many bytes an input of the game has.
+    pub fn width(&self) -> Width
+        ensures { result.bytes ≡ self.now.rules.width }
+    {
+        self.game.width()
+    }
+
+    /// Returns the version of the game's datagrams.
+    pub fn wire(&self) -> WireVersion
+        ensures { result ≡ self.now.rules.wire }
+    {
+        self.game.wire()
     }
 
     fn plays(&self, player: Player) -> bool
@@ -89,6 +107,48 @@ impl<'g, D: Disk> Peer<'g, D> {
         ensures { result ≡ (link_to self.now.state.memory.links player.number).is_open }
     {
         self.memory.links.open(player).is_some()
+    }
+
+    /// Returns the life of this player: the number of its journal. 0 in versions 1 and 2.
+    pub fn life(&self) -> u64
+        ensures memory { result ≡ self.now.state.memory.links.lives.mine }
+        ensures journal { result ≡ journals.life_of self.now.state.journal }
+    {
+        // For the proof: what holds for every peer.
+        self.is_sound();
+        self.memory.links.mine()
+    }
+
+    /// Returns the match: the life of player one to which this peer is bound. 0 if it is not bound, and in versions 1 and 2.
+    pub fn match_number(&self) -> u64
+        ensures memory { result
+            ≡ match_of self.now.state.memory.links.lives self.now.state.memory.links.me }
+        ensures journal { result ≡ journals.match_of self.now.me self.now.state.journal }
+    {
+        // For the proof: what holds for every peer.
+        self.is_sound();
+        self.memory.links.match_number()
+    }
+
+    /// Returns the life of a player that was refused last, or 0: it began the match with another journal.
+    pub fn other(&self, player: Player) -> u64
+        ensures { result ≡ (life_of self.now.state.memory.links.lives player.number).other }
+    {
+        self.memory.links.other(player)
+    }
+
+    /// Returns what a REFUSED has told of the match since the last opening.
+    pub fn told(&self) -> Told
+        ensures { result ≡ self.now.state.memory.links.lives.told }
+    {
+        self.memory.links.told()
+    }
+
+    /// Returns what the DATA of a player have told since the last opening; `None` if none came, and in versions 1 and 2.
+    pub fn news(&self, player: Player) -> Option<News>
+        ensures { result ≡ news_of self.now.state.memory.news player.number }
+    {
+        self.memory.news.of(player)
     }
 
     /// Returns whether the journal has a FREEZE or a LEAVE of a player. If so, the peer refuses the

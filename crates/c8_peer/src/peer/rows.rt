@@ -5,7 +5,7 @@ ghost use Rattle.c8_known.specs.Confirmed.{confirmed, row, best_row};
 
 use super::Peer;
 use c8_disk::Disk;
-use c8_game::{Player, Row};
+use c8_game::{Input, Player, Row};
 use c8_known::Known;
 use std::marker::Model;
 
@@ -55,8 +55,8 @@ impl<'a> Rows<'a> {
     }
 
     /// Borrows a player's inputs of the confirmed frames, one per frame, as far as the peer holds them. Past the end
-    /// of a cut list the inputs are empty sets and not in the slice, so it can be shorter than the confirmed frames.
-    pub fn inputs(&self, player: Player) -> &'a [u16]
+    /// of a cut list the inputs are 0 and not in the slice, so it can be shorter than the confirmed frames.
+    pub fn inputs(&self, player: Player) -> &'a [Input]
         requires { player.number ≤ length self.now.players }
         ensures { result.now ≡ take (confirmed self.now) (player_in self.now player.number).held }
     {

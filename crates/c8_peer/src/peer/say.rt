@@ -6,7 +6,7 @@ ghost use Rattle.c8_peer.specs.Saying.{newest_mark};
 
 use super::Peer;
 use crate::kind::Kind;
-use crate::saying::{judge_saying, message, rows_from};
+use crate::saying::{judge_saying, message, news, rows_from};
 use c8_digest::{FrameMark, MARK_LENGTH};
 use c8_disk::Disk;
 use c8_game::Player;
@@ -35,21 +35,23 @@ impl<'g, D: Disk> Peer<'g, D> {
         if self.is_down() {
             return Err(Unsayable::Down);
         }
-        judge_saying(&self.known, &self.memory, to, kind)?;
+        let wire = self.game.wire();
+        judge_saying(&self.known, &self.memory, wire, to, kind)?;
         let body = message(
             &self.known,
             &self.memory,
             self.newest_mark(),
-            self.game.wire(),
+            wire,
             to,
             kind,
         );
         let head = self.memory.head(to, kind);
-        Ok(write(&Said { head, body }, out))
+        let news = news(&self.known, wire, to, kind);
+        Ok(write(&Said { head, news, body }, out))
     }
 
     /// Writes a SHOW for a watcher to the front of `out`: the confirmed rows from the first that it has
-    /// not acknowledged, at most 16. Returns its length, 30 to 158 bytes. The refusals are `Down`, then
+    /// not acknowledged, at most 16, or fewer of wide inputs. Returns its length, 30 to 158 bytes. The refusals are `Down`, then
     /// `NotMine` if this is not player one. They leave `out` as it was.
     pub fn say_show(
         &self,
@@ -77,7 +79,11 @@ impl<'g, D: Disk> Peer<'g, D> {
             start,
             rows: rows.as_slice(),
         };
-        let said = Said { head, body };
+        let said = Said {
+            head,
+            news: None,
+            body,
+        };
         Ok(write(&said, out))
     }
 

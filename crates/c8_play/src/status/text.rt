@@ -43,13 +43,15 @@ enum Part {
     Keys,
     /// How the keys are shown, if they do not fit.
     Hint,
+    /// What else may be wrong where nobody answers.
+    Same,
     /// How long the player with this number has been silent.
     Silence(u8),
     Rollbacks,
 }
 
 /// All parts, the most important first. They stand in this order.
-const PARTS: [Part; 15] = [
+const PARTS: [Part; 16] = [
     Part::Count,
     Part::Lost,
     Part::Relay,
@@ -60,6 +62,7 @@ const PARTS: [Part; 15] = [
     Part::Offer,
     Part::Keys,
     Part::Hint,
+    Part::Same,
     Part::Silence(1),
     Part::Silence(2),
     Part::Silence(3),
@@ -94,6 +97,7 @@ impl StatusRow {
         waits: Option<Player>,
     ) -> io::Result<()> {
         match (part, waits) {
+            (Part::Count, _) if !self.has_begun() => write!(out, "Escape ends"),
             (Part::Count, _) => {
                 let Numbers {
                     ticked,
@@ -107,10 +111,14 @@ impl StatusRow {
             }
             _ if self.is_lost => Ok(()),
             (Part::Relay, _) => write_relaying(out, "  ", self.relaying, self.me),
+            (part, _) if self.is_cut_off() && is_of_others(part) => Ok(()),
             (Part::Alarm, _) if self.numbers.is_alarmed => write!(out, "  the machines differ"),
             (Part::Wait, Some(player)) => self.write_wait(out, player),
             (Part::Why, Some(player)) if self.is_unanswered(player) => {
-                write!(out, ": same game, room and secret?")
+                self.write_why(out, player)
+            }
+            (Part::Same, Some(player)) if self.is_unanswered(player) => {
+                write!(out, "  same game, room and secret?")
             }
             (Part::Offer, Some(player)) => self.write_offer(out, player),
             (Part::Asked, _) if self.reminder.is_asked() => self.write_keys(out),
@@ -121,7 +129,7 @@ impl StatusRow {
                 write!(out, "  F1: keys")
             }
             (Part::Silence(number), _) => self.write_silence(out, number),
-            (Part::Rollbacks, _) => {
+            (Part::Rollbacks, _) if self.has_begun() => {
                 let Reading {
                     rollbacks,
                     longest,
@@ -148,15 +156,27 @@ impl StatusRow {
         self.is_unheard(player) && self.unsealed == 0 && self.seconds(player) >= NO_ANSWER
     }
 
+    /// Whether a player has been silent for long, and another journal of it was heard of at player 1: an old packet of another
+    /// journal says nothing while the player answers.
+    fn is_restarted(&self, player: Player) -> bool {
+        self.me.is_chair() && self.restarted[player.place()] && self.seconds(player) >= LONG
+    }
+
     /// Writes that the match waits for a player, or that the player does not answer.
     fn write_wait<E: Write>(&self, out: &mut E, player: Player) -> io::Result<()> {
         let number = player.number;
         let seconds = self.seconds(player);
+        if self.is_restarted(player) {
+            return write!(out, "  {number} came back without its journal");
+        }
         if self.is_unheard(player) && self.unsealed > 0 {
             return write!(out, "  packets come with another secret, game or room");
         }
         if self.is_unanswered(player) {
-            return write!(out, "  no answer for {seconds} s");
+            return match self.players {
+                2 => write!(out, "  no answer for {seconds} s"),
+                _ => write!(out, "  {number} has not answered for {seconds} s"),
+            };
         }
         write!(out, "  waits for {number}")?;
         if seconds > 0 {
@@ -165,12 +185,20 @@ impl StatusRow {
         Ok(())
     }
 
+    /// Writes who may not have started.
+    fn write_why<E: Write>(&self, out: &mut E, player: Player) -> io::Result<()> {
+        match self.players {
+            2 => write!(out, ": has your friend started?"),
+            _ => write!(out, ": has player {} started?", player.number),
+        }
+    }
+
     /// Writes how player 1 drops a player that was here before.
     fn write_offer<E: Write>(&self, out: &mut E, player: Player) -> io::Result<()> {
         let number = player.number;
         if self.asked == Some(player) {
             write!(out, "  control-D again drops {number}")
-        } else if self.may_drop(player) && self.seconds(player) >= LONG {
+        } else if self.may_drop() && self.seconds(player) >= LONG {
             write!(out, "  control-D drops {number}")
         } else {
             Ok(())
@@ -187,7 +215,7 @@ impl StatusRow {
         out.write_all(keys)
     }
 
-    /// Writes how long another player has been silent, or that it is dropped.
+    /// Writes how long another player has been silent, if it was here, or that it is dropped.
     fn write_silence<E: Write>(&self, out: &mut E, number: u8) -> io::Result<()> {
         let other = Player::new(number).filter(|player| *player != self.me);
         let Some(player) = other.filter(|player| player.number <= self.players) else {
@@ -197,9 +225,20 @@ impl StatusRow {
         if self.dropped[place] {
             return write!(out, "  {number} dropped");
         }
+        if !self.was_here(player) {
+            return Ok(());
+        }
         match last.met[place] {
             Some(ago) if ago < GREETING => write!(out, "  {number} is here"),
             _ => write!(out, "  {number}: {} ms", last.silent[place]),
         }
     }
+}
+
+/// Whether a part is about the other players.
+fn is_of_others(part: Part) -> bool {
+    matches!(
+        part,
+        Part::Wait | Part::Why | Part::Offer | Part::Same | Part::Silence(_) | Part::Rollbacks
+    )
 }

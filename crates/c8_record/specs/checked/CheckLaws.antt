@@ -13,10 +13,11 @@ use Rattle.c8_digest.specs.Reading.{state_in}
 use Rattle.c8_digest.proofs.ReadLemmas.{state_again}
 use Rattle.c8_wire.specs.Packet.{AreBytes}
 use Rattle.c8_wire.specs.Spelling.{words_bytes}
-use Rattle.c8_known.specs.Journal.{Record, Head, Epoch, Own, Got, Freeze, Leave, Cut, State, Check}
+use Rattle.c8_known.specs.Journal.{Record, Head, Epoch, Own, Got, Freeze, Leave, Cut, State, Check, Met}
 use Rattle.c8_known.specs.Known.{KnownValue, with_record, known_of}
 use Rattle.c8_known.specs.Confirmed.{confirmed}
 use Rattle.c8_known.specs.checked.ConfirmedLaws.{confirmed_rises}
+use Rattle.c8_record.specs.Lent.{word_width}
 use Rattle.c8_record.specs.Checks.{Pieces, ChecksValue, no_checks, with_check, checks_of, frames_of, origin_in, bytes_so_far, before_piece}
 use Rattle.c8_record.specs.Checks.{piece_length, is_next_after, may_take, MayCheck, opened_at, opened_since, or_first, begun_at}
 use Rattle.c8_record.specs.checked.OpenedLaws.{opened_more}
@@ -41,9 +42,9 @@ bytes_low (x ∷ xs) ys one two (suc i) = bytes_low xs ys (λ j. one (suc j)) tw
 none_low : AreBytes []
 none_low i = omega arith
 
-pub words_low : (words : List ℕ) → AreBytes (words_bytes words)
+pub words_low : (words : List ℕ) → AreBytes (words_bytes word_width words)
 words_low [] = none_low
-words_low (word ∷ words) = bytes_low (big_bytes 2 word) (words_bytes words) (word_low word) (words_low words)
+words_low (word ∷ words) = bytes_low (big_bytes 2 word) (words_bytes word_width words) (word_low word) (words_low words)
 
 -- ---- one piece more
 
@@ -144,7 +145,7 @@ none_under_way c form k are = record { last = are.last; under_way = λ p is. abs
 one_in_order : (rules : Rules) (room : ℕ) (past : Past) (r : Record) → IsAllowedAfter rules room past r → AreInOrder past.checks past.known
     → confirmed past.known ≤ confirmed (with_record past.known r)
     → AreInOrder (with_check past.checks r) (with_record past.known r)
-one_in_order rules room past (Head player form id named) may are rises = none_under_way past.checks form past.known are
+one_in_order rules room past (Head player form id named life) may are rises = none_under_way past.checks form past.known are
 one_in_order rules room past (Epoch player number form) may are rises = none_under_way past.checks form past.known are
 one_in_order rules room past (Own player start word) may are rises = later past.checks past.known _ are rises
 one_in_order rules room past (Got player start words) may are rises = later past.checks past.known _ are rises
@@ -156,10 +157,11 @@ one_in_order rules room past (State player frames piece bytes) may are rises =
     record { last = are.last; under_way = λ p is. subst (λ (x : Pieces). ArePieces x past.known) (some_same _ p is) one }
 one_in_order rules room past (Check player frames digest) may are rises =
     record { last = whole_in_order past.checks past.known frames digest are may.may.whole; under_way = λ p is. absurd cc }
+one_in_order rules room past (Met player life) may are rises = later past.checks past.known _ are rises
 
 begun_by_one : (c : ChecksValue) (before : Option Origin) (k now : KnownValue) (r : Record) → AreInOrder c k → IsInOrder before k
     → confirmed k ≤ confirmed now → IsInOrder (opened_at c before r) now
-begun_by_one c before k now (Head player form id room) are is rises = later_order c.last k now are.last rises
+begun_by_one c before k now (Head player form id room life) are is rises = later_order c.last k now are.last rises
 begun_by_one c before k now (Epoch player number form) are is rises = later_order c.last k now are.last rises
 begun_by_one c before k now (Own player start word) are is rises = later_order before k now is rises
 begun_by_one c before k now (Got player start words) are is rises = later_order before k now is rises
@@ -168,6 +170,7 @@ begun_by_one c before k now (Leave player) are is rises = later_order before k n
 begun_by_one c before k now (Cut player cut start words) are is rises = later_order before k now is rises
 begun_by_one c before k now (State player frames piece bytes) are is rises = later_order before k now is rises
 begun_by_one c before k now (Check player frames digest) are is rises = later_order before k now is rises
+begun_by_one c before k now (Met player life) are is rises = later_order before k now is rises
 
 -- ---- a journal
 

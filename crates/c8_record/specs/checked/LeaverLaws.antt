@@ -3,7 +3,7 @@ use Rattle.std.proofs.Common.{◌≡◌, inl, inr, ⊎_elim, ℕ, ◌+◌, ◌-�
 use Rattle.std.proofs.lemmas.Bool.{cases_eq}
 use Rattle.std.proofs.lemmas.List.{append-nil}
 use Rattle.c8_game.specs.Rules.{Rules}
-use Rattle.c8_known.specs.Journal.{Record, Head, Epoch, Own, Got, Freeze, Leave, Cut, State, Check}
+use Rattle.c8_known.specs.Journal.{Record, Head, Epoch, Own, Got, Freeze, Leave, Cut, State, Check, Met}
 use Rattle.c8_known.specs.Known.{PlayerValue, KnownValue, nobody, player_in, with_words, with_cut, with_record, known_of, Plays}
 use Rattle.c8_known.specs.checked.StartLaws.{at_start, player_at_start}
 use Rattle.c8_known.specs.checked.KnownLaws.{changed, player_same, player_other}
@@ -32,10 +32,11 @@ longer me q p words o = record {
 
 orderly_with : (rules : Rules) (room : ℕ) (past : Past) (r : Record) → IsOrderly past.known → IsAllowedAfter rules room past r
     → IsOrderly (with_record past.known r)
-orderly_with rules room past (Head player form id named) orderly may = orderly
+orderly_with rules room past (Head player form id named life) orderly may = orderly
 orderly_with rules room past (Epoch player number form) orderly may = orderly
 orderly_with rules room past (State player frames piece bytes) orderly may = orderly
 orderly_with rules room past (Check player frames digest) orderly may = orderly
+orderly_with rules room past (Met player life) orderly may = orderly
 orderly_with rules room past (Own player start word) orderly may =
     let k : KnownValue = past.known in
     orderly_changed k (k.ticks + 1) player (with_words (player_in k player) (word ∷ [])) orderly may.plays

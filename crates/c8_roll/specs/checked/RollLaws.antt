@@ -11,6 +11,7 @@ use Rattle.std.proofs.lemmas.Bool.{cases_lt}
 use Rattle.std.proofs.lemmas.Option.{slice_get-get_or, slice_get_within, get_or_from_slice_get}
 use Rattle.circular_buffer.proofs.Places.{slice_get-append_left, slice_get-append_right, slice_get-drop}
 use Rattle.c8_game.specs.Rules.{Rules, AreInRange, joined}
+use Rattle.c8_machine.specs.Keys.{keys_of}
 use Rattle.c8_game.specs.declared.row.Row.{Row}
 use Rattle.c8_machine.specs.State.{State, first_state}
 use Rattle.c8_machine.specs.Serial.{frame_of, serial}
@@ -114,7 +115,7 @@ rows_front f n m within =
 run_is_serial : (rules : Rules) (from : Origin) (rows before : List Row) → from.machine ≡ serial rules before
     → take from.frames rows ≡ before → run_since rules from rows ≡ serial rules rows
 run_is_serial rules from rows before machine front =
-    let one : State → Row → State = λ s row. frame_of rules (joined rules row) s in
+    let one : State → Row → State = λ s row. frame_of rules (keys_of (joined rules row)) s in
     ap (λ (s : State). fold one s (drop from.frames rows)) (machine ∙ ap (serial rules) (sym front))
     ∙ sym (fold-append one (first_state rules) (take from.frames rows) (drop from.frames rows))
     ∙ ap (serial rules) (take-append-drop from.frames rows)
@@ -209,6 +210,6 @@ since_kept rules from k n starts are =
 pub origin_goes_on : (rules : Rules) (from : Origin) (k : KnownValue) (n : ℕ) → AreInRange rules → IsOrigin from → from.frames ≤ n
     → IsOrigin (origin_at rules from k n)
 origin_goes_on rules from k n range is starts = record {
-  machine_is = run_in rules from.machine (drop from.frames (rows_below k n)) range is.machine_is;
+  machine_is = run_in rules from.machine (drop from.frames (rows_below k n)) is.machine_is;
   marks_are = since_kept rules from k n starts is.marks_are;
 }

@@ -2,6 +2,7 @@
 use Rattle.std.specs.Prelude.{◌≡◌, ◌≢◌, ◌⊎◌, ℕ, ◌+◌, ◌<◌, ◌≤◌, List, [], length, take, Option, Some, None}
 use Rattle.std.specs.List.{slice_get}
 use Rattle.c8_game.specs.Rules.{Rules, joined}
+use Rattle.c8_machine.specs.Keys.{keys_of}
 use Rattle.c8_machine.specs.declared.machine.Machine.{Machine}
 use Rattle.c8_machine.specs.State.{State, state}
 use Rattle.c8_machine.specs.Serial.{frame_of}
@@ -39,7 +40,8 @@ IsAll t = t.first + length t.snapshots ≡ t.ticks
 
 -- the machine after a snapshot is that after one frame with its row
 abbrev pub IsFollowed : TimelineValue → ℕ → Type 0
-IsFollowed t i = (s : Snapshot) → slice_get t.snapshots i ≡ Some s → state_at t (i + 1) ≡ frame_of t.rules (joined t.rules s.row) (state s.machine)
+IsFollowed t i = (s : Snapshot) → slice_get t.snapshots i ≡ Some s
+    → state_at t (i + 1) ≡ frame_of t.rules (keys_of (joined t.rules s.row)) (state s.machine)
 
 -- the invariant of a timeline
 pub record IsTimeline (t : TimelineValue) : Type 0 where

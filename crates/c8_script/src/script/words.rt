@@ -5,27 +5,28 @@ ghost use Rattle.c8_script.specs.checked.ScriptWords.{event_in, stop_in, fail_in
 ghost use Rattle.c8_script.specs.Script.{may_be_held};
 ghost use Rattle.c8_world.specs.declared.event.Act.TheVariants.{Give, Hear};
 
-use c8_game::{Keys, Player};
+use c8_game::{Input, Player, Width};
+use c8_news::Signs;
 use c8_peer::Kind;
 use c8_wire::Watcher;
 use c8_world::{Act, Event};
 
-/// Returns the event that the words of a line spell.
-pub fn event_in(words: &[&[u8]]) -> Option<Event>
-    ensures { result ≡ event_in (map (λ word. word.now) words.now) }
+/// Returns the event that the words of a line spell in a game of this width.
+pub fn event_in(words: &[&[u8]], width: Width) -> Option<Event>
+    ensures { result ≡ event_in width.bytes (map (λ word. word.now) words.now) }
 {
-    match act_in(words) {
+    match act_in(words, width) {
         Some(act) => Some(Event::Do(act)),
-        None => match stop_in(words) {
+        None => match stop_in(words, width) {
             Some(stop) => Some(stop),
-            None => fail_in(words),
+            None => fail_in(words, width),
         },
     }
 }
 
 /// Returns the stop that these words spell: its two numbers, and then the act inside it.
-fn stop_in(words: &[&[u8]]) -> Option<Event>
-    ensures { result ≡ stop_in (map (λ word. word.now) words.now) }
+fn stop_in(words: &[&[u8]], width: Width) -> Option<Event>
+    ensures { result ≡ stop_in width.bytes (map (λ word. word.now) words.now) }
 {
     let [verb, calls, pick, act @ ..] = words else {
         return None;
@@ -33,12 +34,12 @@ fn stop_in(words: &[&[u8]]) -> Option<Event>
     if *verb != b"stop".as_slice() {
         return None;
     }
-    Some(Event::Stop(held_in(act)?, number_in(calls)?, number_in(pick)?))
+    Some(Event::Stop(held_in(act, width)?, number_in(calls)?, number_in(pick)?))
 }
 
 /// Returns the failure that these words spell: its number, and then the act inside it.
-fn fail_in(words: &[&[u8]]) -> Option<Event>
-    ensures { result ≡ fail_in (map (λ word. word.now) words.now) }
+fn fail_in(words: &[&[u8]], width: Width) -> Option<Event>
+    ensures { result ≡ fail_in width.bytes (map (λ word. word.now) words.now) }
 {
     let [verb, calls, act @ ..] = words else {
         return None;
@@ -46,20 +47,20 @@ fn fail_in(words: &[&[u8]]) -> Option<Event>
     if *verb != b"fail".as_slice() {
         return None;
     }
-    Some(Event::Fail(held_in(act)?, number_in(calls)?))
+    Some(Event::Fail(held_in(act, width)?, number_in(calls)?))
 }
 
 /// Returns the act that these words spell, if a stop or a failure may hold it.
-fn held_in(words: &[&[u8]]) -> Option<Act>
-    ensures { result ≡ held_in (act_in (map (λ word. word.now) words.now)) }
+fn held_in(words: &[&[u8]], width: Width) -> Option<Act>
+    ensures { result ≡ held_in (act_in width.bytes (map (λ word. word.now) words.now)) }
 {
-    match act_in(words) {
+    match act_in(words, width) {
         Some(act) if may_be_held(act) => Some(act),
         _ => None,
     }
 }
 
-/// Returns whether a stop or a failure may hold an act; a watcher has no disk.
+/// Returns whether a stop or a failure may hold an act: a watcher has no disk, and the loss of a journal calls none.
 fn may_be_held(act: Act) -> bool
     ensures { result ≡ may_be_held act }
 {
@@ -72,28 +73,28 @@ fn may_be_held(act: Act) -> bool
         | Act::Decide(_)
         | Act::Check(_)
         | Act::Show(_) => true,
-        Act::Hear(_, _) | Act::Seen(_) | Act::Fresh(_) => false,
+        Act::Hear(_, _) | Act::Seen(_) | Act::Fresh(_) | Act::Wipe(_) => false,
     }
 }
 
 /// Returns the act that these words spell.
-fn act_in(words: &[&[u8]]) -> Option<Act>
-    ensures { result ≡ act_in (map (λ word. word.now) words.now) }
+fn act_in(words: &[&[u8]], width: Width) -> Option<Act>
+    ensures { result ≡ act_in width.bytes (map (λ word. word.now) words.now) }
 {
     match words {
         [verb, player] => player_act_in(verb, player),
-        [verb, one, other] => other_act_in(verb, one, other),
+        [verb, one, other] => other_act_in(verb, one, other, width),
         [verb, one, other, what, more @ ..] => saying_in(verb, one, other, what, more),
         _ => None,
     }
 }
 
 /// Returns the act that a verb and two words spell.
-fn other_act_in(verb: &[u8], one: &[u8], other: &[u8]) -> Option<Act>
-    ensures { result ≡ other_act_in verb.now one.now other.now }
+fn other_act_in(verb: &[u8], one: &[u8], other: &[u8], width: Width) -> Option<Act>
+    ensures { result ≡ other_act_in width.bytes verb.now one.now other.now }
 {
     if verb == b"tick".as_slice() {
-        Some(Act::Tick(player_in(one)?, Keys::from_hex(other)?))
+        Some(Act::Tick(player_in(one)?, Input::from_hex(other, width)?))
     } else if verb == b"give".as_slice() {
         given_in(one, other)
     } else {
@@ -174,22 +175,26 @@ fn player_act_in(verb: &[u8], player: &[u8]) -> Option<Act>
         Some(Act::Check(player_in(player)?))
     } else if verb == b"fresh".as_slice() {
         Some(Act::Fresh(watcher_in(player)?))
+    } else if verb == b"wipe".as_slice() {
+        Some(Act::Wipe(player_in(player)?))
     } else {
         None
     }
 }
 
-/// Returns the kind that a word spells, for some kinds with the word of a leaver.
+/// Returns the kind that a word spells, for some kinds with the word of a player.
 fn kind_in(what: &[u8], leaver: &[&[u8]]) -> Option<Kind>
     ensures { result ≡ kind_in what.now (map (λ word. word.now) leaver.now) }
 {
     match leaver {
         [] if what == b"hello".as_slice() => Some(Kind::Hello),
         [] if what == b"welcome".as_slice() => Some(Kind::Welcome),
-        [] if what == b"data".as_slice() => Some(Kind::Data),
+        [] if what == b"data".as_slice() => Some(Kind::Data(Signs::none())),
+        [] if what == b"refused".as_slice() => Some(Kind::Refused),
         [leaver] if what == b"freeze".as_slice() => Some(Kind::Freeze(player_in(leaver)?)),
         [leaver] if what == b"frozen".as_slice() => Some(Kind::Frozen(player_in(leaver)?)),
         [leaver] if what == b"cut".as_slice() => Some(Kind::Cut(player_in(leaver)?)),
+        [player] if what == b"pass".as_slice() => Some(Kind::Pass(player_in(player)?)),
         _ => None,
     }
 }

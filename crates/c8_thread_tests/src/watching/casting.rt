@@ -155,9 +155,9 @@ fn rows_of(alloc: Global, count: u32, other: Option<u32>) -> Result<Vec<Row>, Fa
 fn spelled(alloc: Global, first: u32, end: u32) -> Result<Vec<u8>, Fail> {
     let mut bytes = Vec::new(alloc);
     for frame in first..end {
-        let [one, two, _, _] = row_of(frame).sets;
-        bytes.extend_from_slice(&one.0.to_be_bytes())?;
-        bytes.extend_from_slice(&two.0.to_be_bytes())?;
+        let [one, two, _, _] = row_of(frame).inputs;
+        bytes.extend_from_slice(&one.0.to_be_bytes()[6..])?;
+        bytes.extend_from_slice(&two.0.to_be_bytes()[6..])?;
     }
     Ok(bytes)
 }

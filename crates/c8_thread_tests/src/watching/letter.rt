@@ -44,11 +44,11 @@ impl Letter {
 
     /// Adds a row.
     fn add_row(&mut self, row: &Row) {
-        let [one, two, three, four] = row.sets;
-        self.add(&one.0.to_be_bytes());
-        self.add(&two.0.to_be_bytes());
-        self.add(&three.0.to_be_bytes());
-        self.add(&four.0.to_be_bytes());
+        let [one, two, three, four] = row.inputs;
+        self.add(&one.0.to_be_bytes()[6..]);
+        self.add(&two.0.to_be_bytes()[6..]);
+        self.add(&three.0.to_be_bytes()[6..]);
+        self.add(&four.0.to_be_bytes()[6..]);
     }
 
     /// A SHOW of `count` rows from frame `start` on, at most 16.

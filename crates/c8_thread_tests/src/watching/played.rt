@@ -1,5 +1,5 @@
 //! The games that are watched, and which keys each player enters.
-use c8_game::{Game, Keys, Row};
+use c8_game::{Game, Input, Row};
 use c8_wire::Watcher;
 use std::alloc::Global;
 use std::test::Fail;
@@ -24,6 +24,11 @@ pub(crate) fn game_of(alloc: Global, frames: u32, wire: u8) -> Result<Game, Fail
 pub(crate) fn row_of(frame: u32) -> Row {
     let two = if frame % 3 == 0 { 0x0020 } else { 0x8110 };
     Row {
-        sets: [Keys((frame & 0x1f) as u16), Keys(two), Keys(0), Keys(0)],
+        inputs: [
+            Input(u64::from(frame & 0x1f)),
+            Input(two),
+            Input(0),
+            Input(0),
+        ],
     }
 }

@@ -9,11 +9,21 @@ fn absent() -> ! {
 
 pub unsafe fn c8_close(_: *mut c8_session) {}
 
-pub unsafe fn c8_open(_: *const u8, _: usize, _: u8, _: u64, _: u32, _: *mut c8_session) -> u32 {
+pub unsafe fn c8_open(_: *const u8, _: usize, _: u8, _: u64, _: u64, _: u32, _: *mut c8_session) -> u32 {
     absent()
 }
 
-pub unsafe fn c8_open_journal(_: *const u8, _: usize, _: u8, _: u64, _: u32, _: i32, _: i32, _: *mut c8_session) -> u32 {
+pub unsafe fn c8_open_journal(
+    _: *const u8,
+    _: usize,
+    _: u8,
+    _: u64,
+    _: u64,
+    _: u32,
+    _: i32,
+    _: i32,
+    _: *mut c8_session,
+) -> u32 {
     absent()
 }
 
@@ -29,7 +39,7 @@ pub unsafe fn c8_deliver(_: *mut c8_session, _: *const u8, _: usize) -> u32 {
     absent()
 }
 
-pub unsafe fn c8_tick(_: *mut c8_session, _: u16) -> u32 {
+pub unsafe fn c8_tick(_: *mut c8_session, _: u64) -> u32 {
     absent()
 }
 
@@ -69,6 +79,14 @@ pub unsafe fn c8_status(_: *mut c8_session, _: u32, _: *mut u8) -> u32 {
     absent()
 }
 
+pub unsafe fn c8_bye(_: *mut c8_session) -> u32 {
+    absent()
+}
+
+pub unsafe fn c8_why_over(_: *mut c8_session) -> u32 {
+    absent()
+}
+
 pub unsafe fn c8_is_over(_: *mut c8_session) -> bool {
     absent()
 }
@@ -77,7 +95,7 @@ pub unsafe fn c8_is_lost(_: *mut c8_session) -> bool {
     absent()
 }
 
-pub unsafe fn c8_step(_: *mut c8_session, _: *mut u32, _: *mut u16, _: usize) -> u32 {
+pub unsafe fn c8_step(_: *mut c8_session, _: *mut u32, _: *mut u64, _: usize) -> u32 {
     absent()
 }
 
@@ -85,7 +103,7 @@ pub unsafe fn c8_check(_: *mut c8_session, _: u32) -> u32 {
     absent()
 }
 
-pub unsafe fn c8_rules(_: u8, _: u32, _: u8, _: u8, _: *const u8, _: *mut u8, _: usize) -> u32 {
+pub unsafe fn c8_rules(_: u8, _: u32, _: u8, _: u8, _: u8, _: *const u8, _: *mut u8, _: usize) -> u32 {
     absent()
 }
 

@@ -27,6 +27,8 @@ pub struct c8_player_state {
     pub dropped: bool,
     /// The frame from which on its inputs are empty, once it is known; else `u32::MAX`.
     pub cut: u32,
+    /// Version 3: whether it came back without its journal, and is refused.
+    pub came_back: bool,
 }
 
 /// What happened in a session.
@@ -48,13 +50,21 @@ pub use absent::*;
 
 #[cfg(not(c8_absent))]
 extern "C" {
-    pub fn c8_open(text: *const u8, length: usize, player: u8, room: u64, patience: u32, session: *mut c8_session)
-        -> u32;
+    pub fn c8_open(
+        text: *const u8,
+        length: usize,
+        player: u8,
+        room: u64,
+        drawn: u64,
+        patience: u32,
+        session: *mut c8_session,
+    ) -> u32;
     pub fn c8_open_journal(
         text: *const u8,
         length: usize,
         player: u8,
         room: u64,
+        drawn: u64,
         patience: u32,
         file: i32,
         folder: i32,
@@ -71,21 +81,32 @@ extern "C" {
     ) -> u32;
     pub fn c8_close(session: *mut c8_session);
     pub fn c8_deliver(session: *mut c8_session, bytes: *const u8, length: usize) -> u32;
-    pub fn c8_tick(session: *mut c8_session, input: u16) -> u32;
+    pub fn c8_tick(session: *mut c8_session, input: u64) -> u32;
     pub fn c8_turn(session: *mut c8_session) -> u32;
     pub fn c8_next(session: *mut c8_session, out: *mut u8, to: *mut u8) -> u32;
     pub fn c8_watched(session: *mut c8_session, watcher: u8) -> u32;
     pub fn c8_patience(session: *mut c8_session, first: u32, later: u32) -> u32;
     pub fn c8_clock(session: *mut c8_session, milliseconds: u64) -> u32;
     pub fn c8_end(session: *mut c8_session, frames: u32) -> u32;
+    pub fn c8_bye(session: *mut c8_session) -> u32;
     pub fn c8_event(session: *mut c8_session, event: *mut c8_event_state) -> bool;
     pub fn c8_wait(session: *mut c8_session) -> u32;
     pub fn c8_status(session: *mut c8_session, frame: u32, out: *mut u8) -> u32;
     pub fn c8_is_over(session: *mut c8_session) -> bool;
+    pub fn c8_why_over(session: *mut c8_session) -> u32;
     pub fn c8_is_lost(session: *mut c8_session) -> bool;
-    pub fn c8_step(session: *mut c8_session, from: *mut u32, rows: *mut u16, words: usize) -> u32;
+    pub fn c8_step(session: *mut c8_session, from: *mut u32, rows: *mut u64, words: usize) -> u32;
     pub fn c8_check(session: *mut c8_session, depth: u32) -> u32;
-    pub fn c8_rules(players: u8, frames: u32, delay: u8, window: u8, id: *const u8, out: *mut u8, length: usize) -> u32;
+    pub fn c8_rules(
+        players: u8,
+        frames: u32,
+        delay: u8,
+        window: u8,
+        width: u8,
+        id: *const u8,
+        out: *mut u8,
+        length: usize,
+    ) -> u32;
     pub fn c8_ticked(session: *mut c8_session) -> u32;
     pub fn c8_confirmed(session: *mut c8_session) -> u32;
     pub fn c8_epoch(session: *mut c8_session) -> u32;

@@ -10,6 +10,6 @@ pub returns : goal.returns
 returns c =
     let k = c.args.known.now in
     subst (λ (row : Row). input_of (player_in k c.args.player.number) c.args.frame
-    ≡ Some (slice_index_or row.sets c.place.result (record { 0 = 0 })).0) (sym c.row.ensures)
-    (input_in_row k c.args.player.number c.args.frame c.place.result (record { 0 = 0 }) c.requires.plays c.requires.confirmed
+    ≡ Some (slice_index_or row.inputs c.place.result 0)) (sym c.row.ensures)
+    (input_in_row k c.args.player.number c.args.frame c.place.result 0 c.requires.plays c.requires.confirmed
     c.place.ensures.next c.place.ensures.below)

@@ -40,11 +40,11 @@ returns-in-None-clause-gathered c =
     let four : c.args.game.now.players ≤ 4 = omega (arith, c.players-players.ensures.value, c.players-players.ensures.greatest) in
     let none = c.in-None.ensures.none in
     all_gathered c.args.game.now c.args.files.now c.loop-place.gathered
-    (at_end c.args.game.now c.args.files.now c.loop-place.place c.loop-place.gathered c.loop-place.invariant end) four none.1.0 none.1.1
+    (at_end c.args.game.now c.args.files.now c.loop-place.place c.loop-place.gathered c.loop-place.invariant end) four none.1.0 none.1.1.0
 
 pub returns-in-None-clause-one_match : goal.returns-in-None-clause-one_match
 returns-in-None-clause-one_match c =
     let end : c.loop-place.place ≡ length c.args.files.now = omega (arith, c.loop-place-test.false, c.loop-place.auto.place-end) in
     let none = c.in-None.ensures.none in
     all_one_match c.args.game.now c.args.files.now c.loop-place.gathered
-    (at_end c.args.game.now c.args.files.now c.loop-place.place c.loop-place.gathered c.loop-place.invariant end) none.0 none.1.0 none.1.1
+    (at_end c.args.game.now c.args.files.now c.loop-place.place c.loop-place.gathered c.loop-place.invariant end) none.0 none.1.0 none.1.1.0 none.1.1.1

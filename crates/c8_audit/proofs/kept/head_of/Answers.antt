@@ -11,6 +11,6 @@ returns-in_default-record c =
     let spells = rw (c.in-Some.is) at c.view.ensures.value in
     inl (
       refl,
-      other_kind (kept c.args.image.now) c.kept_body.result.now (value_of lent) c.kept_body.ensures spells
+      other_kind c.args.game.now.width (kept c.args.image.now) c.kept_body.result.now (value_of lent) c.kept_body.ensures spells
           (not_head lent c.in_default-record.not-Head),
     )

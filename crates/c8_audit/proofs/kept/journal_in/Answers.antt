@@ -41,7 +41,10 @@ unfolding known_of
 returns-in-Ok-replay_bytes-clause-of_game c =
     let replayed = rw (c.in-Ok-replay_bytes.is) at c.replay_bytes.ensures in
     subst (λ (k : KnownValue). IsOfGame c.args.game.now k.me k) (sym replayed.1)
-    (of_game c.args.game.now c.in-Ok.known.me (records_of (kept c.args.image.now)))
+    (of_game c.args.game.now c.in-Ok.known.me (records_of c.args.game.now.width (kept c.args.image.now)))
+
+pub returns-in-Ok-replay_bytes-clause-numbers : goal.returns-in-Ok-replay_bytes-clause-numbers
+returns-in-Ok-replay_bytes-clause-numbers c = let replayed = rw (c.in-Ok-replay_bytes.is) at c.replay_bytes.ensures in replayed.2
 
 pub returns-in-Ok-replay_bytes-clause-journal : goal.returns-in-Ok-replay_bytes-clause-journal
 unfolding known_of
@@ -52,9 +55,9 @@ returns-in-Ok-replay_bytes-clause-journal c =
     let mine : c.replay_bytes.new.known.me ≡ c.in-Ok.known.me = ap (λ (k : KnownValue). k.me) replayed.1 in
     let named : c.replay_bytes.new.known.me ≡ c.in_ok-head.head.player.number = mine ∙ c.in-Ok.ensures.of_game.player in
     record {
-      head = subst (λ (me : ℕ). BeginsWithHead bodies me (id_of rules) c.in_ok-head.head.room) (sym named) c.in_ok-head.ensures.0;
+      head = subst (λ (me : ℕ). BeginsWithHead rules.width bodies me (id_of rules) c.in_ok-head.head.room) (sym named) c.in_ok-head.ensures.0;
       asked_is = c.in_ok-head.ensures.1;
       journal = subst (λ (me : ℕ). AreJournalBodies rules me c.in_ok-head.head.room bodies) (sym mine) replayed.0;
-      known_is = subst (λ (me : ℕ). c.replay_bytes.new.known ≡ known_of rules me (records_of bodies)) (sym mine) replayed.1;
+      known_is = subst (λ (me : ℕ). c.replay_bytes.new.known ≡ known_of rules me (records_of rules.width bodies)) (sym mine) replayed.1;
       checks_is = replayed.3;
     }

@@ -24,12 +24,15 @@ returns-clause-seen c =
 pub returns-clause-named : goal.returns-clause-named
 returns-clause-named c =
     rw c.joined.ensures.first
-    (head_names (kept (first_bytes c.args.file.now)) c.in-Ok.one.known.me (id_of c.args.game.now) c.in-Ok.one.room
+    (head_names c.args.game.now.width (kept (first_bytes c.args.file.now)) c.in-Ok.one.known.me (id_of c.args.game.now) c.in-Ok.one.room
     (rw c.deref.ensures.value at c.in-Ok.ensures.journal).head)
 
 pub returns-clause-head : goal.returns-clause-head
 returns-clause-head c =
     rw (c.joined.ensures.named, c.me-player.ensures.value) ((rw c.deref.ensures.value at c.in-Ok.ensures.journal).head)
+
+pub returns-clause-numbers : goal.returns-clause-numbers
+returns-clause-numbers c = rw c.joined.ensures.named (rw c.deref.ensures.value at c.in-Ok.ensures.numbers)
 
 pub returns-in-Err-clause-unread : goal.returns-in-Err-clause-unread
 returns-in-Err-clause-unread c = inl (rw c.deref.ensures.value at c.in-Err.ensures.journal)

@@ -1,6 +1,7 @@
 -- A checkpoint is on the way exactly if its marks and its machine are those of the serial run.
 use Rattle.std.proofs.Common.{◌≡◌, ◌+◌, refl, sym, ap, ◌∙◌, subst, arith}
 use Rattle.c8_game.specs.Rules.{joined}
+use Rattle.c8_machine.specs.Keys.{keys_of}
 use Rattle.c8_known.specs.Confirmed.{row, rows_below}
 use Rattle.c8_digest.specs.StateBytes.{mark_of}
 use Rattle.c8_machine.specs.Serial.{serial}
@@ -30,7 +31,7 @@ loop-frame-preserved c =
     let frame = c.loop-frame.frame in
     record {
       run = c.frame.ensures.serial (rows_below k frame) (row k frame) c.loop-frame.invariant.run
-          (c.joined.ensures ∙ ap (joined rules) c.row.ensures) ∙ ap (serial rules) (sym (row_more k frame));
+          (c.from.ensures ∙ ap keys_of (c.joined.ensures ∙ ap (joined rules) c.row.ensures)) ∙ ap (serial rules) (sym (row_more k frame));
       marks = have_more rules k last.frames last.marks frame (state c.loop-frame.machine) c.loop-frame.invariant.run
           c.loop-frame.invariant.marks (c.if-not-has_mark.ensures.0 refl);
     }

@@ -17,7 +17,8 @@ returns-in-Ok-new-clause-opened c = λ done text spells.
     rw session (record {
       rules = c.args.game.now;
       game = spells;
-      opened = subst (λ (e : EngineOf). IsOpened disk c.args.disk c.args.game.now c.args.room c.args.me.number e.peer) (sym engine) opened.0;
+      opened = subst (λ (e : EngineOf). IsOpened disk c.args.disk c.args.game.now c.args.room c.args.me.number c.args.way.drawn e.peer)
+      (sym engine) opened.0;
       given = ap (λ (e : EngineOf). e.steps.given) engine ∙ opened.1;
       depth = ap (λ (e : EngineOf). e.depth) engine ∙ opened.2;
       news = subst (λ (e : EngineOf). AreNoNews e.news) (sym engine) c.in-Ok.ensures.news;

@@ -10,7 +10,7 @@ returns-in-Ok-new-clause-opened c = λ done.
     let spelled : Spells c.args.text.now c.leak.result.now = subst (λ (r : Rules). Spells c.args.text.now r) (sym rules) c.in-Ok.ensures.game in
     let head = c.in-Some.head in
     let opened = c.open_on.ensures.opened done c.args.text.now spelled in
-    (head.player.number, head.room, c.in-Ok-disk_for.disk, c.in-Some.ensures, opened)
+    (head.player.number, head.room, 1, c.in-Ok-disk_for.disk, c.in-Some.ensures, opened)
 
 pub returns-in-Ok-new-clause-why : goal.returns-in-Ok-new-clause-why
 returns-in-Ok-new-clause-why c = λ some.
@@ -18,7 +18,7 @@ returns-in-Ok-new-clause-why c = λ some.
     let spelled : Spells c.args.text.now c.leak.result.now = subst (λ (r : Rules). Spells c.args.text.now r) (sym rules) c.in-Ok.ensures.game in
     let head = c.in-Some.head in
     elim (c.open_on.ensures.why some c.args.text.now spelled) [
-      | inl peer ↦ inr (inr (inr (inl (head.player.number, head.room, peer))))
+      | inl peer ↦ inr (inr (inr (inl (head.player.number, head.room, 1, peer))))
       | inr memory ↦ inr (inr (inr (inr memory)))
     ]
 

@@ -1,7 +1,5 @@
 -- What is missing or refused says why nothing is judged; else the files have the journals of one match.
-use Rattle.std.proofs.Common.{inl}
-use Rattle.c8_judge.specs.Audited.{fault_of_unjudged}
-use Rattle.c8_judge.proofs.OutcomeLemmas.{no_file, no_game, no_program, unjudged_by}
+use Rattle.c8_judge.proofs.OutcomeLemmas.{no_file}
 use Rattle.c8_judge.proofs.evidence.evidence_of.Goals as goal
 
 pub returns-in-Err-clause-unjudged : goal.returns-in-Err-clause-unjudged

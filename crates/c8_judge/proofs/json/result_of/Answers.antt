@@ -1,5 +1,5 @@
 -- After three yes the result has the digest; else there is none.
-use Rattle.std.proofs.Common.{None, sym, ◌∙◌, ap, string_bytes}
+use Rattle.std.proofs.Common.{sym, ◌∙◌, ap, string_bytes}
 use Rattle.hex.specs.Hex.{encode_lower}
 use Rattle.serde_json.specs.View.{view}
 use Rattle.serde_json.specs.Written.{has_float}

@@ -4,7 +4,7 @@ use Rattle.std.specs.Io.KnownBytes.{Appends}
 use Rattle.serde_json.specs.Data.{Data}
 use Rattle.c8_audit.specs.declared.verdict.Verdicts.{Verdicts}
 use Rattle.c8_audit.proofs.PrintLemmas.{judged_by}
-use Rattle.c8_judge.specs.Lines.{data_line}
+use Rattle.c8_command.specs.Json.{data_line}
 use Rattle.c8_judge.specs.PrintedJson.{audit_data}
 use Rattle.c8_judge.proofs.json.write_json.Goals as goal
 

@@ -1,5 +1,5 @@
 -- The line at each place is that of the name there.
-use Rattle.std.proofs.Common.{Ok, ap, sym, ◌∙◌, subst, length, map, IfOk}
+use Rattle.std.proofs.Common.{Ok, ap, sym, ◌∙◌, subst, length, IfOk}
 use Rattle.std.specs.Prelude.{string_bytes}
 use Rattle.std.proofs.lemmas.List.{length-map}
 use Rattle.std.proofs.lemmas.Option.{get_or_from_slice_get}

@@ -1,7 +1,7 @@
 -- The line is the text of the object that has what was found.
 use Rattle.std.proofs.Common.{ap, ◌∙◌}
 use Rattle.serde_json.specs.View.{view}
-use Rattle.c8_judge.specs.Lines.{data_line}
+use Rattle.c8_command.specs.Json.{data_line}
 use Rattle.c8_judge.proofs.matches.told.Goals as goal
 
 pub returns : goal.returns

@@ -1,4 +1,4 @@
--- Each table so far has the delay's empty sets alone, and room for the longest list.
+-- Each table so far has the inputs of the delay alone, and room for the longest list.
 use Rattle.std.proofs.Common.{◌≡◌, map, replicate, None, false}
 use Rattle.c8_known.specs.Tables.{table_value, HasRoom}
 use Rattle.c8_known.proofs.table.tables_of.Given as goal

@@ -1,4 +1,4 @@
--- Only a tick that was taken enters a key set, and a run enters what its parts enter, in order.
+-- Only a tick that was taken enters an input, and a run enters what its parts enter, in order.
 use Rattle.c8_live.proofs.EnteredLemmas.{entered_still, entered_other, entered_once, entered_joined, entered_through}
 use Rattle.c8_live.proofs.laws.entries_join.Goals as goal
 

@@ -11,14 +11,14 @@ use Rattle.c8_live.proofs.RunLemmas.{opened_tells}
 use Rattle.c8_live.proofs.laws.true_checks_show_the_serial_run.Goals as goal
 
 pub returns-clause-opened : goal.returns-clause-opened
-returns-clause-opened g c disk rules room me p opened are =
+returns-clause-opened g c disk rules room me drawn p opened are =
     let sound = opened.sound in
     let range = subst AreInRange opened.rules_are sound.range in
     let from = subst (λ (n : ℕ). 1 ≤ n) opened.me_is sound.plays.0 in
     let low = subst (λ (n : ℕ). n < 2 ^ 64) opened.room_is sound.low in
-    opened_tells g.D.Disk disk rules room me p opened
-    (c.openings_are_lawful.ensures.checks rules me room (records_of (bodies_found g.D.Disk disk)) range from opened.may.2 low opened.may.0
-    opened.may.1 are)
+    opened_tells g.D.Disk disk rules room me drawn p opened
+    (c.openings_are_lawful.ensures.checks rules me room drawn (records_of rules.width (bodies_found g.D.Disk disk)) range from opened.may.2 low
+    opened.draws opened.may.0 opened.may.1 are)
 
 pub returns-clause-stays : goal.returns-clause-stays
 returns-clause-stays g c old new sound tells ran =

@@ -4,7 +4,8 @@ use Rattle.std.proofs.lemmas.Result.{err_from_is_err_and}
 use Rattle.c8_peer.specs.State.{Call}
 use Rattle.c8_peer.specs.Peer.{PeerValue}
 use Rattle.c8_session.specs.Due.{said_in_turn}
-use Rattle.c8_session.specs.Notes.{Notes, notes_of, after_turn}
+use Rattle.c8_session.specs.Ending.{after_turn}
+use Rattle.c8_session.specs.Notes.{Notes, notes_of}
 use Rattle.c8_session.specs.Turns.{Hears, Ticks, Drops, Cuts, Saves}
 use Rattle.c8_session.specs.checked.Joins.{none_called, turned_still}
 use Rattle.c8_live.specs.Entered.{entered_of}
@@ -119,7 +120,7 @@ returns-clause-entered g c =
     let joined = c.entries_join.ensures.joined [] [] in
     let turned = c.turn.ensures.turned in
     rw (from, c.end-ended.ensures.peer, c.in_ok-speak.ensures.peer) (
-    c.entries_join.ensures.through (entered_of c.args.keys c.in_ok-is_taken.is_taken) c.forget_rollbacks.new.self.peer c.hear.new.session.peer
+    c.entries_join.ensures.through (entered_of c.args.input c.in_ok-is_taken.is_taken) c.forget_rollbacks.new.self.peer c.hear.new.session.peer
     c.enter.new.session.peer c.turn.new.self.peer
     (none Hears c.forget_rollbacks.new.self.peer c.hear.new.session.peer (λ e. cc e) c.in_ok-hear.ensures.noted.heard.heard.0)
     c.in_ok-is_taken.ensures.entered
@@ -138,7 +139,7 @@ returns-clause-said g c =
     let later = c.turn.ensures.notes ∙ c.in_ok-is_taken.ensures.notes in
     let was_turn = c.end-ended.ensures.ended ∙ c.in_ok-speak.ensures.speaks ∙ c.in_ok-turn.ensures.speaks in
     let said = subst (λ (calls : List Call). HasSaid g.D.Disk g.W.Wire turned.peer calls c.hear.new.wire c.speak.new.wire)
-    (c.in_ok-turn.ensures.due ∙ ap (λ (n : Notes). said_in_turn turned.peer n.greeters n.shown) later) c.in_ok-speak.ensures.said in
+    (c.in_ok-turn.ensures.due ∙ ap (λ (n : Notes). said_in_turn n turned.peer) later) c.in_ok-speak.ensures.said in
     said_all g.D.Disk g.W.Wire c.args.session.now.peer first.peer heard.peer ticked.peer turned.peer ended.peer (notes_of c.args.session.now)
     (notes_of first) (notes_of heard) (notes_of ended) c.args.wire.now c.hear.new.wire c.speak.new.wire
     (c.forget_rollbacks.ensures.peer ∙ c.begin.ensures.peer) (c.forget_rollbacks.ensures.notes ∙ c.begin.ensures.notes)

@@ -9,5 +9,6 @@ pub returns-clause-says : goal.returns-clause-says
 returns-clause-says c = pairs_say
 
 pub returns-clause-only : goal.returns-clause-only
-returns-clause-only c words others fits fit same =
-    sym (pairs_say words) ∙ ap words_in (sym (pairs_at-spelling words fits) ∙ ap pairs_at same ∙ pairs_at-spelling others fit) ∙ pairs_say others
+returns-clause-only c width words others fits fit same =
+    sym (pairs_say words) ∙ ap words_in (sym (pairs_at-spelling width words fits) ∙ ap (pairs_at width) same
+    ∙ pairs_at-spelling width others fit) ∙ pairs_say others

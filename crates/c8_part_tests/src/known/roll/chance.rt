@@ -105,23 +105,23 @@ fn counted(number: u32, is_so: bool) -> u32 {
     number.saturating_add(u32::from(is_so))
 }
 
-/// Returns the last held key set of player 2.
-fn last_keys(known: &Known) -> u16 {
+/// Returns the last held input of player 2.
+fn last_input(known: &Known) -> u64 {
     match count(known, TWO) {
-        Some(count) if count > 0 => known.best(count - 1).sets[1].0,
+        Some(count) if count > 0 => known.best(count - 1).inputs[1].0,
         _ => 0,
     }
 }
 
 /// Draws some inputs of player 2, most of them equal to the one before.
-fn drawn(chance: &mut Chance, last: u16, many: u32) -> [u8; 128] {
-    let mut keys = last;
+fn drawn(chance: &mut Chance, last: u64, many: u32) -> [u8; 128] {
+    let mut input = last;
     let mut bytes = [0; 128];
     for place in 0..many.min(64) as usize {
-        if chance.one_in(if keys == 0 { 8 } else { 2 }) {
-            keys ^= 0x0010;
+        if chance.one_in(if input == 0 { 8 } else { 2 }) {
+            input ^= 0x0010;
         }
-        let [high, low] = keys.to_be_bytes();
+        let [.., high, low] = input.to_be_bytes();
         bytes[2 * place] = high;
         bytes[2 * place + 1] = low;
     }
@@ -155,7 +155,7 @@ impl<'g> Play<'g> {
         let held = count(&self.known, TWO).unwrap_or(most);
         let due = most.saturating_sub(held);
         let many = self.chance.below(due.saturating_add(1));
-        let bytes = drawn(&mut self.chance, last_keys(&self.known), many);
+        let bytes = drawn(&mut self.chance, last_input(&self.known), many);
         let is_taken = match bytes.get(..(many as usize).saturating_mul(2)) {
             Some(bytes) => come(&mut self.known, TWO, bytes),
             None => false,
@@ -193,8 +193,8 @@ impl<'g> Play<'g> {
     fn tick(&mut self, alloc: Global, before: &Guesses) {
         let oldest = self.oldest(before);
         let from = oldest.unwrap_or(self.roll.ticks());
-        let keys = 2 * u16::from(self.chance.one_in(4));
-        let answers = tick(&mut self.known, &mut self.roll, keys);
+        let input = 2 * u64::from(self.chance.one_in(4));
+        let answers = tick(&mut self.known, &mut self.roll, input);
         let ran = self.known.ticks().saturating_sub(from);
         let is_right = answers && self.is_right(alloc, ran);
         let is_again = is_right && oldest.is_some();

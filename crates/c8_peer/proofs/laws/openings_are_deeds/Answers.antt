@@ -15,4 +15,4 @@ pub returns-clause-inside : goal.returns-clause-inside
 returns-clause-inside g c = stopped_deed g.D.Disk
 
 pub returns-clause-settled : goal.returns-clause-settled
-returns-clause-settled g c disk s finds only keeps image left = (finds, subst (Keeps (found s finds)) (sym (only image left)) keeps)
+returns-clause-settled g c disk width s finds only keeps image left = (finds, subst (Keeps width (found s finds)) (sym (only image left)) keeps)

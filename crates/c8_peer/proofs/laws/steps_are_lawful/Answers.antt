@@ -1,8 +1,9 @@
 -- Call by call: the rules allow the record, the memory stays in order, what is said is true and spelled; for c8_world.
 use Rattle.c8_peer.proofs.AllowedLemmas.{keeps_allowed}
 use Rattle.c8_peer.proofs.MemoryLemmas.{memory_kept}
+use Rattle.c8_peer.proofs.MeetingLemmas.{meets_life}
 use Rattle.c8_peer.proofs.PlainLemmas.{keeps_true, keeps_memory}
-use Rattle.c8_peer.proofs.SayingLemmas.{said_true}
+use Rattle.c8_peer.proofs.SaidLemmas.{said_true}
 use Rattle.c8_peer.proofs.SpellingLemmas.{said_spelled}
 use Rattle.c8_peer.proofs.laws.steps_are_lawful.Goals as goal
 
@@ -23,3 +24,6 @@ returns-clause-says c = said_true
 
 pub returns-clause-spelled : goal.returns-clause-spelled
 returns-clause-spelled c = said_spelled
+
+pub returns-clause-meets : goal.returns-clause-meets
+returns-clause-meets c = meets_life

@@ -1,6 +1,7 @@
 -- A frame gives all four players the held keys, lengthens the serial run by that row, and paints its screen.
 use Rattle.std.proofs.Common.{◌≡◌, [], ◌∷◌, ◌++◌, ap, inl, subst, ◌∙◌, arith, refl, length-append, replicate}
 use Rattle.c8_game.specs.declared.row.Row.{Row}
+use Rattle.c8_machine.specs.Keys.{keys_of}
 use Rattle.c8_machine.specs.State.{State}
 use Rattle.c8_machine.specs.Serial.{serial}
 use Rattle.c8_screen.specs.Points.{Points, points_of}
@@ -14,8 +15,8 @@ pub loop-frame-preserved : goal.loop-frame-preserved
 loop-frame-preserved g c =
     let before = c.loop-frame.invariant in
     let begun = c.begin-keys in
-    let row : Row = record { sets = replicate 4 begun.result } in
-    let machine = c.frame.ensures.serial before.rows row before.machine c.joined.ensures in
+    let row : Row = record { inputs = replicate 4 begun.result } in
+    let machine = c.frame.ensures.serial before.rows row before.machine (c.from-2.ensures ∙ ap keys_of c.joined.ensures) in
     let points : points_of c.screen.result.now ≡ (serial c.args.game.now (before.rows ++ row ∷ [])).screen =
     c.screen.ensures ∙ ap (λ (m : State). m.screen) machine in
     record {
@@ -33,6 +34,7 @@ loop-frame-preserved g c =
             counted = c.entered.new.self;
             reads = begun.ensures.read;
             held = begun.ensures.held;
+            no_more = begun.ensures.no_more;
             of_one = refl;
             counts = c.entered.ensures.counted;
             forgets = forgets_more c.sit_out.new.self begun.new.self c.entered.new.self begun.ensures.seen (inl c.entered.ensures.seen);

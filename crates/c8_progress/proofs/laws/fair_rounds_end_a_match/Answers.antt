@@ -8,11 +8,12 @@ use Rattle.c8_progress.proofs.FinishingLemmas.{ends_by}
 use Rattle.c8_progress.proofs.laws.fair_rounds_end_a_match.Goals as goal
 
 pub returns-clause-over : goal.returns-clause-over
-returns-clause-over c = λ rules room run rounds p t range low reached calm over plays stays late.
+returns-clause-over c = λ rules room run rounds p t range early low reached calm over plays stays late.
     let n : ℕ = 3 + 3 * rules.frames in
     let goes : Goes rules room run = record {
       range = range;
-      laws = all_laws rules room range low c.any_two_moments_agree.ensures c.openings_find_journals.ensures.journals;
+      laws = all_laws rules room range early low c.early_versions_have_one_match.ensures.one
+      c.early_versions_have_one_match.ensures.none_lost c.any_two_moments_agree.ensures c.openings_find_journals.ensures.journals;
       reached = reached;
       calm = calm;
     } in
@@ -22,11 +23,12 @@ returns-clause-over c = λ rules room run rounds p t range low reached calm over
     (λ fair ended. rounds_end rules room run goes n 0 0 fair same over (omega arith) t p ended player)
 
 pub returns-clause-all : goal.returns-clause-all
-returns-clause-all c = λ rules room run rounds p t range low reached calm plays stays late.
+returns-clause-all c = λ rules room run rounds p t range early low reached calm plays stays late.
     let n : ℕ = 8 + 3 * rules.frames in
     let goes : Goes rules room run = record {
       range = range;
-      laws = all_laws rules room range low c.any_two_moments_agree.ensures c.openings_find_journals.ensures.journals;
+      laws = all_laws rules room range early low c.early_versions_have_one_match.ensures.one
+      c.early_versions_have_one_match.ensures.none_lost c.any_two_moments_agree.ensures c.openings_find_journals.ensures.journals;
       reached = reached;
       calm = calm;
     } in

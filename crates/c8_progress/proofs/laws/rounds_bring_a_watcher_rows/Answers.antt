@@ -4,11 +4,12 @@ use Rattle.c8_progress.proofs.WatchingLemmas.{has_all}
 use Rattle.c8_progress.proofs.laws.rounds_bring_a_watcher_rows.Goals as goal
 
 pub returns : goal.returns
-returns c = λ rules room run watcher more t rounds range low reached up sits enough late.
+returns c = λ rules room run watcher more t rounds range early low reached up sits enough late.
     has_all rules room run watcher
     (record {
       range = range;
-      laws = all_laws rules room range low c.any_two_moments_agree.ensures c.openings_find_journals.ensures.journals;
+      laws = all_laws rules room range early low c.early_versions_have_one_match.ensures.one
+      c.early_versions_have_one_match.ensures.none_lost c.any_two_moments_agree.ensures c.openings_find_journals.ensures.journals;
       reached = reached;
       up = up;
       sits = sits;

@@ -10,4 +10,4 @@ pub returns-clause-back : goal.returns-clause-back
 returns-clause-back c = read_again
 
 pub returns-clause-only : goal.returns-clause-only
-returns-clause-only c = λ body r spells. sym (reads_back body r spells)
+returns-clause-only c = λ width body r spells. sym (reads_back width body r spells)

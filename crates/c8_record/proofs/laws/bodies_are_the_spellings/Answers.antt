@@ -4,7 +4,7 @@ use Rattle.c8_record.specs.checked.RefusalLaws.{journal_back, journal_bodies}
 use Rattle.c8_record.proofs.laws.bodies_are_the_spellings.Goals as goal
 
 pub returns-clause-bodies : goal.returns-clause-bodies
-returns-clause-bodies c = λ rules me room bodies are. bodies_back bodies are.spelled
+returns-clause-bodies c = λ rules me room bodies are. bodies_back rules.width bodies are.spelled
 
 pub returns-clause-records : goal.returns-clause-records
 returns-clause-records c = journal_back

@@ -7,11 +7,11 @@ use Rattle.c8_record.proofs.reading.view.Goals.{then-not-is_complete-via-else-no
 
 pub returns-then-not-is_complete-clause-value : goal.returns-then-not-is_complete-clause-value
 returns-then-not-is_complete-clause-value c = λ r spells.
-    let lent = c.in_ok-lent.lent in
-    let found = spells_lent c.args.body.now lent r c.in_ok-lent.ensures.value spells in
+    let lent = c.in-Some.lent in
+    let found = spells_lent c.args.width.bytes c.args.body.now lent r c.in-Some.ensures.value spells in
     elim c.then-not-is_complete.branch [
       | then-not-is_complete-via-then-not-is_complete w ↦
-          let has = c.is_complete.ensures.1 (complete lent found.has) in absurd cc
+          let has = c.is_complete.ensures.1 (complete c.args.width.bytes lent found.has) in absurd cc
       | then-not-is_complete-via-else-not-is_complete+then-not-is_body_of w ↦
           let is = w.is_body_of.ensures.is.1 found.is in absurd cc
     ]

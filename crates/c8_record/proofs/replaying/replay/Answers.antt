@@ -18,9 +18,9 @@ loop-number-init g c =
     let none : 0 ≡ min (32 * 0) c.len-count.result = omega arith in
     record {
       taken = subst (λ (n : ℕ). IsReadTo c.args.game.now c.args.known.now.me c.args.room (kept (g.D.Disk.seen c.args.log.now.disk)) n
-          c.args.known.now (value_in c.args.checks.now) 0) none
+          c.args.known.now (value_in c.args.checks.now) c.none-numbers.result) none
           (read_none c.args.game.now c.args.known.now.me c.args.room (kept (g.D.Disk.seen c.args.log.now.disk)) c.args.known.now
-          (value_in c.args.checks.now) c.requires.nothing c.requires.new);
+          (value_in c.args.checks.now) c.none-numbers.result c.requires.nothing c.requires.new c.none-numbers.ensures);
       all = c.len-count.ensures.count ∙ (c.len-count.ensures.at_rest c.requires.up).count;
       count = refl;
       counted = c.len-count.ensures.count;
@@ -43,7 +43,7 @@ take_slots-requires-clause-next g c =
       me = c.args.known.now.me;
       bodies = kept (g.D.Disk.seen c.args.log.now.disk);
       read = read_at_block c.args.game.now c.args.known.now.me c.args.room (kept (g.D.Disk.seen c.args.log.now.disk)) c.loop-number.number
-          c.len-count.result c.loop-number.known (value_in c.loop-number.checks) c.loop-number.epoch c.loop-number.invariant.taken
+          c.len-count.result c.loop-number.known (value_in c.loop-number.checks) c.loop-number.numbers c.loop-number.invariant.taken
           (omega (arith, c.loop-number-test.true, blocks));
       next = are_next (g.D.Disk.seen c.args.log.now.disk) (g.D.Disk.seen c.loop-number.log.disk) (32 * c.loop-number.number)
           (slots_from (32 * c.loop-number.number) c.loop-number.log.count) c.in-Ok.slots.bytes.now c.loop-number.invariant.reads.seen
@@ -67,10 +67,10 @@ loop-number-preserved g c =
     omega (arith, c.loop-number-test.true, blocks, long, count, counted) in
     record {
       taken = subst (λ (n : ℕ). IsReadTo c.args.game.now c.args.known.now.me c.args.room (kept (g.D.Disk.seen c.args.log.now.disk)) n
-          c.take_slots.new.known (value_in c.take_slots.new.checks) c.in_ok-epoch.epoch) place
-          (c.in_ok-epoch.ensures.taken c.args.known.now.me (kept (g.D.Disk.seen c.args.log.now.disk))
+          c.take_slots.new.known (value_in c.take_slots.new.checks) c.in_ok-numbers.numbers) place
+          (c.in_ok-numbers.ensures.taken c.args.known.now.me (kept (g.D.Disk.seen c.args.log.now.disk))
           (read_at_block c.args.game.now c.args.known.now.me c.args.room (kept (g.D.Disk.seen c.args.log.now.disk)) c.loop-number.number
-          c.len-count.result c.loop-number.known (value_in c.loop-number.checks) c.loop-number.epoch c.loop-number.invariant.taken
+          c.len-count.result c.loop-number.known (value_in c.loop-number.checks) c.loop-number.numbers c.loop-number.invariant.taken
           (omega (arith, c.loop-number-test.true, blocks)))
           (are_next (g.D.Disk.seen c.args.log.now.disk) (g.D.Disk.seen c.loop-number.log.disk) (32 * c.loop-number.number)
           (slots_from (32 * c.loop-number.number) c.loop-number.log.count) c.in-Ok.slots.bytes.now c.loop-number.invariant.reads.seen
@@ -91,7 +91,7 @@ returns-clause-replayed g c =
     let blocks = c.div_ceil-number-end.ensures in
     let all = c.loop-number.invariant.all in
     read_all c.args.game.now c.args.known.now.me c.args.room (kept (g.D.Disk.seen c.args.log.now.disk))
-    (min (32 * c.loop-number.number) c.len-count.result) c.loop-number.known (value_in c.loop-number.checks) c.loop-number.epoch
+    (min (32 * c.loop-number.number) c.len-count.result) c.loop-number.known (value_in c.loop-number.checks) c.loop-number.numbers
     c.loop-number.invariant.taken (omega (arith, c.loop-number-test.false, blocks, all))
 
 pub returns-clause-asks : goal.returns-clause-asks
@@ -99,7 +99,7 @@ returns-clause-asks g c =
     let blocks = c.div_ceil-number-end.ensures in
     let all = c.loop-number.invariant.all in
     looked_at_all g.D.Disk c.args.game.now c.args.known.now.me c.args.room (kept (g.D.Disk.seen c.args.log.now.disk)) c.args.log.now.disk
-    c.loop-number.log.disk c.loop-number.epoch c.loop-number.number
+    c.loop-number.log.disk c.loop-number.numbers c.loop-number.number
     (omega (arith, c.loop-number.auto.number-end, c.loop-number-test.false, blocks, all)) c.loop-number.invariant.asks
 
 pub returns-in-Err-clause-reads : goal.returns-in-Err-clause-reads
@@ -111,7 +111,7 @@ returns-in-Err-clause-replayed g c =
     let blocks = c.div_ceil-number-end.ensures in
     let all = c.loop-number.invariant.all in
     let read = read_at_block c.args.game.now c.args.known.now.me c.args.room (kept (g.D.Disk.seen c.args.log.now.disk)) c.loop-number.number
-    c.len-count.result c.loop-number.known (value_in c.loop-number.checks) c.loop-number.epoch c.loop-number.invariant.taken
+    c.len-count.result c.loop-number.known (value_in c.loop-number.checks) c.loop-number.numbers c.loop-number.invariant.taken
     (omega (arith, c.loop-number-test.true, blocks)) in
     (refl, c.loop-number.number, omega (arith, c.loop-number-test.true, blocks, all), read.journal, (read.known, read.saved))
 
@@ -121,9 +121,9 @@ returns-in-Err-clause-asks g c =
     let blocks = c.div_ceil-number-end.ensures in
     let all = c.loop-number.invariant.all in
     looked_until_failed g.D.Disk c.args.game.now c.args.known.now.me c.args.room bodies c.args.log.now.disk c.read_block.new.self.disk
-    c.loop-number.known (value_in c.loop-number.checks) c.loop-number.epoch c.loop-number.number
+    c.loop-number.known (value_in c.loop-number.checks) c.loop-number.numbers c.loop-number.number
     (read_at_block c.args.game.now c.args.known.now.me c.args.room bodies c.loop-number.number c.len-count.result c.loop-number.known
-    (value_in c.loop-number.checks) c.loop-number.epoch c.loop-number.invariant.taken (omega (arith, c.loop-number-test.true, blocks)))
+    (value_in c.loop-number.checks) c.loop-number.numbers c.loop-number.invariant.taken (omega (arith, c.loop-number-test.true, blocks)))
     (omega (arith, c.loop-number-test.true, blocks, all))
     (asks_reads g.D.Disk c.args.log.now.disk c.loop-number.log.disk c.read_block.new.self.disk c.loop-number.number 1 (Err Failed)
     c.loop-number.invariant.asks
@@ -132,39 +132,39 @@ returns-in-Err-clause-asks g c =
     (λ is. true≢false (sym (c.in-Err.ensures.does.down.0 (ap Err is)) ∙ c.loop-number.invariant.up)))
     (c.in-Err.ensures.does.asks c.loop-number.invariant.up)))
 
-pub returns-in_err-epoch-clause-reads : goal.returns-in_err-epoch-clause-reads
-returns-in_err-epoch-clause-reads g c = reads_then g.D.Disk c.args.log.now.disk c.loop-number.log.disk c.read_block.new.self.disk
+pub returns-in_err-numbers-clause-reads : goal.returns-in_err-numbers-clause-reads
+returns-in_err-numbers-clause-reads g c = reads_then g.D.Disk c.args.log.now.disk c.loop-number.log.disk c.read_block.new.self.disk
     c.loop-number.invariant.reads c.in-Ok.ensures.does.reads
 
-pub returns-in_err-epoch-clause-replayed : goal.returns-in_err-epoch-clause-replayed
-returns-in_err-epoch-clause-replayed g c =
+pub returns-in_err-numbers-clause-replayed : goal.returns-in_err-numbers-clause-replayed
+returns-in_err-numbers-clause-replayed g c =
     let bodies : List (List ℕ) = kept (g.D.Disk.seen c.args.log.now.disk) in
     let error = err_from_is_err_and c.from_residual.result c.from_residual.ensures.1 in
     let blocks = c.div_ceil-number-end.ensures in
     rw (error.1, error.2)
-    (from_disk c.args.game.now c.args.known.now.me c.args.room bodies (Err c.in_err-epoch.field-0.0) c.take_slots.new.known
-    (value_in c.take_slots.new.checks) (c.in_err-epoch.ensures.unfit c.args.known.now.me bodies
+    (from_disk c.args.game.now c.args.known.now.me c.args.room bodies (Err c.in_err-numbers.field-0.0) c.take_slots.new.known
+    (value_in c.take_slots.new.checks) (c.in_err-numbers.ensures.unfit c.args.known.now.me bodies
     (read_at_block c.args.game.now c.args.known.now.me c.args.room (kept (g.D.Disk.seen c.args.log.now.disk)) c.loop-number.number
-    c.len-count.result c.loop-number.known (value_in c.loop-number.checks) c.loop-number.epoch c.loop-number.invariant.taken
+    c.len-count.result c.loop-number.known (value_in c.loop-number.checks) c.loop-number.numbers c.loop-number.invariant.taken
     (omega (arith, c.loop-number-test.true, blocks)))
     (are_next (g.D.Disk.seen c.args.log.now.disk) (g.D.Disk.seen c.loop-number.log.disk) (32 * c.loop-number.number)
     (slots_from (32 * c.loop-number.number) c.loop-number.log.count) c.in-Ok.slots.bytes.now c.loop-number.invariant.reads.seen
     c.in-Ok.ensures.len c.in-Ok.ensures.bodies)))
 
-pub returns-in_err-epoch-clause-asks : goal.returns-in_err-epoch-clause-asks
-returns-in_err-epoch-clause-asks g c =
+pub returns-in_err-numbers-clause-asks : goal.returns-in_err-numbers-clause-asks
+returns-in_err-numbers-clause-asks g c =
     let bodies : List (List ℕ) = kept (g.D.Disk.seen c.args.log.now.disk) in
     let error = err_from_is_err_and c.from_residual.result c.from_residual.ensures.1 in
     let k = c.loop-number.number in
     let blocks = c.div_ceil-number-end.ensures in
     let long = c.in-Ok.ensures.len in
-    let among = c.in_err-epoch.ensures.among in
+    let among = c.in_err-numbers.ensures.among in
     rw (error.1, error.2)
     (looked_at_some g.D.Disk c.args.game.now c.args.known.now.me c.args.room bodies c.args.log.now.disk c.read_block.new.self.disk
-    c.in_err-epoch.field-0.0 c.take_slots.new.known (value_in c.take_slots.new.checks) k
-    (c.in_err-epoch.ensures.unfit c.args.known.now.me bodies
+    c.in_err-numbers.field-0.0 c.take_slots.new.known (value_in c.take_slots.new.checks) k
+    (c.in_err-numbers.ensures.unfit c.args.known.now.me bodies
     (read_at_block c.args.game.now c.args.known.now.me c.args.room bodies k c.len-count.result c.loop-number.known
-    (value_in c.loop-number.checks) c.loop-number.epoch c.loop-number.invariant.taken (omega (arith, c.loop-number-test.true, blocks)))
+    (value_in c.loop-number.checks) c.loop-number.numbers c.loop-number.invariant.taken (omega (arith, c.loop-number-test.true, blocks)))
     (are_next (g.D.Disk.seen c.args.log.now.disk) (g.D.Disk.seen c.loop-number.log.disk) (32 * k)
     (slots_from (32 * k) c.loop-number.log.count) c.in-Ok.slots.bytes.now c.loop-number.invariant.reads.seen c.in-Ok.ensures.len
     c.in-Ok.ensures.bodies))

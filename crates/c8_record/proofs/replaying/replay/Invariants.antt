@@ -10,7 +10,7 @@ use Rattle.c8_record.proofs.replaying.replay.Given as goal
 abbrev pub invariant-loop-number : goal.invariant-loop-number
 invariant-loop-number g l = record {
   taken : IsReadTo l.fn.game l.fn.known.me l.fn.room (kept (g.D.Disk.seen l.fn.log.disk)) (min (32 * l.number) l.count) l.known
-      (value_in l.checks) l.epoch;
+      (value_in l.checks) l.numbers;
   all : l.count ≡ length (kept (g.D.Disk.seen l.fn.log.disk));
   count : l.log.count ≡ l.fn.log.count;
   counted : l.count ≡ l.fn.log.count;

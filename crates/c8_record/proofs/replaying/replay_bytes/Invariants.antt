@@ -7,6 +7,6 @@ use Rattle.c8_record.proofs.replaying.replay_bytes.Given as goal
 
 abbrev pub invariant-loop-n : goal.invariant-loop-n
 invariant-loop-n l = record {
-  taken : IsReadTo l.fn.game l.fn.known.me l.fn.room (kept l.fn.image) l.n l.known (value_in l.checks) l.epoch;
+  taken : IsReadTo l.fn.game l.fn.known.me l.fn.room (kept l.fn.image) l.n l.known (value_in l.checks) l.numbers;
   all : l.n-end ≡ length (kept l.fn.image);
 }

@@ -1,4 +1,4 @@
--- Each input takes two bytes of the room that is left, so the writing ends.
+-- Each input takes the bytes of its width of the room that is left, so the writing ends.
 use Rattle.std.proofs.Common.{length}
 use Rattle.c8_record.proofs.writing.+put_inputs.Given as goal
 

@@ -1,10 +1,34 @@
--- What is written of a CHECK spells it if its digest has four words: its other fields are in range.
+-- What is written of a CHECK: the bytes of its run are whole words.
+use Rattle.std.proofs.Common.{ℕ, sym, ap, ◌∙◌}
 use Rattle.c8_wire.specs.Lent.{words}
-use Rattle.c8_record.specs.Body.{body_of}
-use Rattle.c8_record.specs.checked.BodyLaws.{check_spells}
+use Rattle.c8_wire.specs.Spelling.{words_bytes}
+use Rattle.c8_record.specs.Body.{field_bytes, body_of}
+use Rattle.c8_record.specs.Lent.{word_width}
+use Rattle.c8_record.specs.checked.BodyLaws.{half_of, check_spells}
 use Rattle.c8_record.proofs.writing.check_body.Goals as goal
+
+pub returns-clause-body : goal.returns-clause-body
+unfolding body_of
+returns-clause-body c = λ width. c.spell_inputs.ensures.body ∙ ap (λ (n : ℕ). field_bytes (record {
+  kind = 9;
+  player = c.args.player.number;
+  number = c.args.frames;
+  start = 36;
+  count = n;
+  run = words_bytes word_width (words c.args.run);
+})) (sym (half_of (words c.args.run)))
 
 pub returns-clause-spells : goal.returns-clause-spells
 unfolding body_of
-returns-clause-spells c = λ four. check_spells c.spell_inputs.result c.args.player.number c.args.frames (words c.args.run) c.spell_inputs.ensures.body
-    c.args.player.from_one c.args.player.to_four c.ranges.frames.fits c.spell_inputs.ensures.sets four
+returns-clause-spells c =
+    let half = ap (λ (n : ℕ). field_bytes (record {
+      kind = 9;
+      player = c.args.player.number;
+      number = c.args.frames;
+      start = 36;
+      count = n;
+      run = words_bytes word_width (words c.args.run);
+    })) (sym (half_of (words c.args.run))) in
+    λ width some four. check_spells width c.spell_inputs.result c.args.player.number c.args.frames (words c.args.run)
+    some (c.spell_inputs.ensures.body ∙ half)
+    c.args.player.from_one c.args.player.to_four c.ranges.frames.fits four

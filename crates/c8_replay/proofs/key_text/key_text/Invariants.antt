@@ -9,6 +9,6 @@ use Rattle.c8_replay.proofs.key_text.key_text.Given as goal
 -- the rows so far have their lines
 abbrev pub invariant-loop-frame : goal.invariant-loop-frame
 invariant-loop-frame l = record {
-  text : l.text.items ≡ keys_text l.game.players (rows_below l.known l.frame);
-  spell : All (SpellsRow l.game.players) (rows_below l.known l.frame);
+  text : l.text.items ≡ keys_text l.game.width l.game.players (rows_below l.known l.frame);
+  spell : All (SpellsRow l.game.width l.game.players) (rows_below l.known l.frame);
 }

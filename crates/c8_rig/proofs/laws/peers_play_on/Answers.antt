@@ -7,8 +7,8 @@ use Rattle.c8_rig.proofs.Playing.{joins, calls_on, says_on}
 use Rattle.c8_rig.proofs.laws.peers_play_on.Goals as goal
 
 pub returns-clause-ticks : goal.returns-clause-ticks
-returns-clause-ticks g c e old new player keys reply fits is =
-    calls_on _ c.calls_are_deeds.ensures.answered e old new (Tick player keys) [] (calls.Tick keys) reply fits is (λ called. called)
+returns-clause-ticks g c e old new player input reply fits is =
+    calls_on _ c.calls_are_deeds.ensures.answered e old new (Tick player input) [] (calls.Tick input) reply fits is (λ called. called)
     (λ called. called)
 
 pub returns-clause-says : goal.returns-clause-says

@@ -19,6 +19,6 @@ returns g c =
       plays = worked.peer;
       led = subst (λ (journal : List Record). IfSome c.rig_worker-entry.result.1
           (λ q. Leads c.args.game.now 0 c.args.job.entry.player (away_with journal) c.rig_worker-entry.result.0.notes q.state))
-          (ap (λ (v : MemValue). records_of (kept v.bytes)) c.requires.disk ∙ kept_none) worked.led;
+          (ap (λ (v : MemValue). records_of c.args.game.now.width (kept v.bytes)) c.requires.disk ∙ kept_none c.args.game.now.width) worked.led;
       played = worked.played;
     }

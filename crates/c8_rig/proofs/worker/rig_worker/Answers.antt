@@ -23,9 +23,10 @@ pub returns-clause-led : goal.returns-clause-led
 returns-clause-led g c =
     let opened = c.in-Ok.ensures.opened in
     let number : ℕ = c.player-player.result.number in
-    let before : State = away_with (records_of (kept (g.D.Disk.seen c.args.disk))) in
+    let before : State = away_with (records_of c.args.game.now.width (kept (g.D.Disk.seen c.args.disk))) in
     let noted : c.note.new.entry ≡ with_note c.args.entry (Open number) [] = search rules in
-    let deed = c.openings_are_deeds.ensures.opened c.args.disk c.args.game.now 0 number before false c.in-Ok.peer opened (λ e. cc e) refl in
+    let deed = c.openings_are_deeds.ensures.opened c.args.disk c.args.game.now 0 number 1 before false c.in-Ok.peer opened (λ e. cc e)
+    opened.draws refl in
     subst (λ (me : ℕ). Leads c.args.game.now 0 me before c.play.new.self.entry.notes c.play.new.self.peer.state) c.player-player.ensures
     (worked _ before c.args.game.now 0 number number c.args.entry c.note.new.entry c.play.new.self.entry c.in-Ok.peer c.play.new.self.peer
     c.requires.unused noted opened.rules_are opened.room_is opened.me_is

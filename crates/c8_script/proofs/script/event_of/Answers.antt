@@ -21,5 +21,5 @@ returns c =
     (YieldsList-from_slice_split _ (λ byte. byte == 32) c.args.line.now c.split.ensures.rest c.split.ensures.done
     c.split.ensures.closure (λ x b q called. search rules)) in
     let words = rw c.in_ok-words.was at cut in
-    told c.event_in.result _ c.ok_or.result (c.event_in.ensures ∙ ap (λ ws. event_in (map (λ w. w.now) ws)) c.deref.ensures.value
-    ∙ ap event_in words) c.ok_or.ensures.value
+    told c.event_in.result _ c.ok_or.result (c.event_in.ensures ∙ ap (λ ws. event_in c.args.width.bytes (map (λ w. w.now) ws)) c.deref.ensures.value
+    ∙ ap (event_in c.args.width.bytes) words) c.ok_or.ensures.value

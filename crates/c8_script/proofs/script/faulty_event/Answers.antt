@@ -22,11 +22,11 @@ pub loop-line-preserved : goal.loop-line-preserved
 loop-line-preserved c =
     let line = c.in-Some.line.now in
     let before = c.loop-line.invariant in
-    let taken : is_event_line line ≡ true = sym c.in_ok-is_event_line.ensures ∙ c.if-not-branch.false in
+    let taken : is_event_line c.args.width.bytes line ≡ true = sym c.in_ok-is_event_line.ensures ∙ c.if-not-branch.false in
     record {
       seen = before.seen ++ line ∷ [];
       cut = before.cut ∙ ap (λ left. before.seen ++ left) c.in-Some.ensures.steps ∙ sym (append_assoc before.seen (line ∷ []) _);
-      faultless = faultless_more event_fault before.seen line before.faultless (rw taken refl);
+      faultless = faultless_more (event_fault c.args.width.bytes) before.seen line before.faultless (rw taken refl);
       here = omega (arith, before.here, length-append before.seen (line ∷ []));
     }
 
@@ -35,11 +35,11 @@ pub returns-then-not-branch : goal.returns-then-not-branch
 returns-then-not-branch c =
     let line = c.in-Some.line.now in
     let before = c.loop-line.invariant in
-    let untaken : is_event_line line ≡ false = sym c.in_ok-is_event_line.ensures ∙ c.if-not-branch.true in
-    let here : IsFirstPlace event_fault (lines c.args.text.now) c.loop-line.place =
+    let untaken : is_event_line c.args.width.bytes line ≡ false = sym c.in_ok-is_event_line.ensures ∙ c.if-not-branch.true in
+    let here : IsFirstPlace (event_fault c.args.width.bytes) (lines c.args.text.now) c.loop-line.place =
     rw (before.cut, c.in-Some.ensures.steps, before.here)
-    (Line, first_placed event_fault before.seen line _ Line before.faultless (rw untaken refl)) in
-    first_no_event c.args.text.now c.loop-line.place here
+    (Line, first_placed (event_fault c.args.width.bytes) before.seen line _ Line before.faultless (rw untaken refl)) in
+    first_no_event c.args.width.bytes c.args.text.now c.loop-line.place here
 
 -- no line is left
 pub returns : goal.returns
@@ -47,5 +47,5 @@ returns c =
     let before = c.loop-line.invariant in
     let all : lines c.args.text.now ≡ before.seen =
     before.cut ∙ ap (λ left. before.seen ++ left) c.in-None.ensures.steps.0 ∙ append-nil before.seen in
-    let faultless : AreFaultless event_fault (lines c.args.text.now) = rw all before.faultless in
-    are_event_lines c.args.text.now faultless
+    let faultless : AreFaultless (event_fault c.args.width.bytes) (lines c.args.text.now) = rw all before.faultless in
+    are_event_lines c.args.width.bytes c.args.text.now faultless

@@ -11,6 +11,6 @@ abbrev pub invariant-loop-line : goal.invariant-loop-line
 invariant-loop-line l = record {
   seen : List (List ℕ);
   cut : lines l.text ≡ seen ++ lines_left l.line-iterator;
-  faultless : AreFaultless event_fault seen;
+  faultless : AreFaultless (event_fault l.width.bytes) seen;
   here : l.place ≡ length seen;
 }

@@ -15,7 +15,7 @@ loop-line-preserved-then-is_skipped c =
     record {
       seen = before.seen ++ line ∷ [];
       cut = before.cut ∙ ap (λ left. before.seen ++ left) c.in-Some.ensures.steps ∙ sym (append_assoc before.seen (line ∷ []) _);
-      read = ap (map event_of) (one_skipped before.seen line (sym c.is_skipped.ensures ∙ c.if-is_skipped.true)) ∙ before.read;
+      read = ap (map (event_of c.args.width.bytes)) (one_skipped before.seen line (sym c.is_skipped.ensures ∙ c.if-is_skipped.true)) ∙ before.read;
     }
 
 pub loop-line-preserved : goal.loop-line-preserved
@@ -25,7 +25,8 @@ loop-line-preserved c =
     record {
       seen = before.seen ++ line ∷ [];
       cut = before.cut ∙ ap (λ left. before.seen ++ left) c.in-Some.ensures.steps ∙ sym (append_assoc before.seen (line ∷ []) _);
-      read = one_read before.seen line c.loop-line.events.items c.in_ok-event.event (sym c.is_skipped.ensures ∙ c.if-is_skipped.false)
+      read = one_read c.args.width.bytes before.seen line c.loop-line.events.items c.in_ok-event.event (sym c.is_skipped.ensures
+          ∙ c.if-is_skipped.false)
           c.in_ok-event.ensures before.read
           ∙ ap (map Some) (sym c.in-Ok.ensures.items);
     }
@@ -37,7 +38,7 @@ returns-in_err-event-clause-spelled c =
     let before = c.loop-line.invariant in
     let error = err_from_is_err_and c.from_residual.result c.from_residual.ensures.1 in
     rw (error.1, error.2)
-    (fault_told c.args.text.now before.seen _ line c.in_err-event.field-0.0
+    (fault_told c.args.width.bytes c.args.text.now before.seen _ line c.in_err-event.field-0.0
     (before.cut ∙ ap (λ left. before.seen ++ left) c.in-Some.ensures.steps) (sym c.is_skipped.ensures ∙ c.if-is_skipped.false)
     c.in_err-event.ensures)
 
@@ -47,11 +48,13 @@ returns-clause-spelled c =
     let before = c.loop-line.invariant in
     let all : lines c.args.text.now ≡ before.seen =
     before.cut ∙ ap (λ left. before.seen ++ left) c.in-None.ensures.steps.0 ∙ append-nil before.seen in
-    lines_spelt (event_lines c.args.text.now) c.loop-line.events.items (ap (λ ls. map event_of (not_skipped ls)) all ∙ before.read)
+    lines_spelt c.args.width.bytes (event_lines c.args.text.now) c.loop-line.events.items (ap (λ ls. map (event_of c.args.width.bytes)
+    (not_skipped ls)) all ∙ before.read)
 
 pub returns-clause-no_other : goal.returns-clause-no_other
 returns-clause-no_other c other spelt =
     let before = c.loop-line.invariant in
     let all : lines c.args.text.now ≡ before.seen =
     before.cut ∙ ap (λ left. before.seen ++ left) c.in-None.ensures.steps.0 ∙ append-nil before.seen in
-    no_other (event_lines c.args.text.now) c.loop-line.events.items other (ap (λ ls. map event_of (not_skipped ls)) all ∙ before.read) spelt
+    no_other c.args.width.bytes (event_lines c.args.text.now) c.loop-line.events.items other (ap (λ ls. map (event_of c.args.width.bytes)
+    (not_skipped ls)) all ∙ before.read) spelt

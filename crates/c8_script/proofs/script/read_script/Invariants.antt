@@ -11,5 +11,5 @@ abbrev pub invariant-loop-line : goal.invariant-loop-line
 invariant-loop-line l = record {
   seen : List (List ℕ);
   cut : lines l.text ≡ seen ++ lines_left l.line-iterator;
-  read : map event_of (not_skipped seen) ≡ map Some l.events.items;
+  read : map (event_of l.width.bytes) (not_skipped seen) ≡ map Some l.events.items;
 }

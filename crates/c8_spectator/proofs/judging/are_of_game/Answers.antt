@@ -1,4 +1,4 @@
--- One row with keys of an absent player makes the answer no; each other row leaves it to the rest, and no rest is yes.
+-- One row with an input of an absent player makes the answer no; each other row leaves it to the rest, and no rest is yes.
 use Rattle.std.proofs.Common.{sym, ◌∙◌, arith}
 use Rattle.c8_wire.specs.Lent.{shown}
 use Rattle.c8_spectator.proofs.RowLemmas.{of_game_on, of_game_off, of_game_end}

@@ -1,4 +1,4 @@
--- A player of the game may hold any keys, a place beyond the last player only none.
+-- A player of the game may hold any input, a place beyond the last player only 0.
 use Rattle.std.proofs.Common.{rules}
 use Rattle.c8_spectator.proofs.judging.may_hold.Goals as goal
 

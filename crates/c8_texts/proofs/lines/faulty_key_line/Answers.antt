@@ -12,10 +12,11 @@ loop-line-preserved c =
     let line = c.in-Some.line.now in
     let before = c.loop-line.invariant in
     let n = c.players.result in
-    let spelt : is_key_line n line ≡ true = found_some c.row_in.result (is_key_line n line ≡ false)
-    (λ row. (is_key_line n line ≡ true) × (row ≡ row_of n line)) (is_key_line n line ≡ true) c.if-is_none.ensures c.row_in.ensures
+    let width = c.width.result.bytes in
+    let spelt : is_key_line width n line ≡ true = found_some c.row_in.result (is_key_line width n line ≡ false)
+    (λ row. (is_key_line width n line ≡ true) × (row ≡ row_of width n line)) (is_key_line width n line ≡ true) c.if-is_none.ensures c.row_in.ensures
     (λ row found. found.0) in
-    let good : is_key_line game.players line ≡ true = rw (← c.players.ensures.value) spelt in
+    let good : is_key_line game.width game.players line ≡ true = rw (← c.players.ensures.value, ← c.width.ensures.value) spelt in
     record {
       seen = before.seen ++ line ∷ [];
       cut = before.cut ∙ ap (λ left. before.seen ++ left) c.in-Some.ensures.steps ∙ sym (append_assoc before.seen (line ∷ []) _);
@@ -40,9 +41,10 @@ returns-then-is_none c =
     let line = c.in-Some.line.now in
     let before = c.loop-line.invariant in
     let n = c.players.result in
-    let none : is_key_line n line ≡ false = found_none c.row_in.result (is_key_line n line ≡ false)
-    (λ row. (is_key_line n line ≡ true) × (row ≡ row_of n line)) c.if-is_none.ensures c.row_in.ensures in
-    let bad : is_key_line game.players line ≡ false = rw (← c.players.ensures.value) none in
+    let width = c.width.result.bytes in
+    let none : is_key_line width n line ≡ false = found_none c.row_in.result (is_key_line width n line ≡ false)
+    (λ row. (is_key_line width n line ≡ true) × (row ≡ row_of width n line)) c.if-is_none.ensures c.row_in.ensures in
+    let bad : is_key_line game.width game.players line ≡ false = rw (← c.players.ensures.value, ← c.width.ensures.value) none in
     bad_here game c.args.keys.now before.seen line _ c.loop-line.frames
     (before.cut ∙ ap (λ left. before.seen ++ left) c.in-Some.ensures.steps) before.here before.faultless
     (omega (arith, c.if-frames.false, c.frames.ensures.value, before.within, before.here)) bad

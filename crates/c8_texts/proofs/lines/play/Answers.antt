@@ -3,6 +3,7 @@ use Rattle.std.proofs.Common.{◌≡◌, [], ◌∷◌, ◌++◌, true, false, a
 use Rattle.std.proofs.lemmas.List.{append_assoc, map-append}
 use Rattle.c8_game.specs.checked.FaultLaws.{faultless_more}
 use Rattle.c8_game.specs.Rules.{joined}
+use Rattle.c8_machine.specs.Keys.{keys_of}
 use Rattle.c8_machine.specs.Serial.{serial}
 use Rattle.c8_texts.specs.KeyLines.{is_key_line, row_of, key_line_fault}
 use Rattle.c8_texts.proofs.KeyLineLemmas.{good_line, first_long, first_bad, unspelt}
@@ -13,7 +14,7 @@ loop-line-preserved c =
     let game = c.args.game.now in
     let line = c.in-Some.line.now in
     let before = c.loop-line.invariant in
-    let spelt = rw (c.players.ensures.value) at c.in-Some-row_in.ensures in
+    let spelt = rw (c.players.ensures.value, c.width.ensures.value) at c.in-Some-row_in.ensures in
     record {
       seen = before.seen ++ line ∷ [];
       cut = before.cut ∙ ap (λ left. before.seen ++ left) c.in-Some.ensures.steps ∙ sym (append_assoc before.seen (line ∷ []) _);
@@ -23,9 +24,9 @@ loop-line-preserved c =
       frames = omega (arith, before.frames, length-append before.seen (line ∷ []));
       within = omega arith;
       machine =
-          c.frame.ensures.serial (map (row_of game.players) before.seen) (row_of game.players line) before.machine
-          (c.joined.ensures ∙ ap (joined game) spelt.1)
-          ∙ ap (serial game) (sym (map-append (row_of game.players) before.seen (line ∷ [])));
+          c.frame.ensures.serial (map (row_of game.width game.players) before.seen) (row_of game.width game.players line) before.machine
+          (c.from.ensures ∙ ap keys_of (c.joined.ensures ∙ ap (joined game) spelt.1))
+          ∙ ap (serial game) (sym (map-append (row_of game.width game.players) before.seen (line ∷ [])));
     }
 
 -- the line is one too many, and those before it are key lines
@@ -43,8 +44,9 @@ returns-in_default c =
     let line = c.in-Some.line.now in
     let before = c.loop-line.invariant in
     let n = c.players.result in
-    let none : is_key_line n line ≡ false = unspelt c.row_in.result (is_key_line n line ≡ false)
-    (λ row. (is_key_line n line ≡ true) × (row ≡ row_of n line)) c.in_default.not-Some c.row_in.ensures in
-    let bad : is_key_line game.players line ≡ false = rw (← c.players.ensures.value) none in
+    let width = c.width.result.bytes in
+    let none : is_key_line width n line ≡ false = unspelt c.row_in.result (is_key_line width n line ≡ false)
+    (λ row. (is_key_line width n line ≡ true) × (row ≡ row_of width n line)) c.in_default.not-Some c.row_in.ensures in
+    let bad : is_key_line game.width game.players line ≡ false = rw (← c.players.ensures.value, ← c.width.ensures.value) none in
     first_bad game c.args.keys.now before.seen line _ (before.cut ∙ ap (λ left. before.seen ++ left) c.in-Some.ensures.steps) before.faultless
     (omega (arith, c.if-played-frames.false, c.frames.ensures.value, before.within, before.frames)) bad

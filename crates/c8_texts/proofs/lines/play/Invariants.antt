@@ -16,5 +16,5 @@ invariant-loop-line l = record {
   faultless : AreFaultless (key_line_fault l.game) seen;
   frames : l.played.frames ≡ length seen;
   within : l.played.frames ≤ l.game.frames;
-  machine : state l.played.machine ≡ serial l.game (map (row_of l.game.players) seen);
+  machine : state l.played.machine ≡ serial l.game (map (row_of l.game.width l.game.players) seen);
 }

@@ -1,4 +1,4 @@
--- No body is longer than a DATA of 64 inputs, or in version 2 of 42 pairs: 174 and 172 bytes with the header.
+-- No body is longer than a DATA whose run has 128 bytes, or in version 2 one of 42 pairs: 174 and 172 bytes with the header.
 use Rattle.c8_wire.proofs.PacketLemmas.{short_spelling, short_in_pairs}
 use Rattle.c8_wire.proofs.laws.a_datagram_is_short.Goals as goal
 

@@ -3,6 +3,6 @@ use Rattle.std.proofs.Common.{rules}
 use Rattle.c8_wire.specs.Refusal.{applies}
 use Rattle.c8_wire.proofs.reading.body_refusal.Goals as goal
 
-pub returns-then-fills_reserved : goal.returns-then-fills_reserved
+pub returns-then-is_reserved : goal.returns-then-is_reserved
 unfolding applies
-returns-then-fills_reserved c = search rules
+returns-then-is_reserved c = search rules

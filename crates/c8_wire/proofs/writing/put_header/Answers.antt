@@ -1,5 +1,5 @@
 -- The header's fields are appended in order behind the version and the code of the kind, all in range.
-use Rattle.std.proofs.Common.{◌≡◌, ap, rules}
+use Rattle.std.proofs.Common.{ap, rules}
 use Rattle.std.proofs.lemmas.List.{append_assoc}
 use Rattle.c8_wire.specs.Kinds.{ShapeValue}
 use Rattle.c8_wire.proofs.writing.put_header.Goals as goal
@@ -14,7 +14,7 @@ returns-clause-bytes c =
       c.put-2.ensures.bytes,
       c.put.ensures.bytes,
       ap (λ (shape : ShapeValue). shape.code) c.shape.ensures.value,
-      c.number.ensures,
+      c.format_byte.ensures,
       c.to_be_bytes.ensures,
       c.to_be_bytes-2.ensures,
       c.to_be_bytes-3.ensures,

@@ -5,4 +5,5 @@ use Rattle.c8_wire.proofs.writing.put_pairs.Given as goal
 
 -- what is written and the bytes of the pairs that are left
 abbrev pub invariant-loop-pair : goal.invariant-loop-pair
-invariant-loop-pair l = l.out.items ++ pairs_bytes (pairs_of l.pair-iterator.rest.now) ≡ l.fn.out.items ++ spelling l.fn.run
+invariant-loop-pair l = l.out.items ++ pairs_bytes l.width.bytes (pairs_of l.pair-iterator.rest.now)
+    ≡ l.fn.out.items ++ spelling l.width.bytes l.fn.run

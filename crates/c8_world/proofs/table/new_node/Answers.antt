@@ -6,4 +6,4 @@ use Rattle.c8_world.proofs.table.new_node.Goals as goal
 
 pub returns-clause-untouched : goal.returns-clause-untouched
 returns-clause-untouched c rules room p =
-    (refl, new_tells c.in_ok-disk.disk (ap (λ (v : MemValue). v.bytes) c.in_ok-disk.ensures.value) c.in_ok-disk.ensures.settled)
+    (refl, new_tells rules.width c.in_ok-disk.disk (ap (λ (v : MemValue). v.bytes) c.in_ok-disk.ensures.value) c.in_ok-disk.ensures.settled)

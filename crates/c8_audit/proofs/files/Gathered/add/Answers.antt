@@ -25,4 +25,4 @@ returns-clause-sorted c = λ files at few is.
     let put : IsPut c.args.self.now.journals c.put.new.journals j = record { seen = c.put.ensures.seen; named = c.put.ensures.named } in
     rw (c.unwrap_or.ensures, c.earlier-self.ensures, c.clash.ensures, c.named_of-same.ensures)
     (sorted_next c.args.game.now files c.args.place c.args.file.now c.args.self.now c.put.new.journals j at some told.read told.seen
-    told.named told.head told.place told.player put is)
+    told.named told.head told.numbers told.place told.player put is)

@@ -11,8 +11,8 @@ invariant_of-self-2 g c =
     let old : List (List ℕ) = g.F.Folder.chunks c.self.inside.folder in
     let rows : List Row = c.self.inside.rows.items in
     let chunk : List ℕ = c.in_ok-chunk.chunk in
-    let is : chunk ≡ chunk_bytes c.self.inside.players rows c.self.inside.whole = search rules in
+    let is : chunk ≡ chunk_bytes c.self.inside.width.bytes c.self.inside.players rows c.self.inside.whole = search rules in
     let room : length old * chunk_rows + chunk_rows ≤ length rows = search rules in
     let kept : g.F.Folder.chunks c.keep.new.self ≡ old ++ chunk ∷ [] = search rules in
-    subst (λ (chunks : List (List ℕ)). IsCast chunks c.self.inside.players rows (c.self.inside.whole + 1)) (sym kept)
-    (cast_more old chunk c.self.inside.players rows c.self.inside.whole c.self.invariant is room)
+    subst (λ (chunks : List (List ℕ)). IsCast chunks c.self.inside.width.bytes c.self.inside.players rows (c.self.inside.whole + 1)) (sym kept)
+    (cast_more old chunk c.self.inside.width.bytes c.self.inside.players rows c.self.inside.whole c.self.invariant is room)

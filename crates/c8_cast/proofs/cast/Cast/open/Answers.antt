@@ -7,5 +7,5 @@ use Rattle.c8_cast.proofs.cast.Cast.open.Goals as goal
 
 pub invariant_of-result : goal.invariant_of-result
 invariant_of-result g c =
-    subst (λ (rows : List Row). IsCast (g.F.Folder.chunks c.args.folder) c.players.result rows 0) (sym c.new.ensures.items)
-    (cast_begins (g.F.Folder.chunks c.args.folder) c.players.result c.requires c.players.ensures.greatest)
+    subst (λ (rows : List Row). IsCast (g.F.Folder.chunks c.args.folder) c.width.result.bytes c.players.result rows 0) (sym c.new.ensures.items)
+    (cast_begins (g.F.Folder.chunks c.args.folder) c.width.result.bytes c.players.result c.requires c.players.ensures.greatest)

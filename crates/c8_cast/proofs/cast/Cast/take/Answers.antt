@@ -15,6 +15,8 @@ invariant_of-self g c =
     let is : c.extend_from_slice.new.self.items ≡ rows ++ drop (length rows) given =
     c.in_ok-extend_from_slice.ensures.items ∙ ap (λ (fresh : List Row). rows ++ fresh) (take_rest given count)
     ∙ ap (λ (n : ℕ). rows ++ drop n given) count_is in
-    subst (λ (all : List Row). IsCast (g.F.Folder.chunks c.self.inside.folder) c.self.inside.players all c.self.inside.whole) (sym is)
-    (cast_grows (g.F.Folder.chunks c.self.inside.folder) c.self.inside.players rows given c.self.inside.whole c.self.invariant
+    subst (λ (all : List Row). IsCast (g.F.Folder.chunks c.self.inside.folder) c.self.inside.width.bytes c.self.inside.players
+    all c.self.inside.whole) (sym is)
+    (cast_grows (g.F.Folder.chunks c.self.inside.folder) c.self.inside.width.bytes c.self.inside.players rows given c.self.inside.whole
+    c.self.invariant
     (omega (arith, c.if-count-rows.true, count_is)) c.requires)

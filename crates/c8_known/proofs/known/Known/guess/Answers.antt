@@ -1,4 +1,4 @@
--- A player that is not in the game has no held input, so its guess is the empty set.
+-- A player that is not in the game has no held input, so its guess is 0.
 use Rattle.std.proofs.Common.{◌≡◌, ◌+◌, ◌≤◌, length, sym, ap}
 use Rattle.std.proofs.lemmas.Bool.{ltb-false}
 use Rattle.c8_known.specs.Known.{PlayerValue, nobody, player_in}

@@ -6,7 +6,7 @@ use Rattle.c8_known.proofs.known.Known.own.Goals as goal
 
 pub invariant_of-self : goal.invariant_of-self
 invariant_of-self c =
-    let done = own_call c.self.inside c.args.self.now c.place.result c.args.keys.0 c.index_mut.result.now
+    let done = own_call c.self.inside c.args.self.now c.place.result c.args.input c.index_mut.result.now
     (record c.index_mut.result.now { inputs = c.hold.new.inputs })
     (record {
       view = c.self.view_is;
@@ -16,11 +16,12 @@ invariant_of-self c =
       plays = (subst (λ (k : KnownValue). Plays k k.me) c.self.view_is c.self.invariant.0.me);
       is = c.index_mut.ensures.value;
     })
-    (record { items = c.hold.ensures.items; capacity = c.hold.ensures.capacity; frozen = refl; leaving = refl; cut = refl }) c.requires in
+    (record { items = c.hold.ensures.items; capacity = c.hold.ensures.capacity; frozen = refl; leaving = refl; cut = refl })
+    c.requires.room c.requires.fits in
     (done.known, done.room)
 
 pub returns-clause-value : goal.returns-clause-value
-returns-clause-value c = (own_call c.self.inside c.args.self.now c.place.result c.args.keys.0 c.index_mut.result.now
+returns-clause-value c = (own_call c.self.inside c.args.self.now c.place.result c.args.input c.index_mut.result.now
     (record c.index_mut.result.now { inputs = c.hold.new.inputs })
     (record {
       view = c.self.view_is;
@@ -30,10 +31,11 @@ returns-clause-value c = (own_call c.self.inside c.args.self.now c.place.result 
       plays = (subst (λ (k : KnownValue). Plays k k.me) c.self.view_is c.self.invariant.0.me);
       is = c.index_mut.ensures.value;
     })
-    (record { items = c.hold.ensures.items; capacity = c.hold.ensures.capacity; frozen = refl; leaving = refl; cut = refl }) c.requires).value
+    (record { items = c.hold.ensures.items; capacity = c.hold.ensures.capacity; frozen = refl; leaving = refl; cut = refl })
+    c.requires.room c.requires.fits).value
 
 pub returns-clause-known : goal.returns-clause-known
-returns-clause-known c = (own_call c.self.inside c.args.self.now c.place.result c.args.keys.0 c.index_mut.result.now
+returns-clause-known c = (own_call c.self.inside c.args.self.now c.place.result c.args.input c.index_mut.result.now
     (record c.index_mut.result.now { inputs = c.hold.new.inputs })
     (record {
       view = c.self.view_is;
@@ -43,10 +45,11 @@ returns-clause-known c = (own_call c.self.inside c.args.self.now c.place.result 
       plays = (subst (λ (k : KnownValue). Plays k k.me) c.self.view_is c.self.invariant.0.me);
       is = c.index_mut.ensures.value;
     })
-    (record { items = c.hold.ensures.items; capacity = c.hold.ensures.capacity; frozen = refl; leaving = refl; cut = refl }) c.requires).known
+    (record { items = c.hold.ensures.items; capacity = c.hold.ensures.capacity; frozen = refl; leaving = refl; cut = refl })
+    c.requires.room c.requires.fits).known
 
 pub returns-clause-still : goal.returns-clause-still
-returns-clause-still c = (own_call c.self.inside c.args.self.now c.place.result c.args.keys.0 c.index_mut.result.now
+returns-clause-still c = (own_call c.self.inside c.args.self.now c.place.result c.args.input c.index_mut.result.now
     (record c.index_mut.result.now { inputs = c.hold.new.inputs })
     (record {
       view = c.self.view_is;
@@ -56,4 +59,5 @@ returns-clause-still c = (own_call c.self.inside c.args.self.now c.place.result 
       plays = (subst (λ (k : KnownValue). Plays k k.me) c.self.view_is c.self.invariant.0.me);
       is = c.index_mut.ensures.value;
     })
-    (record { items = c.hold.ensures.items; capacity = c.hold.ensures.capacity; frozen = refl; leaving = refl; cut = refl }) c.requires).still
+    (record { items = c.hold.ensures.items; capacity = c.hold.ensures.capacity; frozen = refl; leaving = refl; cut = refl })
+    c.requires.room c.requires.fits).still

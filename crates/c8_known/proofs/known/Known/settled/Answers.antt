@@ -1,4 +1,4 @@
--- A player that is not in the game has no settled input, so a row has the empty set for it.
+-- A player that is not in the game has no settled input, so a row has 0 for it.
 use Rattle.std.proofs.Common.{◌≡◌, ◌+◌, ◌≤◌, length, sym, ap}
 use Rattle.std.proofs.lemmas.Bool.{ltb-false}
 use Rattle.c8_known.specs.Known.{PlayerValue, nobody, player_in}

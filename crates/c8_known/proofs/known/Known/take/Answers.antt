@@ -17,7 +17,7 @@ invariant_of-self c =
       is = c.index_mut.ensures.value;
     })
     (record { items = c.hold_run.ensures.items; capacity = c.hold_run.ensures.capacity; frozen = refl; leaving = refl; cut = refl })
-    c.requires.other c.requires.uncut c.requires.room in
+    c.requires.other c.requires.uncut c.requires.room c.requires.fits in
     (done.known, done.room)
 
 pub returns-clause-value : goal.returns-clause-value
@@ -32,7 +32,7 @@ returns-clause-value c = (take_call c.self.inside c.args.self.now c.place.result
       is = c.index_mut.ensures.value;
     })
     (record { items = c.hold_run.ensures.items; capacity = c.hold_run.ensures.capacity; frozen = refl; leaving = refl; cut = refl })
-    c.requires.other c.requires.uncut c.requires.room).value
+    c.requires.other c.requires.uncut c.requires.room c.requires.fits).value
 
 pub returns-clause-known : goal.returns-clause-known
 returns-clause-known c = (take_call c.self.inside c.args.self.now c.place.result c.args.player.number (words c.args.run)
@@ -46,7 +46,7 @@ returns-clause-known c = (take_call c.self.inside c.args.self.now c.place.result
       is = c.index_mut.ensures.value;
     })
     (record { items = c.hold_run.ensures.items; capacity = c.hold_run.ensures.capacity; frozen = refl; leaving = refl; cut = refl })
-    c.requires.other c.requires.uncut c.requires.room).known
+    c.requires.other c.requires.uncut c.requires.room c.requires.fits).known
 
 pub returns-clause-still : goal.returns-clause-still
 returns-clause-still c = (take_call c.self.inside c.args.self.now c.place.result c.args.player.number (words c.args.run)
@@ -60,4 +60,4 @@ returns-clause-still c = (take_call c.self.inside c.args.self.now c.place.result
       is = c.index_mut.ensures.value;
     })
     (record { items = c.hold_run.ensures.items; capacity = c.hold_run.ensures.capacity; frozen = refl; leaving = refl; cut = refl })
-    c.requires.other c.requires.uncut c.requires.room).still
+    c.requires.other c.requires.uncut c.requires.room c.requires.fits).still

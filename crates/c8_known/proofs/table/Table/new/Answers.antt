@@ -1,4 +1,4 @@
--- A player's first table holds the empty sets of the delay, and is neither frozen nor dropped nor cut.
+-- A player's first table holds the inputs of 0 of the delay, and is neither frozen nor dropped nor cut.
 use Rattle.std.proofs.Common.{rules}
 use Rattle.c8_known.proofs.table.Table.new.Goals as goal
 

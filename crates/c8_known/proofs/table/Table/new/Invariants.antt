@@ -1,4 +1,4 @@
--- One empty set is held for each turn of the loop so far, and the room for the longest list stays.
+-- One input of 0 is held for each turn of the loop so far, and the room for the longest list stays.
 use Rattle.std.proofs.Common.{◌≡◌, ◌≤◌, vec_capacity, replicate}
 use Rattle.c8_known.proofs.table.Table.new.Given as goal
 

@@ -8,4 +8,4 @@ use Rattle.c8_pairs.proofs.run.Pairs.bytes.Goals as goal
 pub returns-clause-spells : goal.returns-clause-spells
 returns-clause-spells c =
     let run = c.args.self.now in
-    ap pairs_bytes (well_pairs None (pairs_at run.bytes.now) run.well) ∙ run.whole
+    ap (pairs_bytes run.width.bytes) (well_pairs None (pairs_at run.width.bytes run.bytes.now) run.well) ∙ run.whole

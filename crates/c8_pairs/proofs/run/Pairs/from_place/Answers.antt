@@ -7,9 +7,9 @@ use Rattle.c8_pairs.proofs.run.Pairs.from_place.Goals as goal
 pub overflow_add-self : goal.overflow_add-self
 overflow_add-self c =
     let run = c.args.self.now in
-    omega (arith, run.low, run.few, c.requires, length_run run.skip run.count (pairs_at run.bytes.now) run.counts)
+    omega (arith, run.low, run.few, c.requires, length_run run.skip run.count (pairs_at run.width.bytes run.bytes.now) run.counts)
 
 pub begun_at-skip-requires : goal.begun_at-skip-requires
 begun_at-skip-requires c =
     let run = c.args.self.now in
-    omega (arith, run.counts, c.requires, length_run run.skip run.count (pairs_at run.bytes.now) run.counts)
+    omega (arith, run.counts, c.requires, length_run run.skip run.count (pairs_at run.width.bytes run.bytes.now) run.counts)

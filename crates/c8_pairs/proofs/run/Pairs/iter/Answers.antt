@@ -9,9 +9,9 @@ use Rattle.c8_pairs.proofs.run.Pairs.iter.Goals as goal
 
 pub returns : goal.returns
 returns c =
-    let first = c.in-Some.field-0 in
+    let first = c.in-Some.first in
     let skip = c.args.self.now.skip in
     let begun : skip < first.times = ltb-true skip first.times
     (subst (λ (pairs : List Pair). is_begun skip pairs ≡ true) c.in-Some.ensures.pair c.args.self.now.begun) in
     sym (ap (λ (pairs : List Pair). drop skip (words_in pairs)) c.in-Some.ensures.pair
-    ∙ drop_within skip first.times first.keys (words_in (pairs_at first.rest.now)) (omega (arith, begun)))
+    ∙ drop_within skip first.times first.input (words_in (pairs_at c.args.self.now.width.bytes first.rest.now)) (omega (arith, begun)))

@@ -9,21 +9,25 @@ use Rattle.c8_pairs.proofs.run.Pairs.new.Goals as goal
 pub invariant_of-result : goal.invariant_of-result
 invariant_of-result c =
     let bytes = c.args.bytes.now in
-    let both = and_parts (well_after None (pairs_at bytes)) (count_in (pairs_at bytes) == c.args.count) c.requires.run in
+    let both = and_parts (well_after None (pairs_at c.args.width.bytes bytes)) (count_in (pairs_at c.args.width.bytes bytes) == c.args.count)
+    c.requires.run in
     record {
       well = both.0;
-      whole = spelled_pairs bytes c.requires.whole (λ i. omega (arith, c.type_inv.bytes i));
-      counts = omega (arith, eqb-true (count_in (pairs_at bytes)) c.args.count both.1);
-      begun = begins (pairs_at bytes) both.0;
-      sets = sets_of bytes (λ i. omega (arith, c.type_inv.bytes i));
+      whole = spelled_pairs c.args.width.bytes bytes c.requires.whole (λ i. omega (arith, c.type_inv.bytes i));
+      counts = omega (arith, eqb-true (count_in (pairs_at c.args.width.bytes bytes)) c.args.count both.1);
+      begun = begins (pairs_at c.args.width.bytes bytes) both.0;
+      fits = sets_of c.args.width.bytes bytes (λ i. omega (arith, c.type_inv.bytes i));
       short = omega (arith, c.requires.short);
       low = omega arith;
       few = c.requires.few;
     }
 
 pub returns-clause-spells : goal.returns-clause-spells
-returns-clause-spells c = (run_is_spelled c.args.bytes.now c.args.count c.requires.whole (λ i. omega (arith, c.type_inv.bytes i))
+returns-clause-spells c = (run_is_spelled c.args.width.bytes c.args.bytes.now c.args.count c.requires.whole (λ i. omega (arith, c.type_inv.bytes i))
     c.requires.run).spells
 
 pub returns-clause-count : goal.returns-clause-count
-returns-clause-count c = (run_is_spelled c.args.bytes.now c.args.count c.requires.whole (λ i. omega (arith, c.type_inv.bytes i)) c.requires.run).many
+returns-clause-count c = (run_is_spelled c.args.width.bytes c.args.bytes.now c.args.count c.requires.whole (λ i. omega (
+  arith,
+  c.type_inv.bytes i,
+)) c.requires.run).many

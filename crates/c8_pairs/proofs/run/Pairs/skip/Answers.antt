@@ -7,4 +7,4 @@ use Rattle.c8_pairs.proofs.run.Pairs.skip.Goals as goal
 pub returns-clause-begun : goal.returns-clause-begun
 returns-clause-begun c =
     let run = c.args.self.now in
-    ap (is_begun run.skip) (well_pairs None (pairs_at run.bytes.now) run.well) ∙ run.begun
+    ap (is_begun run.skip) (well_pairs None (pairs_at run.width.bytes run.bytes.now) run.well) ∙ run.begun

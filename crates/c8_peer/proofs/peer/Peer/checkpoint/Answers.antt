@@ -21,25 +21,36 @@ use Rattle.c8_peer.specs.declared.check.Check.{Check}
 use Rattle.c8_refusals.specs.declared.error.CheckError.{CheckError}
 use Rattle.c8_refusals.specs.declared.error.CheckError.TheVariants as checks
 use Rattle.c8_peer.specs.Told.{told_of}
-use Rattle.c8_peer.specs.State.{Open, Checkpoint, Checked, recorded, answered}
+use Rattle.c8_peer.specs.State.{Memory, Open, Checkpoint, Checked, recorded, answered}
 use Rattle.c8_peer.specs.Peer.{PeerValue, mode_of, disk_outcome_of, LeavesJournal, IsAnswered}
 use Rattle.c8_peer.specs.checked.Held.{IsRolled, IsPlanned, next_record, next_said}
 use Rattle.c8_peer.proofs.AnswerLemmas.{outcome_seen, answers, Kept, with_record, records, is_refused}
 use Rattle.c8_peer.proofs.PeerLemmas.{is_up, peer_refused, peer_more, rolled_more, was_roll, runs_anew, view_refused, view_more, one_body_more}
 use Rattle.c8_peer.proofs.WindowLemmas.{is_within, roll_within}
-use Rattle.c8_peer.proofs.CheckpointLemmas.{next_leaves, saving_next}
+use Rattle.c8_peer.proofs.CheckpointLemmas.{next_leaves, saving_next, next_no_life}
+use Rattle.c8_peer.proofs.MemoryLemmas.{memory_more}
+use Rattle.c8_record.specs.checked.JournalLaws.{journal_more}
 use Rattle.c8_peer.proofs.CheckpointCall.{ready, dropped_comes, nothing_comes, kept_of, runs_of, next_quiet, next_epoch, whole_may}
 use Rattle.c8_peer.proofs.CheckpointCall.{noted_next, planned_next, append_cause}
 use Rattle.c8_peer.proofs.peer.Peer.checkpoint.Goals as goal
 
 still_same : (k : KnownValue) → IsStillKnown k k
-still_same k = record { me = refl; delay = refl; limit = refl; ticks = omega arith; players = refl; each = λ q. still_of_same (player_in k q) }
+still_same k = record {
+  me = refl;
+  delay = refl;
+  limit = refl;
+  width = refl;
+  ticks = omega arith;
+  players = refl;
+  each = λ q. still_of_same
+      (player_in k q);
+}
 
 pub returns-then-leaving : goal.returns-then-leaving
 returns-then-leaving g c =
     let v = c.args.self.now in
     let comes = dropped_comes c.self.inside.game.now
-    (told_of c.self.inside.game.now c.self.inside.known.me (records_of c.self.inside.journal.bodies)) c.self.inside.known
+    (told_of c.self.inside.game.now c.self.inside.known.me (records_of c.self.inside.game.now.width c.self.inside.journal.bodies)) c.self.inside.known
     c.self.inside.memory c.me.result.number c.leaving.result c.me.ensures.value c.leaving.ensures c.if-leaving.true in
     answers g.D.Disk v v.state.memory Checkpoint (Checked (Err checks.Dropped)) c.is_down.ensures.sound
     (c.is_down.ensures.value ∙ ap mode_of c.if-is_down.false)
@@ -52,7 +63,7 @@ returns-in_err-cut g c =
     let error = c.in_err-cut.field-0.0 in
     let is = err_from_is_err_and c.from_residual.result c.from_residual.ensures.1 in
     let k = c.self.inside.known in
-    let journal = records_of c.self.inside.journal.bodies in
+    let journal = records_of c.self.inside.game.now.width c.self.inside.journal.bodies in
     let none : c.self.inside.checks.count ≡ 0 = elim (cases_eq c.self.inside.checks.count 0) [
       | inl none ↦ none
       | inr some ↦ let never = (c.in_err-cut.ensures.under_way some).0 in absurd cc
@@ -76,12 +87,13 @@ note-requires g c =
     c.self.invariant.0 c.self.invariant.1 c.self.invariant.3 c.me.ensures.value c.leaving.ensures c.if-leaving.false
     c.in_ok-cut.ensures.value (λ some. (c.in_ok-cut.ensures.under_way some).1) c.in_ok-cut.ensures.above c.in_ok-cut.ensures.begun in
     whole_may c.self.inside.game.now c.self.inside.known.me c.self.inside.room c.self.inside.known.me
-    (records_of c.self.inside.journal.bodies) c.cut.new.checks now.cut.same now.may
+    (records_of c.self.inside.game.now.width c.self.inside.journal.bodies) c.cut.new.checks now.cut.same now.may
 
 pub go_on-requires : goal.go_on-requires
 go_on-requires g c =
     let k = c.self.inside.known in
-    was_roll c.self.inside.game.now (records_of c.self.inside.journal.bodies) (seen c.self.inside.roll) (checked c.self.inside.checks) k k
+    was_roll c.self.inside.game.now (records_of c.self.inside.game.now.width c.self.inside.journal.bodies) (seen c.self.inside.roll)
+    (checked c.self.inside.checks) k k
     (State 0 0 0 []) (last_run_of c.self.inside.roll) c.self.invariant.1 refl (still_same k)
 
 pub invariant_of-self-in-Ok : goal.invariant_of-self-in-Ok
@@ -94,28 +106,34 @@ invariant_of-self-in-Ok g c =
     let room = c.self.inside.room in
     let k = c.self.inside.known in
     let me = k.me in
-    let journal = records_of c.self.inside.journal.bodies in
+    let journal = records_of c.self.inside.game.now.width c.self.inside.journal.bodies in
     let held = c.self.invariant.0 in
     let rolled = c.self.invariant.1 in
     let cut = c.cut.new.checks in
     let r : Record = next_record me cut in
-    let body = c.next_body-body.ensures ∙ ap (λ (q : ℕ). body_of (next_record q cut)) c.me-2.ensures.value in
+    let body = c.next_body-body.ensures ∙ ap (λ (w : ℕ). body_of w (next_record c.me-2.result.number cut)) c.width.ensures
+    ∙ ap (λ (q : ℕ). body_of c.self.inside.game.now.width (next_record q cut)) c.me-2.ensures.value in
     let is = c.in-Ok.ensures.ok in
     let bodies = ap (λ (j : JournalValue g.row.D.Denot). j.bodies) is ∙ ap (λ (one : List ℕ). c.self.inside.journal.bodies ++ one ∷ []) body in
-    let longer : records_of c.append.new.self.bodies ≡ journal ++ r ∷ [] =
-    ap records_of bodies ∙ one_body_more c.self.inside.journal.bodies r now.may.spelled in
+    let longer : records_of c.self.inside.game.now.width c.append.new.self.bodies ≡ journal ++ r ∷ [] =
+    ap (records_of c.self.inside.game.now.width) bodies ∙ one_body_more c.self.inside.game.now.width c.self.inside.journal.bodies r now.may.spelled in
     let within = roll_within rules (begun_at rules journal) k (seen c.self.inside.roll) rolled.roll
     (is_within c.journals_stay_within_the_window.ensures rules room c.self.inside.journal k c.self.inside.memory held) in
     let noted = noted_next rules me room me journal cut c.note.new.checks held.range held.from_one held.in_game held.bodies.journal now.cut
     cut.count_in c.note.ensures.piece c.note.ensures.whole in (
-      peer_more rules room c.self.inside.journal c.append.new.self k k c.self.inside.memory r held now.may (next_epoch journal me cut)
-          (saving_next rules me room journal r held.range held.from_one held.in_game held.bodies.journal now.may held.memory.saving now.next) bodies
+      peer_more rules room c.self.inside.journal c.append.new.self k k c.self.inside.memory c.self.inside.memory r held now.may
+          (next_epoch journal me cut)
+          (memory_more rules room me journal r c.self.inside.memory held.range held.from_one held.in_game
+          (journal_more rules me room journal r held.bodies.journal now.may) held.memory (next_no_life rules me journal r now.next)
+          (saving_next rules me room journal r held.range held.from_one held.in_game held.bodies.journal now.may held.memory.saving now.next)) refl
+          bodies
           (ap (λ (j : JournalValue g.row.D.Denot). j.pending) is
           ∙ c.is_down-up.ensures.up (is_up c.self.inside.journal.is_down
           (subst (λ (x : PeerValue g.row.D.Denot). x.state.mode ≡ Open) (sym c.self.view_is)
           (c.is_down.ensures.value ∙ ap mode_of c.if-is_down.false))))
           (sym (next_quiet k me cut)) refl,
-      rolled_more rules journal (records_of c.append.new.self.bodies) (checked c.self.inside.checks) (checked c.note.new.checks)
+      rolled_more rules journal (records_of c.self.inside.game.now.width c.append.new.self.bodies) (checked c.self.inside.checks)
+          (checked c.note.new.checks)
           (seen c.self.inside.roll) (seen c.go_on.new.roll) k k r (last_run_of c.self.inside.roll)
           (last_run_of c.go_on.new.roll) rolled (next_leaves rules me journal r now.next).begun noted longer (still_same k)
           c.go_on.ensures.grown (c.go_on.ensures.bound within),
@@ -134,18 +152,21 @@ invariant_of-self-in-Err g c =
     c.in_ok-cut.ensures.value (λ some. (c.in_ok-cut.ensures.under_way some).1) c.in_ok-cut.ensures.above c.in_ok-cut.ensures.begun in
     let cut = c.cut.new.checks in
     let r : Record = next_record c.self.inside.known.me cut in
-    let body = c.next_body-body.ensures ∙ ap (λ (q : ℕ). body_of (next_record q cut)) c.me-2.ensures.value in
+    let body = c.next_body-body.ensures ∙ ap (λ (w : ℕ). body_of w (next_record c.me-2.result.number cut)) c.width.ensures
+    ∙ ap (λ (q : ℕ). body_of c.self.inside.game.now.width (next_record q cut)) c.me-2.ensures.value in
     let is = c.in-Err.ensures.err in
     let bodies = ap (λ (j : JournalValue g.row.D.Denot). j.bodies) is in (
       peer_refused c.self.inside.game.now c.self.inside.room c.self.inside.journal c.append.new.self c.self.inside.known
           c.self.inside.memory r c.self.invariant.0 now.may bodies
           (ap (λ (j : JournalValue g.row.D.Denot). j.pending) is ∙ ap (λ (one : List ℕ). Some one) body),
-      subst (λ (x : ChecksValue). IsRolled c.self.inside.game.now (records_of c.append.new.self.bodies) c.self.inside.known x
+      subst (λ (x : ChecksValue). IsRolled c.self.inside.game.now (records_of c.self.inside.game.now.width c.append.new.self.bodies)
+          c.self.inside.known x
           (seen c.self.inside.roll) (last_run_of c.self.inside.roll)) (sym c.in_ok-cut.ensures.value)
-          (subst (λ (all : List (List ℕ)). IsRolled c.self.inside.game.now (records_of all) c.self.inside.known
+          (subst (λ (all : List (List ℕ)). IsRolled c.self.inside.game.now (records_of c.self.inside.game.now.width all) c.self.inside.known
           (checked c.self.inside.checks) (seen c.self.inside.roll) (last_run_of c.self.inside.roll)) (sym bodies) c.self.invariant.1),
       c.self.invariant.2,
-      subst (λ (all : List (List ℕ)). IsPlanned c.self.inside.game.now c.self.inside.known.me (records_of all) cut) (sym bodies)
+      subst (λ (all : List (List ℕ)). IsPlanned c.self.inside.game.now c.self.inside.known.me (records_of c.self.inside.game.now.width all) cut)
+          (sym bodies)
           (λ some. now.cut.planned),
     )
 
@@ -159,17 +180,18 @@ returns-in-Ok g c =
     let rules = c.self.inside.game.now in
     let room = c.self.inside.room in
     let k = c.self.inside.known in
-    let journal = records_of c.self.inside.journal.bodies in
+    let journal = records_of c.self.inside.game.now.width c.self.inside.journal.bodies in
     let held = c.self.invariant.0 in
     let rolled = c.self.invariant.1 in
     let cut = c.cut.new.checks in
     let r : Record = next_record k.me cut in
     let ran = last_run_of c.go_on.new.roll in
-    let body = c.next_body-body.ensures ∙ ap (λ (q : ℕ). body_of (next_record q cut)) c.me-2.ensures.value in
+    let body = c.next_body-body.ensures ∙ ap (λ (w : ℕ). body_of w (next_record c.me-2.result.number cut)) c.width.ensures
+    ∙ ap (λ (q : ℕ). body_of c.self.inside.game.now.width (next_record q cut)) c.me-2.ensures.value in
     let is = c.in-Ok.ensures.ok in
     let bodies = ap (λ (j : JournalValue g.row.D.Denot). j.bodies) is ∙ ap (λ (one : List ℕ). c.self.inside.journal.bodies ++ one ∷ []) body in
-    let longer : records_of c.append.new.self.bodies ≡ journal ++ r ∷ [] =
-    ap records_of bodies ∙ one_body_more c.self.inside.journal.bodies r now.may.spelled in
+    let longer : records_of c.self.inside.game.now.width c.append.new.self.bodies ≡ journal ++ r ∷ [] =
+    ap (records_of c.self.inside.game.now.width) bodies ∙ one_body_more c.self.inside.game.now.width c.self.inside.journal.bodies r now.may.spelled in
     let mode = c.is_down.ensures.value ∙ ap mode_of c.if-is_down.false in
     let within = roll_within rules (begun_at rules journal) k (seen c.self.inside.roll) rolled.roll
     (is_within c.journals_stay_within_the_window.ensures rules room c.self.inside.journal k c.self.inside.memory held) in
@@ -185,8 +207,10 @@ returns-in-Ok g c =
     c.next_body-body.result) c.self.inside.journal.disk c.append.new.self.disk c.append.result (Ok tt) c.in-Ok.is c.append.ensures.asks) in
     let runs = runs_of v rules room c.self.inside.journal k c.self.inside.memory r ran c.self.view_is held now.may (next_quiet k k.me cut) again in
     let seen_now = view_more v rules room k.me k.me (last_run_of c.self.inside.roll) ran c.self.inside.journal c.append.new.self
-    c.self.inside.memory r c.self.view_is longer
-    (ap (λ (j : JournalValue g.row.D.Denot). j.pending) is) (ap (λ (j : JournalValue g.row.D.Denot). j.is_down) is) refl in
+    c.self.inside.memory c.self.inside.memory r c.self.view_is longer
+    (ap (λ (j : JournalValue g.row.D.Denot). j.pending) is) (ap (λ (j : JournalValue g.row.D.Denot). j.is_down) is) refl
+    ∙ ap (λ (m : Memory). with_record g.D.Disk v c.append.new.self.disk r m ran)
+    (ap (λ (x : PeerValue g.row.D.Denot). x.state.memory) c.self.view_is) in
     let leaves = subst (LeavesJournal g.D.Disk) seen_now c.is_sound.ensures.leaves in
     let done : IsAnswered g.D.Disk v Checkpoint (Checked (Ok (next_said cut))) (with_record g.D.Disk v c.append.new.self.disk r v.state.memory ran) =
     records g.D.Disk v c.append.new.self.disk v.state.memory ran Checkpoint (Checked (Ok (next_said cut))) r mode comes refl kept runs leaves in
@@ -208,7 +232,8 @@ returns-in-Err g c =
     let cut = c.cut.new.checks in
     let r : Record = next_record k.me cut in
     let why = c.in-Err.error in
-    let body = c.next_body-body.ensures ∙ ap (λ (q : ℕ). body_of (next_record q cut)) c.me-2.ensures.value in
+    let body = c.next_body-body.ensures ∙ ap (λ (w : ℕ). body_of w (next_record c.me-2.result.number cut)) c.width.ensures
+    ∙ ap (λ (q : ℕ). body_of c.self.inside.game.now.width (next_record q cut)) c.me-2.ensures.value in
     let is = c.in-Err.ensures.err in
     let mode = c.is_down.ensures.value ∙ ap mode_of c.if-is_down.false in
     let comes = outcome_seen v rules room c.self.inside.journal k c.self.inside.memory held c.self.view_is Checkpoint
@@ -223,7 +248,7 @@ returns-in-Err g c =
     c.self.inside.memory r c.next_body-body.result c.self.view_is
     (ap (λ (j : JournalValue g.row.D.Denot). j.bodies) is) (ap (λ (j : JournalValue g.row.D.Denot). j.pending) is)
     (ap (λ (j : JournalValue g.row.D.Denot). j.is_down) is)
-    (ap record_of body ∙ read_again r now.may.spelled) in
+    (ap (record_of c.self.inside.game.now.width) body ∙ read_again c.self.inside.game.now.width r now.may.spelled) in
     let leaves = subst (LeavesJournal g.D.Disk) seen_now c.is_sound-in-Err.ensures.leaves in
     let cause = append_cause g.D.Disk v rules room k.me c.self.inside.journal c.append.new.self.disk c.self.inside.memory r why
     c.self.view_is c.in-Err.ensures.failed c.in-Err.ensures.full c.in-Err.ensures.full_leaves in

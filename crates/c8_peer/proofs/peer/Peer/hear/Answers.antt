@@ -7,17 +7,13 @@ use Rattle.c8_refusals.specs.declared.error.Refused.TheVariants as refusals
 use Rattle.c8_peer.specs.declared.heard.Heard.TheVariants as heards
 use Rattle.c8_peer.specs.State.{Deliver, Delivered, recorded}
 use Rattle.c8_peer.specs.Hearing.{taken}
-use Rattle.c8_peer.specs.Lawful.{IsMemory}
 use Rattle.c8_known.specs.Known.{known_of}
 use Rattle.c8_peer.specs.Peer.{PeerValue, known_by, RunsFrames, IsAnswered, LeavesJournal}
 use Rattle.c8_peer.specs.declared.verdict.Verdict.TheVariants as verdicts
-use Rattle.c8_peer.specs.checked.Verdicts.{AcksWithin, memory_after}
-use Rattle.c8_peer.proofs.CheckpointLemmas.{saving_play}
-use Rattle.c8_peer.proofs.MemoryLemmas.{memory_more}
-use Rattle.c8_peer.proofs.DeliveryLemmas.{heard_is, comes_to, heard_later, memory_noted, record_allowed, acks_kept, cause_of}
+use Rattle.c8_peer.specs.checked.Verdicts.{memory_after}
+use Rattle.c8_peer.proofs.DeliveryLemmas.{heard_is, comes_to, heard_later, memory_noted, memory_recorded, record_allowed, cause_of}
 use Rattle.c8_peer.proofs.AnswerLemmas.{answers, records, is_refused, with_record, without_record, Kept}
 use Rattle.c8_peer.proofs.peer.Peer.hear.Goals as goal
-use Rattle.c8_record.specs.checked.JournalLaws.{journal_more}
 
 pub note-requires-clause-memory : goal.note-requires-clause-memory
 note-requires-clause-memory g c =
@@ -25,7 +21,8 @@ note-requires-clause-memory g c =
     let p = packet_of c.args.datagram.now in
     let comes = comes_to v p verdicts.Nothing c.in-Ok-Nothing.field-0 c.requires.packet c.requires.stays c.requires.wire c.requires.admitted
     c.in-Ok-Nothing.ensures.judged.0 c.in-Ok-Nothing.field-0-is in
-    memory_noted g.D.Disk v p (taken (memory_after v.state.memory p) heards.Nothing) c.is_sound.ensures c.requires.packet comes
+    memory_noted g.D.Disk v p (taken (memory_after (known_by v) v.state.memory p) heards.Nothing) c.is_sound.ensures c.requires.packet comes
+    refl
 
 pub keep-requires-clause-allowed : goal.keep-requires-clause-allowed
 keep-requires-clause-allowed g c =
@@ -34,39 +31,20 @@ keep-requires-clause-allowed g c =
     let r = value_of c.in-Ok-Keep.record in
     let comes = comes_to v p (verdicts.Keep c.in-Ok-Keep.record c.in-Ok-Keep.heard) c.in-Ok-Keep.field-0 c.requires.packet c.requires.stays
     c.requires.wire c.requires.admitted c.in-Ok-Keep.ensures.judged.0 c.in-Ok-Keep.field-0-is in
-    record_allowed g.D.Disk v p (recorded (memory_after v.state.memory p) (Delivered (Ok c.in-Ok-Keep.heard)) r) r
+    record_allowed g.D.Disk v p (recorded (memory_after (known_by v) v.state.memory p) (Delivered (Ok c.in-Ok-Keep.heard)) r) r
     c.is_sound.ensures c.requires.packet comes refl
 
-pub note-requires-in-Ok-clause-acks : goal.note-requires-in-Ok-clause-acks
-note-requires-in-Ok-clause-acks g c =
+pub keep-requires-clause-heard : goal.keep-requires-clause-heard
+keep-requires-clause-heard g c =
     let v = c.args.self.now in
     let p = packet_of c.args.datagram.now in
     let r = value_of c.in-Ok-Keep.record in
     let comes = comes_to v p (verdicts.Keep c.in-Ok-Keep.record c.in-Ok-Keep.heard) c.in-Ok-Keep.field-0 c.requires.packet c.requires.stays
-    c.requires.wire c.requires.admitted c.in-Ok-Keep.ensures.judged.0 c.in-Ok-Keep.field-0-is in
-    let may = record_allowed g.D.Disk v p (recorded (memory_after v.state.memory p) (Delivered (Ok c.in-Ok-Keep.heard)) r) r
-    c.is_sound.ensures c.requires.packet comes refl in
-    subst (λ (x : PeerValue g.row.D.Denot). AcksWithin (known_by x) p.message) (sym c.in-Ok.ensures.ok)
-    (acks_kept g.D.Disk v p.message r c.is_sound.ensures may c.in-Ok-Keep.ensures.acks)
-
-pub note-requires-in-Ok-clause-memory : goal.note-requires-in-Ok-clause-memory
-note-requires-in-Ok-clause-memory g c =
-    let v = c.args.self.now in
-    let p = packet_of c.args.datagram.now in
-    let r = value_of c.in-Ok-Keep.record in
-    let comes = comes_to v p (verdicts.Keep c.in-Ok-Keep.record c.in-Ok-Keep.heard) c.in-Ok-Keep.field-0 c.requires.packet c.requires.stays
-    c.requires.wire c.requires.admitted c.in-Ok-Keep.ensures.judged.0 c.in-Ok-Keep.field-0-is in
-    let stays = memory_noted g.D.Disk v p (recorded (memory_after v.state.memory p) (Delivered (Ok c.in-Ok-Keep.heard)) r)
-    c.is_sound.ensures c.requires.packet comes in
-    let sound = c.is_sound.ensures in
-    let may = record_allowed g.D.Disk v p (recorded (memory_after v.state.memory p) (Delivered (Ok c.in-Ok-Keep.heard)) r) r sound
-    c.requires.packet comes refl in
-    let later = heard_later (verdicts.Keep c.in-Ok-Keep.record c.in-Ok-Keep.heard) c.in-Ok-Keep.field-0 c.in-Ok-Keep.ensures.judged.1
-    c.in-Ok-Keep.field-0-is in
-    subst (λ (x : PeerValue g.row.D.Denot). IsMemory x.rules x.room x.me x.state.journal (memory_after x.state.memory p)) (sym c.in-Ok.ensures.ok)
-    (memory_more v.rules v.room v.me v.state.journal r (memory_after v.state.memory p) sound.range sound.plays.0 sound.plays.1
-    (journal_more v.rules v.me v.room v.state.journal r sound.is_journal may) stays
-    (saving_play v.rules v.me v.room v.state.journal r sound.range sound.plays.0 sound.plays.1 sound.is_journal may later.0 sound.memory.saving))
+    c.requires.wire c.requires.admitted c.in-Ok-Keep.ensures.judged.0 c.in-Ok-Keep.field-0-is in (
+      record { from = c.sender_of-sender.ensures.from; admitted = c.requires.admitted; notable = c.in-Ok-Keep.ensures.notable },
+      memory_recorded g.D.Disk v p (recorded (memory_after (known_by v) v.state.memory p) (Delivered (Ok c.in-Ok-Keep.heard)) r) r
+          c.is_sound.ensures c.requires.packet comes refl,
+    )
 
 pub returns-in-Ok-Nothing : goal.returns-in-Ok-Nothing
 returns-in-Ok-Nothing g c =
@@ -75,7 +53,7 @@ returns-in-Ok-Nothing g c =
     let comes = comes_to v p verdicts.Nothing c.in-Ok-Nothing.field-0 c.requires.packet c.requires.stays c.requires.wire c.requires.admitted
     c.in-Ok-Nothing.ensures.judged.0 c.in-Ok-Nothing.field-0-is in
     subst (λ (x : PeerValue g.row.D.Denot). IsAnswered g.D.Disk v (Deliver (Ok p)) (Delivered (Ok heards.Nothing)) x) (sym c.note.ensures)
-    (answers g.D.Disk v (memory_after v.state.memory p) (Deliver (Ok p)) (Delivered (Ok heards.Nothing)) c.is_sound.ensures
+    (answers g.D.Disk v (memory_after (known_by v) v.state.memory p) (Deliver (Ok p)) (Delivered (Ok heards.Nothing)) c.is_sound.ensures
     c.requires.up comes refl)
 
 pub returns-in-Ok-Alarm : goal.returns-in-Ok-Alarm
@@ -92,7 +70,7 @@ returns-in-Ok g c =
     let v = c.args.self.now in
     let p = packet_of c.args.datagram.now in
     let r = value_of c.in-Ok-Keep.record in
-    let noted = memory_after v.state.memory p in
+    let noted = memory_after (known_by v) v.state.memory p in
     let comes = comes_to v p (verdicts.Keep c.in-Ok-Keep.record c.in-Ok-Keep.heard) c.in-Ok-Keep.field-0 c.requires.packet c.requires.stays
     c.requires.wire c.requires.admitted c.in-Ok-Keep.ensures.judged.0 c.in-Ok-Keep.field-0-is in
     let leaves = subst (LeavesJournal g.D.Disk) c.in-Ok.ensures.ok c.in-Ok.ensures.journal in
@@ -108,7 +86,7 @@ returns-in-Ok g c =
     records g.D.Disk v c.keep.new.self.disk noted ran (Deliver (Ok p)) (Delivered (Ok c.in-Ok-Keep.heard)) r c.requires.up comes refl kept
     runs leaves in
     subst (λ (x : PeerValue g.row.D.Denot). IsAnswered g.D.Disk v (Deliver (Ok p)) (Delivered (Ok c.in-Ok-Keep.heard)) x)
-    (sym (c.note-in-Ok.ensures ∙ rw c.in-Ok.ensures.ok refl)) done
+    (sym c.in-Ok.ensures.ok) done
 
 pub returns-in-Err-keep : goal.returns-in-Err-keep
 returns-in-Err-keep g c =
@@ -128,7 +106,7 @@ returns-in-Err-keep g c =
       asks = c.in-Err-keep.ensures.asks;
     } in
     subst (λ (x : PeerValue g.row.D.Denot). IsAnswered g.D.Disk v (Deliver (Ok p)) (Delivered (Err (refusals.Disk why))) x) (sym is)
-    (is_refused g.D.Disk v c.keep.new.self.disk (memory_after v.state.memory p) (Deliver (Ok p)) (Delivered (Err (refusals.Disk why)))
+    (is_refused g.D.Disk v c.keep.new.self.disk (memory_after (known_by v) v.state.memory p) (Deliver (Ok p)) (Delivered (Err (refusals.Disk why)))
     (Delivered (Ok c.in-Ok-Keep.heard)) r why c.requires.up comes refl refl kept
     (cause_of g.D.Disk v (without_record g.D.Disk v c.keep.new.self.disk r) why c.in-Err-keep.ensures.failed c.in-Err-keep.ensures.full) leaves)
 

@@ -27,11 +27,11 @@ returns-clause-judged g c =
     let p = packet_of c.args.datagram.now in
     let game = c.self.inside.game.now in
     let m = c.self.inside.memory in
-    let journal = records_of c.self.inside.journal.bodies in
+    let journal = records_of c.self.inside.game.now.width c.self.inside.journal.bodies in
     let t = told_of game c.self.inside.known.me journal in
     let marks = c.marks.ensures ∙ roll_marks game (begun_at game journal) c.self.inside.known (seen c.self.inside.roll) c.self.invariant.1.roll
     ∙ ap (λ (k : KnownValue). marks_since game (begun_at game journal) k (confirmed k)) c.self.invariant.0.known in
-    subst (λ (x : PeerValue g.row.D.Denot). Judges (hear_message x.rules (told_by x) (known_by x) x.state.memory p.head p.message)
-    x.state.memory (memory_after x.state.memory p) c.judge.result) c.self.view_is
-    (subst (λ (known : KnownValue). Judges (hear_message game t known m p.head p.message) m (memory_after m p) c.judge.result)
-    c.self.invariant.0.known (c.judge.ensures.judged game t m marks))
+    subst (λ (x : PeerValue g.row.D.Denot). Judges (hear_message x.rules (told_by x) (known_by x) x.state.memory p.head p.news p.message)
+    x.state.memory (memory_after (known_by x) x.state.memory p) c.judge.result) c.self.view_is
+    (subst (λ (known : KnownValue). Judges (hear_message game t known m p.head p.news p.message) m (memory_after known m p) c.judge.result)
+    c.self.invariant.0.known (c.judge.ensures.judged game t m marks refl))

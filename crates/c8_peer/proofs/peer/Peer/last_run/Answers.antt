@@ -30,4 +30,5 @@ returns-clause-bound g c =
     (subst (λ (x : PeerValue g.row.D.Denot). (ran ≤ x.rules.window + 1) ⊎ (ran + (begun_by x).frames ≡ (known_by c.args.self.now).ticks))
     c.self.view_is
     (subst (λ (k : KnownValue). (ran ≤ c.self.inside.game.now.window + 1)
-    ⊎ (ran + (begun_at c.self.inside.game.now (records_of c.self.inside.journal.bodies)).frames ≡ k.ticks)) known c.self.invariant.1.bound))
+    ⊎ (ran + (begun_at c.self.inside.game.now (records_of c.self.inside.game.now.width c.self.inside.journal.bodies)).frames
+    ≡ k.ticks)) known c.self.invariant.1.bound))

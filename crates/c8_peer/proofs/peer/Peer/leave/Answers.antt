@@ -1,5 +1,5 @@
 -- The LEAVE of a player whom player 1 may drop is the record of the definition, so the rules allow it.
-use Rattle.std.proofs.Common.{Ok}
+use Rattle.std.proofs.Common.{Ok, refl}
 use Rattle.c8_known.specs.Journal.{Record}
 use Rattle.c8_known.specs.Journal as records
 use Rattle.c8_peer.specs.State.{Leave, Left}
@@ -13,3 +13,6 @@ keep-requires-clause-allowed g c =
     (may_record c.self.inside.game.now c.self.inside.room c.self.inside.journal c.self.inside.known c.self.inside.memory c.self.invariant.0
     (Leave c.args.leaver.number) tt c.self.inside.memory (Left (Ok tt)) r
     (c.in_ok-judge_leave.ensures.judged c.self.inside.memory))
+
+pub keep-requires-clause-heard : goal.keep-requires-clause-heard
+keep-requires-clause-heard g c = record { life = refl; met = λ q. refl }

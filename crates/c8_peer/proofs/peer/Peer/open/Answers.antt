@@ -14,18 +14,18 @@ open_in-requires-clause-player g c = omega (arith, c.in-Ok.ensures.player, c.pla
 
 pub returns-in-Ok-clause-opened : goal.returns-in-Ok-clause-opened
 returns-in-Ok-clause-opened g c =
-    subst (λ (me : ℕ). IfOk c.open_in.result (λ peer. IsOpened g.D.Disk c.args.disk c.args.game.now c.args.room me peer))
+    subst (λ (me : ℕ). IfOk c.open_in.result (λ peer. IsOpened g.D.Disk c.args.disk c.args.game.now c.args.room me c.args.drawn peer))
     c.in-Ok.ensures.player c.open_in.ensures.opened
 
 pub returns-in-Ok-clause-refused : goal.returns-in-Ok-clause-refused
 returns-in-Ok-clause-refused g c =
     let in_game : c.args.me.number ≤ c.args.game.now.players = omega (arith, c.players.ensures.value, c.if-me-players.false) in
-    refused_player g.D.Disk c.args.disk c.args.game.now c.args.room c.args.me.number in_game c.open_in.result
+    refused_player g.D.Disk c.args.disk c.args.game.now c.args.room c.args.me.number c.args.drawn in_game c.open_in.result
     (subst (λ (me : ℕ). IfErr c.open_in.result
-    (λ refusal. IsRefusedFor g.D.Disk c.args.disk c.args.game.now c.args.room me refusal.0 refusal.1)) c.in-Ok.ensures.player
+    (λ refusal. IsRefusedFor g.D.Disk c.args.disk c.args.game.now c.args.room me c.args.drawn refusal.0 refusal.1)) c.in-Ok.ensures.player
     c.open_in.ensures.refused)
 
 pub returns-in-Ok-clause-any_moment : goal.returns-in-Ok-clause-any_moment
 returns-in-Ok-clause-any_moment g c =
     subst (λ (me : ℕ). LeavesOnly g.D.Disk c.args.disk (disk_after c.open_in.result)
-    (OpeningLeaves g.D.Disk c.args.disk c.args.game.now c.args.room me)) c.in-Ok.ensures.player c.open_in.ensures.any_moment
+    (OpeningLeaves g.D.Disk c.args.disk c.args.game.now c.args.room me c.args.drawn)) c.in-Ok.ensures.player c.open_in.ensures.any_moment

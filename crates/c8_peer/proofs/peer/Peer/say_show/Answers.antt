@@ -33,18 +33,18 @@ write-requires g c =
     let watches : is_watcher n ≡ true = rw (le-leb 5 n c.args.watcher.from_five, le-leb n 6 c.args.watcher.to_six) refl in
     let mine : c.me.result.number ≡ k.me = c.me.ensures.value ∙ ap (λ (y : Inside g.row.D.Denot). y.known.me) c.self-inside.view_is in
     let one : k.me ≡ 1 = sym mine ∙ eqb-true c.me.result.number 1 (sym c.is_chair.ensures ∙ c.if-not-is_chair.false) in
-    let rows : c.as_slice.result.now ≡ take most_rows (drop c.rows-start.result (confirmed_rows k)) =
+    let rows : c.as_slice.result.now ≡ take (most_rows k.width) (drop c.rows-start.result (confirmed_rows k)) =
     c.as_slice.ensures.value ∙ c.rows_from-rows.ensures
-    ∙ ap (λ (y : Inside g.row.D.Denot). take most_rows (drop c.rows-start.result (confirmed_rows y.known))) c.self-inside.view_is in
+    ∙ ap (λ (y : Inside g.row.D.Denot). take (most_rows y.known.width) (drop c.rows-start.result (confirmed_rows y.known))) c.self-inside.view_is in
     let start : c.rows-start.result ≡ seen_by m.seen n =
     c.rows-start.ensures ∙ ap (λ (y : Inside g.row.D.Denot). seen_by y.memory.seen n) c.self-inside.view_is in
     let body : ◌≡◌ {A = Message} (packets.Show (record { start = c.rows-start.result; rows = c.as_slice.result.now })) (rows_for k m n) =
     ap (λ shown. packets.Show (record { start = c.rows-start.result; rows = shown })) rows
-    ∙ ap (λ start. packets.Show (record { start = start; rows = take most_rows (drop start (confirmed_rows k)) })) start in
+    ∙ ap (λ start. packets.Show (record { start = start; rows = take (most_rows k.width) (drop start (confirmed_rows k)) })) start in
     let written = may_show c.self.inside.game.now c.self.inside.room c.self.inside.journal k m n (head_value c.show_head-head.result)
     (packets.Show (record { start = c.rows-start.result; rows = c.as_slice.result.now })) c.self.invariant.0 watches one
     c.show_head-head.ensures body in
-    record { kind = written.kind; message = written.message_is; room = written.room }
+    record { kind = written.kind; news = written.news_are; fits = written.fits; message = written.message_is; room = written.room }
 
 pub returns-clause-said : goal.returns-clause-said
 returns-clause-said g c =
@@ -54,14 +54,14 @@ returns-clause-said g c =
     let watches : is_watcher n ≡ true = rw (le-leb 5 n c.args.watcher.from_five, le-leb n 6 c.args.watcher.to_six) refl in
     let mine : c.me.result.number ≡ k.me = c.me.ensures.value ∙ ap (λ (y : Inside g.row.D.Denot). y.known.me) c.self-inside.view_is in
     let one : k.me ≡ 1 = sym mine ∙ eqb-true c.me.result.number 1 (sym c.is_chair.ensures ∙ c.if-not-is_chair.false) in
-    let rows : c.as_slice.result.now ≡ take most_rows (drop c.rows-start.result (confirmed_rows k)) =
+    let rows : c.as_slice.result.now ≡ take (most_rows k.width) (drop c.rows-start.result (confirmed_rows k)) =
     c.as_slice.ensures.value ∙ c.rows_from-rows.ensures
-    ∙ ap (λ (y : Inside g.row.D.Denot). take most_rows (drop c.rows-start.result (confirmed_rows y.known))) c.self-inside.view_is in
+    ∙ ap (λ (y : Inside g.row.D.Denot). take (most_rows y.known.width) (drop c.rows-start.result (confirmed_rows y.known))) c.self-inside.view_is in
     let start : c.rows-start.result ≡ seen_by m.seen n =
     c.rows-start.ensures ∙ ap (λ (y : Inside g.row.D.Denot). seen_by y.memory.seen n) c.self-inside.view_is in
     let body : ◌≡◌ {A = Message} (packets.Show (record { start = c.rows-start.result; rows = c.as_slice.result.now })) (rows_for k m n) =
     ap (λ shown. packets.Show (record { start = c.rows-start.result; rows = shown })) rows
-    ∙ ap (λ start. packets.Show (record { start = start; rows = take most_rows (drop start (confirmed_rows k)) })) start in
+    ∙ ap (λ start. packets.Show (record { start = start; rows = take (most_rows k.width) (drop start (confirmed_rows k)) })) start in
     let written = may_show c.self.inside.game.now c.self.inside.room c.self.inside.journal k m n (head_value c.show_head-head.result)
     (packets.Show (record { start = c.rows-start.result; rows = c.as_slice.result.now })) c.self.invariant.0 watches one
     c.show_head-head.ensures body in

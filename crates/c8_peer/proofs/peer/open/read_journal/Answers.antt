@@ -6,7 +6,7 @@ use Rattle.c8_log.specs.declared.error.LogError.{LogError}
 use Rattle.c8_log.specs.Asked.{Opening as OpenLog, told_by as told_by_log}
 use Rattle.c8_disk.specs.declared.error.DiskError.TheVariants.{Failed, Full}
 use Rattle.c8_disk.specs.Asks.{Asks}
-use Rattle.c8_known.specs.Journal.{epoch}
+use Rattle.c8_record.specs.Numbers.{NumbersValue, numbers_of}
 use Rattle.c8_record.specs.Seen.{value_of}
 use Rattle.c8_record.specs.Body.{records_of}
 use Rattle.c8_record.specs.Replay.{told_by}
@@ -15,11 +15,11 @@ use Rattle.c8_peer.proofs.OpenLemmas.{refused_reading, read_run, open_refused}
 use Rattle.c8_peer.proofs.peer.open.read_journal.Goals as goal
 
 pub returns-in-Err-clause-refused : goal.returns-in-Err-clause-refused
-returns-in-Err-clause-refused g c =
+returns-in-Err-clause-refused g c drawn =
     let rules = c.args.game.now in
     let me = c.args.known.now.me in
     rw (c.refused_as.ensures, c.close.ensures)
-    (refused_reading g.D.Disk g.met.D.Disk.reads_now c.args.disk c.in-Ok.log.disk c.replay.new.log.disk rules c.args.room me c.replay.new.known
+    (refused_reading g.D.Disk g.met.D.Disk.reads_now c.args.disk c.in-Ok.log.disk c.replay.new.log.disk rules c.args.room me drawn c.replay.new.known
     c.in-Ok.ensures.kept c.in-Ok.ensures.repaired (c.in-Ok.ensures.at_rest).durable c.in-Ok.ensures.same c.replay.ensures.reads
     (value_of c.replay.new.checks) c.in-Err.error
     (read_run g.D.Disk c.args.disk rules c.args.room me c.in-Ok.log.disk c.replay.new.log.disk (Err c.in-Err.error)
@@ -27,7 +27,7 @@ returns-in-Err-clause-refused g c =
     c.in-Err.ensures.failed c.in-Err.ensures.replayed)
 
 pub returns-in-Err-Failed-default-clause-refused : goal.returns-in-Err-Failed-default-clause-refused
-returns-in-Err-Failed-default-clause-refused g c = inl (
+returns-in-Err-Failed-default-clause-refused g c drawn = inl (
   search rules,
   search rules,
   open_refused g.D.Disk c.args.disk c.args.game.now c.args.room c.args.known.now.me c.in-Err-Failed-default.disk Failed
@@ -37,7 +37,7 @@ returns-in-Err-Failed-default-clause-refused g c = inl (
 )
 
 pub returns-in-Err-Full-default-clause-refused : goal.returns-in-Err-Full-default-clause-refused
-returns-in-Err-Full-default-clause-refused g c = inl (
+returns-in-Err-Full-default-clause-refused g c drawn = inl (
   search rules,
   search rules,
   open_refused g.D.Disk c.args.disk c.args.game.now c.args.room c.args.known.now.me c.in-Err-Full-default.disk Full
@@ -51,16 +51,16 @@ returns-in-Ok-replay-clause-read g c = record {
   bodies = search rules;
   known = search rules;
   checks_are = search rules;
-  last_is = search rules;
+  numbers_are = search rules;
   up = search rules;
   same = search rules;
   settled = search rules;
   unfailed = search rules;
-  asks = subst (λ (n : ℕ). Asks g.D.Disk (ReadRun g.D.Disk c.args.disk c.args.game.now c.args.room c.args.known.now.me (Ok n)) (Ok tt)
-      c.args.disk c.replay.new.log.disk)
-      (c.in-Ok-replay.ensures.replayed.2 ∙ ap (λ (bodies : List (List ℕ)). epoch (records_of bodies)) c.in-Ok.ensures.kept)
+  asks = subst (λ (n : NumbersValue). Asks g.D.Disk (ReadRun g.D.Disk c.args.disk c.args.game.now c.args.room c.args.known.now.me
+      (Ok (record { epoch = n.epoch; life = n.life; met = n.met }))) (Ok tt) c.args.disk c.replay.new.log.disk)
+      (c.in-Ok-replay.ensures.replayed.2 ∙ ap (λ (bodies : List (List ℕ)). numbers_of (records_of c.args.game.now.width bodies)) c.in-Ok.ensures.kept)
       (read_run g.D.Disk c.args.disk c.args.game.now c.args.room c.args.known.now.me c.in-Ok.log.disk c.replay.new.log.disk
-      (Ok c.in-Ok-replay.last) (Ok tt) c.in-Ok.ensures.asks c.in-Ok.ensures.kept
+      (Ok c.in-Ok-replay.numbers) (Ok tt) c.in-Ok.ensures.asks c.in-Ok.ensures.kept
       c.in-Ok-replay.ensures.asks);
 }
 

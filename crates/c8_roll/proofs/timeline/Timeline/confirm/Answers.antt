@@ -3,6 +3,7 @@ use Rattle.std.proofs.Common.{◌≢◌, ℕ, length, sym, ap, subst, ◌∙◌,
 use Rattle.c8_machine.specs.State.{state}
 use Rattle.c8_machine.specs.Serial.{frame_of}
 use Rattle.c8_known.specs.Confirmed.{best_row}
+use Rattle.c8_machine.specs.Keys.{keys_of}
 use Rattle.c8_roll.specs.checked.Timeline.{TimelineValue, IsAll, IsRunOf}
 use Rattle.c8_roll.proofs.TimelineLemmas.{dropped_is, dropped_run, extended_is, extended_run, last_but_one}
 use Rattle.c8_roll.proofs.timeline.Timeline.confirm.Goals as goal
@@ -31,7 +32,8 @@ returns-clause-run c = λ from k run best.
       | else-kept-gt0 w ↦
           rw w.self-inside-is
           (extended_run from k _ w.frame.new.self c.args.row.now c.self.invariant all (omega (arith, w.if-kept-gt0.false, c.len-kept.ensures.len))
-          (w.frame.ensures.function ∙ ap (λ (keys : ℕ). frame_of c.self.inside.game.now keys (state c.self.inside.shown)) w.joined.ensures)
+          (w.frame.ensures.function ∙ ap (λ (keys : ℕ). frame_of c.self.inside.game.now keys (state c.self.inside.shown))
+          (w.from.ensures ∙ ap keys_of w.joined.ensures))
           (best ∙ ap (λ (t : TimelineValue). best_row k t.first) (sym c.self.view_is)) ran)
       | then-kept-gt0 w ↦
           let some : length c.self.inside.snapshots.items ≢ 0 = omega (arith, w.if-kept-gt0.true, c.len-kept.ensures.len) in

@@ -1,6 +1,7 @@
 -- A frame that is run leaves a snapshot of the machine before it if there is room, and a run on best guesses stays one.
 use Rattle.std.proofs.Common.{◌≡◌, ◌<◌, ℕ, length, sym, ap, subst, ◌∙◌, arith}
 use Rattle.c8_game.specs.Rules.{joined}
+use Rattle.c8_machine.specs.Keys.{keys_of}
 use Rattle.c8_machine.specs.State.{state}
 use Rattle.c8_machine.specs.Serial.{frame_of}
 use Rattle.c8_known.specs.Confirmed.{best_row}
@@ -13,16 +14,17 @@ use Rattle.c8_roll.proofs.timeline.Timeline.run.Goals.{then-len-capacity, else-l
 pub invariant_of-self : goal.invariant_of-self
 invariant_of-self c =
     let went : state c.frame.new.self ≡ frame_of c.if-len-capacity.self-inside.game.now
-    (joined c.if-len-capacity.self-inside.game.now c.args.row) (state c.if-len-capacity.self-inside.shown) =
+    (keys_of (joined c.if-len-capacity.self-inside.game.now c.args.row)) (state c.if-len-capacity.self-inside.shown) =
     c.frame.ensures.function ∙ ap (λ (keys : ℕ). frame_of c.if-len-capacity.self-inside.game.now keys
-    (state c.if-len-capacity.self-inside.shown)) c.joined.ensures in
+    (state c.if-len-capacity.self-inside.shown)) (c.from.ensures ∙ ap keys_of c.joined.ensures) in
     elim c.if-len-capacity.branch [
       | then-len-capacity w ↦
           let few : length c.self.inside.snapshots.items < c.self.inside.snapshots.capacity =
           omega (arith, w.if-len-capacity.true, c.len.ensures.len, c.capacity.ensures) in
           rw (w.self-inside-is, w.push_back-none.ensures.items, all_of_more c.self.inside.snapshots.items _ c.self.inside.snapshots.capacity few)
           (snapped_is _ c.args.row c.frame.new.self c.self.invariant (c.self.invariant.all few) few
-          (subst (λ (x : Inside). state c.frame.new.self ≡ frame_of x.game.now (joined x.game.now c.args.row) (state x.shown)) w.self-inside-is went))
+          (subst (λ (x : Inside). state c.frame.new.self ≡ frame_of x.game.now (keys_of (joined x.game.now c.args.row)) (state x.shown))
+          w.self-inside-is went))
       | else-len-capacity w ↦ rw w.self-inside-is
           (passed_is _ c.frame.new.self c.self.invariant (omega (arith, w.if-len-capacity.false, c.len.ensures.len, c.capacity.ensures)))
     ]

@@ -1,6 +1,7 @@
 -- Each frame is run on its best guess, so the shown machine is the run of the best rows up to the last tick.
 use Rattle.std.proofs.Common.{◌≡◌, ◌+◌, ℕ, refl, rules, sym, ap, subst, ◌∙◌, arith}
 use Rattle.c8_game.specs.Rules.{Rules, joined}
+use Rattle.c8_machine.specs.Keys.{keys_of}
 use Rattle.c8_game.specs.declared.row.Row.{Row}
 use Rattle.c8_machine.specs.State.{State, state}
 use Rattle.c8_machine.specs.Serial.{frame_of}
@@ -47,9 +48,9 @@ loop-frame-preserved c =
           let first = inv.first in
           let ticks = inv.ticks in
           c.run.ensures.shown
-          ∙ ap (λ (r : Rules). frame_of r (joined r c.best.result) (state c.loop-frame.self.shown)) inv.rules
-          ∙ ap (λ (row : Row). frame_of rules (joined rules row) (state c.loop-frame.self.shown)) c.best.ensures.value
-          ∙ ap (λ (s : State). frame_of rules (joined rules (best_row k frame)) s) (inv.shown from run)
+          ∙ ap (λ (r : Rules). frame_of r (keys_of (joined r c.best.result)) (state c.loop-frame.self.shown)) inv.rules
+          ∙ ap (λ (row : Row). frame_of rules (keys_of (joined rules row)) (state c.loop-frame.self.shown)) c.best.ensures.value
+          ∙ ap (λ (s : State). frame_of rules (keys_of (joined rules (best_row k frame))) s) (inv.shown from run)
           ∙ sym (next_run rules from k frame (omega (arith, starts, within, first, ticks)));
     }
 

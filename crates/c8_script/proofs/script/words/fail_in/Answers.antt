@@ -10,23 +10,24 @@ use Rattle.c8_script.specs.checked.ScriptWords.{fail_in, fail_of, act_in, held_i
 use Rattle.c8_script.proofs.script.words.fail_in.Goals as goal
 
 -- one word is too few for a failure
-too_few : (words : List (Bor (List ℕ))) → length words < 2 → fail_in (map (λ word. word.now) words) ≡ None
-too_few [] few = refl
-too_few (verb ∷ []) few = refl
-too_few (verb ∷ calls ∷ act) few = absurd (omega arith)
+too_few : (width : ℕ) (words : List (Bor (List ℕ))) → length words < 2 → fail_in width (map (λ word. word.now) words) ≡ None
+too_few width [] few = refl
+too_few width (verb ∷ []) few = refl
+too_few width (verb ∷ calls ∷ act) few = absurd (omega arith)
 
 pub returns-in_default : goal.returns-in_default
-returns-in_default c = sym (too_few c.args.words.now c.in_default.len_below)
+returns-in_default c = sym (too_few c.args.width.bytes c.args.words.now c.in_default.len_below)
 
 -- the parts of a failure are its second word and the rest
-parts : (words : List (Bor (List ℕ))) (d : Bor (List ℕ)) → 2 ≤ length words → bytes_eq (get_or words 0 d).now (codes "fail") ≡ true
-    → fail_in (map (λ word. word.now) words) ≡ fail_of (held_in (act_in (map (λ word. word.now) (take (length words - 2) (drop 2 words)))))
+parts : (width : ℕ) (words : List (Bor (List ℕ))) (d : Bor (List ℕ)) → 2 ≤ length words → bytes_eq (get_or words 0 d).now (codes "fail") ≡ true
+    → fail_in width (map (λ word. word.now) words) ≡ fail_of (held_in (act_in width (map (λ word. word.now)
+    (take (length words - 2) (drop 2 words)))))
     (number_in (get_or words 1 d).now)
-parts [] d many verb = absurd (omega arith)
-parts (one ∷ []) d many verb = absurd (omega arith)
-parts (one ∷ calls ∷ act) d many verb =
+parts width [] d many verb = absurd (omega arith)
+parts width (one ∷ []) d many verb = absurd (omega arith)
+parts width (one ∷ calls ∷ act) d many verb =
     cond-true (bytes_eq one.now (codes "fail")) _ _ verb
-    ∙ ap (λ rest. fail_of (held_in (act_in (map (λ word. word.now) rest))) (number_in calls.now))
+    ∙ ap (λ rest. fail_of (held_in (act_in width (map (λ word. word.now) rest))) (number_in calls.now))
     (sym (take_all (length (one ∷ calls ∷ act) - 2) act (omega arith)))
 
 no_act : (act : Option Act) (calls : Option ℕ) → act ≡ None → fail_of act calls ≡ None
@@ -38,11 +39,11 @@ its_parts found k act calls is calls_are = rw (is, calls_are) refl
 pub returns-in_err-held_in : goal.returns-in_err-held_in
 returns-in_err-held_in c =
     c.from_residual.ensures
-    ∙ sym (parts c.args.words.now (record { ref_ptr = (0, 0); now = [] }) c.in-len2-up.len_at_least (search rules)
+    ∙ sym (parts c.args.width.bytes c.args.words.now (record { ref_ptr = (0, 0); now = [] }) c.in-len2-up.len_at_least (search rules)
     ∙ no_act _ _ (sym c.held_in.ensures ∙ c.in_err-held_in.was))
 
 pub returns : goal.returns
 returns c =
-    sym (parts c.args.words.now _ c.in-len2-up.len_at_least (search rules)
+    sym (parts c.args.width.bytes c.args.words.now _ c.in-len2-up.len_at_least (search rules)
     ∙ its_parts c.in_ok-held_in.field-0 c.in_ok-number_in.field-0 _ _ (sym c.held_in.ensures ∙ c.in_ok-held_in.was)
     (sym c.number_in.ensures ∙ c.in_ok-number_in.was))

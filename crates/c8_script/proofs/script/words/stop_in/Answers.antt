@@ -10,25 +10,26 @@ use Rattle.c8_script.specs.checked.ScriptWords.{stop_in, stop_of, act_in, held_i
 use Rattle.c8_script.proofs.script.words.stop_in.Goals as goal
 
 -- two words are too few for a stop
-too_few : (words : List (Bor (List ℕ))) → length words < 3 → stop_in (map (λ word. word.now) words) ≡ None
-too_few [] few = refl
-too_few (verb ∷ []) few = refl
-too_few (verb ∷ calls ∷ []) few = refl
-too_few (verb ∷ calls ∷ pick ∷ act) few = absurd (omega arith)
+too_few : (width : ℕ) (words : List (Bor (List ℕ))) → length words < 3 → stop_in width (map (λ word. word.now) words) ≡ None
+too_few width [] few = refl
+too_few width (verb ∷ []) few = refl
+too_few width (verb ∷ calls ∷ []) few = refl
+too_few width (verb ∷ calls ∷ pick ∷ act) few = absurd (omega arith)
 
 pub returns-in_default : goal.returns-in_default
-returns-in_default c = sym (too_few c.args.words.now c.in_default.len_below)
+returns-in_default c = sym (too_few c.args.width.bytes c.args.words.now c.in_default.len_below)
 
 -- the parts of a stop are its second word, its third and the rest
-parts : (words : List (Bor (List ℕ))) (d : Bor (List ℕ)) → 3 ≤ length words → bytes_eq (get_or words 0 d).now (codes "stop") ≡ true
-    → stop_in (map (λ word. word.now) words) ≡ stop_of (held_in (act_in (map (λ word. word.now) (take (length words - 3) (drop 3 words)))))
+parts : (width : ℕ) (words : List (Bor (List ℕ))) (d : Bor (List ℕ)) → 3 ≤ length words → bytes_eq (get_or words 0 d).now (codes "stop") ≡ true
+    → stop_in width (map (λ word. word.now) words) ≡ stop_of (held_in (act_in width (map (λ word. word.now)
+    (take (length words - 3) (drop 3 words)))))
     (number_in (get_or words 1 d).now) (number_in (get_or words 2 d).now)
-parts [] d many verb = absurd (omega arith)
-parts (one ∷ []) d many verb = absurd (omega arith)
-parts (one ∷ two ∷ []) d many verb = absurd (omega arith)
-parts (one ∷ calls ∷ pick ∷ act) d many verb =
+parts width [] d many verb = absurd (omega arith)
+parts width (one ∷ []) d many verb = absurd (omega arith)
+parts width (one ∷ two ∷ []) d many verb = absurd (omega arith)
+parts width (one ∷ calls ∷ pick ∷ act) d many verb =
     cond-true (bytes_eq one.now (codes "stop")) _ _ verb
-    ∙ ap (λ rest. stop_of (held_in (act_in (map (λ word. word.now) rest))) (number_in calls.now) (number_in pick.now))
+    ∙ ap (λ rest. stop_of (held_in (act_in width (map (λ word. word.now) rest))) (number_in calls.now) (number_in pick.now))
     (sym (take_all (length (one ∷ calls ∷ pick ∷ act) - 3) act (omega arith)))
 
 no_act : (act : Option Act) (calls pick : Option ℕ) → act ≡ None → stop_of act calls pick ≡ None
@@ -44,18 +45,18 @@ its_parts found k n act calls pick is calls_are pick_is = rw (is, calls_are, pic
 pub returns-in_err-held_in : goal.returns-in_err-held_in
 returns-in_err-held_in c =
     c.from_residual.ensures
-    ∙ sym (parts c.args.words.now (record { ref_ptr = (0, 0); now = [] }) c.in-len3-up.len_at_least (search rules)
+    ∙ sym (parts c.args.width.bytes c.args.words.now (record { ref_ptr = (0, 0); now = [] }) c.in-len3-up.len_at_least (search rules)
     ∙ no_act _ _ _ (sym c.held_in.ensures ∙ c.in_err-held_in.was))
 
 pub returns-in_err-number_in : goal.returns-in_err-number_in
 returns-in_err-number_in c =
     c.from_residual-in_err-number_in.ensures
-    ∙ sym (parts c.args.words.now _ c.in-len3-up.len_at_least (search rules)
+    ∙ sym (parts c.args.width.bytes c.args.words.now _ c.in-len3-up.len_at_least (search rules)
     ∙ no_calls c.in_ok-held_in.field-0 _ _ _ (sym c.held_in.ensures ∙ c.in_ok-held_in.was) (sym c.number_in.ensures ∙ c.in_err-number_in.was))
 
 pub returns : goal.returns
 returns c =
-    sym (parts c.args.words.now _ c.in-len3-up.len_at_least (search rules)
+    sym (parts c.args.width.bytes c.args.words.now _ c.in-len3-up.len_at_least (search rules)
     ∙ its_parts c.in_ok-held_in.field-0 c.in_ok-number_in.field-0 c.in_ok-number_in-2.field-0 _ _ _
     (sym c.held_in.ensures ∙ c.in_ok-held_in.was) (sym c.number_in.ensures ∙ c.in_ok-number_in.was)
     (sym c.number_in-2.ensures ∙ c.in_ok-number_in-2.was))

@@ -7,8 +7,6 @@ use Rattle.c8_session.proofs.session.Session.next_datagram.Given as goal
 abbrev pub invariant-loop-place : goal.invariant-loop-place
 invariant-loop-place g l = record {
   same : l.self.peer ≡ l.initial.self.peer;
-  greeters : l.self.schedule.greeters ≡ l.initial.self.schedule.greeters;
-  shown : l.self.is_shown ≡ l.initial.self.is_shown;
   notes : notes_of l.self ≡ notes_of l.initial.self;
   speaks : is_speaking l.self ≡ is_speaking l.initial.self;
   here : l.self.place ≡ l.place;

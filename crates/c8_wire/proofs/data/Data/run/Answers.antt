@@ -1,4 +1,4 @@
--- The inputs of a DATA are what its bytes from 46 on spell in its version.
+-- The inputs of a DATA are what its body from byte 22 on spells in its version.
 use Rattle.std.proofs.Common.{rules}
 use Rattle.c8_wire.proofs.data.Data.run.Goals as goal
 

@@ -1,4 +1,4 @@
--- The place of a DATA's first input is in bytes 40 to 43, and its run ends within the longest list.
+-- The place of a DATA's first input is in bytes 16 to 19 of its body, and its run ends within the longest list.
 use Rattle.std.proofs.Common.{rules}
 use Rattle.c8_wire.proofs.data.Data.start.Goals as goal
 

@@ -1,4 +1,4 @@
--- A number of the leaver's inputs is in bytes 26 to 29 of FREEZE, FROZEN and CUT.
+-- A number of the leaver's inputs is in bytes 2 to 5 of the body of FREEZE, FROZEN and CUT.
 use Rattle.std.proofs.Common.{rules}
 use Rattle.c8_wire.proofs.leaving.Leaving.inputs.Goals as goal
 

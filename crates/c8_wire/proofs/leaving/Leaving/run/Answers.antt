@@ -1,4 +1,4 @@
--- The leaver's inputs in a FROZEN or CUT are what the bytes from 36 on spell in its version.
+-- The leaver's inputs in a FROZEN or CUT are what the body from byte 12 on spells in its version.
 use Rattle.std.proofs.Common.{rules}
 use Rattle.c8_wire.proofs.leaving.Leaving.run.Goals as goal
 

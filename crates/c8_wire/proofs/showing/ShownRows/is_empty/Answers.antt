@@ -5,4 +5,4 @@ use Rattle.c8_wire.proofs.ShowLemmas.{length_of_rows}
 use Rattle.c8_wire.proofs.showing.ShownRows.is_empty.Goals as goal
 
 pub returns : goal.returns
-returns c = ap (λ (n : ℕ). n == 0) (sym (length_of_rows c.args.self.now.count 30 c.args.self.now.bytes.now))
+returns c = ap (λ (n : ℕ). n == 0) (sym (length_of_rows c.args.self.now.width.bytes c.args.self.now.count 6 c.args.self.now.body.now))

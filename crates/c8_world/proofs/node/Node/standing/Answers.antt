@@ -23,4 +23,4 @@ returns-in_ok-known-in-Away c s is journals =
     (value_of c.replay_bytes.new.checks) gone.1 journals
     (c.bodies_are_the_spellings.ensures.records rules p c.args.room) (c.bodies_are_the_spellings.ensures.spell rules p c.args.room)
     (c.journals_are_not_refused.ensures rules p c.args.room) read in
-    (known.0, known.1, subst (λ (node : Node). IsRead s (Some node) known.0) (sym c.in-Away.is) known.2)
+    (known.0, known.1, subst (λ (node : Node). IsRead rules.width s (Some node) known.0) (sym c.in-Away.is) known.2)

@@ -1,7 +1,8 @@
 -- A new node has an empty disk of a peer that was never opened, so the new table holds the start of the world.
-use Rattle.std.proofs.Common.{◌-◌, ap, arith}
+use Rattle.std.proofs.Common.{◌-◌, List, map, ap, arith}
 use Rattle.std.specs.Prelude.{None}
-use Rattle.c8_spectator.specs.Watching.{WatchValue}
+use Rattle.c8_game.specs.declared.row.Player.{Player}
+use Rattle.c8_world.specs.World.{sight_in}
 use Rattle.c8_world.specs.Table.{IsNodeed, IsUntouched}
 use Rattle.c8_world.specs.Disks.{IsNewDisk}
 use Rattle.c8_world.proofs.LifeLemmas.{node_more, start_holds}
@@ -21,8 +22,9 @@ loop-preserved c = record {
 
 pub returns-clause-holds : goal.returns-clause-holds
 returns-clause-holds c =
-    start_holds _ (omega arith, omega arith, c.loop.invariant.nodeed) c.loop.invariant.untouched c.new.ensures
-    (ap (λ (v : WatchValue). v.rows) c.in_ok-open.ensures) (ap (λ (v : WatchValue). v.rows) c.in_ok-open-2.ensures)
+    start_holds _ (omega arith, omega arith, c.loop.invariant.nodeed) c.loop.invariant.untouched
+    (ap (λ (players : List Player). map (λ player. player.number) players) c.new.ensures) c.new-2.ensures
+    (ap sight_in c.in_ok-open.ensures) (ap sight_in c.in_ok-open-2.ensures)
 
 pub returns-clause-disks : goal.returns-clause-disks
 returns-clause-disks c p plays =

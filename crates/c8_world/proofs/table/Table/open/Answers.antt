@@ -12,7 +12,7 @@ returns-clause-happened c =
     let plays : IsPlayer c.self.inside.game.now c.args.player.number = record { from_one = omega arith; in_game = omega arith } in
     opened_happens _ c.args.self.now c.place.result c.args.player.number c.index_mut-node.result.now c.open_node.new.place
     c.open_node.result c.self.view_is c.place.ensures.next (omega arith)
-    plays c.index_mut-node.ensures.value
+    plays (omega arith) c.index_mut-node.ensures.value
     (λ w holds finds. c.openings_find_journals.ensures.journals c.self.inside.game.now c.self.inside.room w c.args.player.number finds
     c.in_range.ensures (omega arith) holds.reached plays)
     c.open_node.ensures.opened
@@ -22,7 +22,7 @@ returns-clause-memory c =
     let plays : IsPlayer c.self.inside.game.now c.args.player.number = record { from_one = omega arith; in_game = omega arith } in
     unopened_happens _ c.args.self.now c.place.result c.args.player.number c.index_mut-node.result.now c.open_node.new.place
     c.open_node.result c.self.view_is c.place.ensures.next (omega arith)
-    plays c.index_mut-node.ensures.value
+    plays (omega arith) c.index_mut-node.ensures.value
     (λ w holds finds. c.openings_find_journals.ensures.journals c.self.inside.game.now c.self.inside.room w c.args.player.number finds
     c.in_range.ensures (omega arith) holds.reached plays)
     c.open_node.ensures.memory

@@ -15,4 +15,4 @@ returns-clause-happened c =
     seen_happens _ c.args.self.now n c.len-number.result size bytes c.push.new.self (sits n c.args.watcher.from_five c.args.watcher.to_six)
     c.self.view_is c.len-number.ensures c.in_ok-push.ensures.ok
     (subst (λ (t : TableValue). Spells (take size bytes) (seen (watch_in t n))) (sym c.self.view_is) spells)
-    (omega (arith, c.seen-length.ensures.length, c.seen-length.array_long))
+    (omega (arith, c.seen-length.ensures.fits, c.seen-length.array_long))

@@ -7,11 +7,11 @@ use Rattle.c8_game.specs.GameFaults.{name_in, value_in}
 use Rattle.c8_game.proofs.DraftLemmas.{blank_line, coded_line, named_line}
 use Rattle.c8_game.proofs.text.draft.Draft.add.Goals as goal
 
-pub returns-then-is_skipped : goal.returns-then-is_skipped
-returns-then-is_skipped c = blank_line c.args.self.now c.args.line.now (sym c.is_skipped.ensures ∙ c.if-is_skipped.true)
+pub returns-then-is_skipped-clause-line : goal.returns-then-is_skipped-clause-line
+returns-then-is_skipped-clause-line c = blank_line c.args.self.now c.args.line.now (sym c.is_skipped.ensures ∙ c.if-is_skipped.true)
 
-pub returns-then-eq : goal.returns-then-eq
-returns-then-eq c =
+pub returns-then-eq-clause-line : goal.returns-then-eq-clause-line
+returns-then-eq-clause-line c =
     let said : is_skipped c.args.line.now ≡ false = sym c.is_skipped.ensures ∙ c.if-is_skipped.false in
     let name : c.in-Some.name.now ≡ name_in c.args.line.now = c.in-Some.ensures.name in
     let value : c.in-Some.value.now ≡ value_in c.args.line.now = c.in-Some.ensures.value in
@@ -22,8 +22,8 @@ returns-then-eq c =
     (rw value at c.add_code.ensures.code) (rw value at c.add_code.ensures.program) c.add_code.ensures.values
     (rw value at c.add_code.ensures.fault)
 
-pub returns-in-Some-named : goal.returns-in-Some-named
-returns-in-Some-named c =
+pub returns-in-Some-named-clause-line : goal.returns-in-Some-named-clause-line
+returns-in-Some-named-clause-line c =
     let said : is_skipped c.args.line.now ≡ false = sym c.is_skipped.ensures ∙ c.if-is_skipped.false in
     let name : c.in-Some.name.now ≡ name_in c.args.line.now = c.in-Some.ensures.name in
     let value : c.in-Some.value.now ≡ value_in c.args.line.now = c.in-Some.ensures.value in

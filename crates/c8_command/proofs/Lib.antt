@@ -1,0 +1,2 @@
+-- What a list of values has after one more.
+mod ListLemmas

@@ -1,0 +1,7 @@
+-- Inputs of two bytes and more have a bit for each key.
+use Rattle.std.proofs.Common.{arith}
+use Rattle.c8_files.proofs.KeyLemmas.{none_wide}
+use Rattle.c8_files.proofs.settings.is_wide.Goals as goal
+
+pub returns-in_default : goal.returns-in_default
+returns-in_default c = none_wide c.args.width c.args.keys (omega (arith, c.in_default)) (omega arith)

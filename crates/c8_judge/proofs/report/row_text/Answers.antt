@@ -1,9 +1,0 @@
--- One more mark is added.
-use Rattle.std.proofs.Common.{◌∙◌, ap}
-use Rattle.c8_screen.specs.Points.{points_of}
-use Rattle.c8_judge.proofs.ReportLemmas.{marks_more}
-use Rattle.c8_judge.proofs.report.row_text.Goals as goal
-
-pub loop-x-preserved : goal.loop-x-preserved
-loop-x-preserved c =
-    marks_more (points_of c.args.screen.now) c.args.y c.loop-x.x _ _ _ c.loop-x.invariant c.lit.ensures c.in_ok-add_mark.ensures

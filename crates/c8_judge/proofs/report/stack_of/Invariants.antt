@@ -1,7 +1,0 @@
--- The list has the return addresses before this one.
-use Rattle.c8_judge.specs.PrintedJson.{HasListed}
-use Rattle.c8_judge.specs.PrintedReport.{number_at}
-use Rattle.c8_judge.proofs.report.stack_of.Given as goal
-
-abbrev pub invariant-loop-place : goal.invariant-loop-place
-invariant-loop-place l = HasListed (number_at l.places) l.place l.list.items
