@@ -289,6 +289,8 @@ const textOf = id => (part(id).textContent ?? '').trim();
  */
 const unpacked = async text => {
   const packed = new Blob([Uint8Array.from(atob(text), it => it.charCodeAt(0))]);
+  // which older checkers of types do not know
+  const { DecompressionStream } = /** @type {any} */ (globalThis);
   return new Uint8Array(await new Response(packed.stream().pipeThrough(new DecompressionStream('gzip'))).arrayBuffer());
 };
 const show = new Show(await unpacked(textOf('module')), textOf('game'));

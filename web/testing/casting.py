@@ -201,7 +201,8 @@ WRITTEN = re.compile("\x1b\\[(\\d+);1H(?:\x1b\\[K)?([ \u2580\u2584\u2588]{64}|\\
 
 def pictures(shown):
     """The pictures that a watcher drew as it named a frame, by the number of the frame."""
-    lines, found = {}, {}
+    lines: dict[int, str] = {}
+    found: dict[int, str] = {}
     for row, text in WRITTEN.findall(shown.decode("utf-8", "replace")):
         if int(row) <= 16:
             lines[int(row)] = text
@@ -268,7 +269,7 @@ def comes(holds, seconds):
 
 def compare(page, watchers, frames):
     """Looks in the page at each frame whose picture a watcher drew."""
-    named = {}
+    named: dict[int, str] = {}
     for it in watchers:
         named |= pictures(it.shown)
     named.pop(0, None)
