@@ -284,6 +284,7 @@ class Show {
 
 /** @param {string} id */
 const textOf = id => (part(id).textContent ?? '').trim();
+
 /** The bytes of a text that tools/page packed.
  * @param {string} text
  */
@@ -293,6 +294,12 @@ const unpacked = async text => {
   const { DecompressionStream } = /** @type {any} */ (globalThis);
   return new Uint8Array(await new Response(packed.stream().pipeThrough(new DecompressionStream('gzip'))).arrayBuffer());
 };
-const show = new Show(await unpacked(textOf('module')), textOf('game'));
-show.begin();
-Object.assign(globalThis, { show });
+
+const module = await unpacked(textOf('module')).catch(() => null);
+if (module) {
+  const show = new Show(module, textOf('game'));
+  show.begin();
+  Object.assign(globalThis, { show });
+} else {
+  part('verdict').textContent = 'This page needs a newer browser: Chrome 89, Firefox 113, Safari 16.4, or one after them.';
+}

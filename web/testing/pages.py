@@ -11,7 +11,7 @@ import struct
 import subprocess
 import time
 
-from bench import FRAMES, HERE, PAGES, ROLLBACK, SECRET, SIZES, TOP, check, is_playing, says, spelt
+from bench import FRAMES, HERE, PAGES, ROLLBACK, SECRET, SIZES, TOP, check, is_playing, page_with, says, spelt
 from native import room_name, session_of
 
 # The first row of a paddle that stands in a column of the picture.
@@ -282,6 +282,10 @@ def here(bench):
     check("the end is gone", page.value("document.getElementById('end').hidden"))
 
 
+# the most bytes of the file of rollbacks, which is sent whole
+MOST_ROLLBACK = 220_000
+
+
 def rollback(bench):
     """The file of rollbacks: the network is as its sliders say; each player dies and comes back; and both reports are equal."""
     page = bench.browser.page(f"file://{ROLLBACK}", size=SIZES["laptop"])
@@ -320,7 +324,11 @@ def rollback(bench):
     page.value("document.getElementById('finish').click()")
     equal = page.until("document.getElementById('verdict').textContent.startsWith('Both reports are equal')", 20)
     check("the reports are equal", equal, page.text("verdict"))
-    print(f"  {page.text('verdict')} {os.path.getsize(ROLLBACK)} bytes")
+    older = page_with(bench, "delete globalThis.DecompressionStream", f"file://{ROLLBACK}")
+    says(older, "verdict", "This page needs a newer browser")
+    size = os.path.getsize(ROLLBACK)
+    check("the file is small", size < MOST_ROLLBACK, size)
+    print(f"  {page.text('verdict')} {size} bytes")
 
 
 def replay_page(bench):
