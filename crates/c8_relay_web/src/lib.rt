@@ -1,13 +1,11 @@
 //! A relay for browsers: packets in WebSocket messages beside those over UDP, and files over HTTP, on the TCP port of the
 //! UDP socket's number.
 //!
-//! A [`Hub`] is the ether of both. [`serve`] is the endless loop of the program `c8relay`, whose command line is [`RELAY`]
-//! and [`relay_given`]. A connection begins with the head of an HTTP request. `/relay` and `/relay/N` become WebSocket,
-//! where each binary message is a packet; other paths name files that [`Pages`] read at the start. Everything else is
-//! refused, and closed.
+//! A [`Hub`] is the ether of both. [`serve`] is the endless loop of a relay. A connection begins with the head of an HTTP
+//! request. `/relay` and `/relay/N` become WebSocket, where each binary message is a packet; other paths name files that
+//! [`pages_in`] read at the start. Everything else is refused, and closed.
 #![tactic(auto)]
 
-mod command;
 mod connection;
 mod crowd;
 mod folder;
@@ -26,8 +24,7 @@ mod site;
 mod turns;
 mod web;
 
-pub use command::{RELAY, RELAY_COMMAND, relay_given};
-pub use folder::MOST_BYTES;
+pub use folder::{MOST_BYTES, pages_in};
 pub use hub::Hub;
 pub use page::{Page, Pages};
 pub use progress::Progress;

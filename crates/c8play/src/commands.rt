@@ -7,7 +7,7 @@ use c8_command::{
 };
 use c8_host::{match_commands, match_given};
 use c8_judge::{AUDIT, JOURNAL, audit_given, journal_given};
-use c8_relay_web::{RELAY_COMMAND, relay_given};
+use c8_relay_command::{RELAY_COMMAND, relay_given};
 use c8_replay::{REPLAY, replay_given};
 use c8_script::{RIG, SIM, rig_given, sim_given};
 use c8_texts::{run_files, show};

@@ -2,7 +2,7 @@
 #![tactic(auto)]
 
 use c8_command::{Status, command_of, status_at, tell, words_in};
-use c8_relay_web::{RELAY, relay_given};
+use c8_relay_command::{RELAY, relay_given};
 use std::env::Args;
 use std::fs::File;
 use std::io::Write;

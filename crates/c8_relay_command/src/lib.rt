@@ -1,14 +1,13 @@
-//! The command line of the program `c8relay`.
+//! The command line of a relay: the arguments of `c8relay` and of `c8play relay`, and a relay that is started as they say.
+//!
+//! [`RELAY`] is the form of the program's, [`RELAY_COMMAND`] that of the command's, and [`relay_given`] does what they ask for.
+#![tactic(auto)]
+
 ghost use Rattle.std.specs.Prelude.{◌≡◌, ◌<◌, ◌^◌, []};
 
-use crate::folder::pages_in;
-use crate::hub::Hub;
-use crate::page::Pages;
-use crate::progress::Progress;
-use crate::serving::serve;
-use crate::site::Site;
 use c8_command::{Argument, Form, Outline, Part, Refusal, Status, word_of};
 use c8_relay::{KEY_LENGTH, Limits, Relay, honest_at_first};
+use c8_relay_web::{Hub, Pages, Progress, Site, pages_in, serve};
 use c8_udp::{SocketError, SocketFault};
 use clap::ArgMatches;
 use clap::builder::ValueParser;
